@@ -22,6 +22,10 @@ pub enum ReadFault {
 }
 
 impl From<NoMemory> for ReadFault {
+    ghost use Rattle.pool_base.specs.declared.read.ReadFault.TheVariants as fault;
+
+    ghost from_gives = { λ _ r. r ≡ fault.NoMemory };
+
     fn from(_: NoMemory) -> ReadFault {
         ReadFault::NoMemory
     }
