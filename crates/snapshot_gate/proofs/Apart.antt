@@ -1,5 +1,5 @@
 -- Snapshots and commits stay apart at every call.
-use Rattle.std.proofs.Common.{◌≡◌, ◌+◌, ◌-◌, ◌≤◌, ◌<◌, ◌||◌, ◌==◌, ◌^◌, ℕ, List, [], ◌∷◌, ◌⊎◌, inl, inr, refl, sym, arith, Bool, true, false, nat_lt, nat_le, if◌then◌else◌}
+use Rattle.std.proofs.Common.{◌≡◌, ◌+◌, ◌-◌, ◌<◌, ◌||◌, ◌==◌, ◌^◌, ℕ, List, [], ◌∷◌, ◌⊎◌, inl, inr, refl, arith, Bool, true, false, nat_lt, nat_le, if◌then◌else◌}
 use Rattle.std.proofs.lemmas.Bool.Decides.{nat_tests}
 use Rattle.pool_base.specs.Sets.{has}
 use Rattle.pool_base.specs.declared.backend_set.BackendSet.{BackendSet}

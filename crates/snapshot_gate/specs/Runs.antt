@@ -1,5 +1,5 @@
 -- Runs of the gate: lists of calls, each of which meets its condition where it stands.
-use Rattle.std.specs.Prelude.{◌≡◌, ℕ, List, [], ◌∷◌, ◌⊎◌}
+use Rattle.std.specs.Prelude.{◌≡◌, List, [], ◌∷◌, ◌⊎◌}
 use Rattle.pool_base.specs.declared.gate_call.GateCall.{GateCall}
 use Rattle.snapshot_gate.specs.declared.state.GateState.{GateState}
 use Rattle.snapshot_gate.specs.Function.{step, MayCall}
