@@ -1,5 +1,5 @@
 -- Which backend answers a read: weights count for the attached backends alone.
-use Rattle.std.specs.Prelude.{◌≡◌, ◌<◌, ◌≤◌, ◌+◌, ℕ, zero, suc, List, true, false, get_or, if◌then◌else◌}
+use Rattle.std.specs.Prelude.{◌≡◌, ◌<◌, ◌≤◌, ◌+◌, ℕ, zero, suc, List, true, get_or, if◌then◌else◌}
 use Rattle.pool_base.specs.Sets.{has}
 
 -- what a backend counts: its weight, where it is attached
@@ -14,11 +14,6 @@ weight_below weights attached (suc b) = weight_below weights attached b + weight
 -- what all backends count together
 abbrev pub weight_of_all : List ℕ → ℕ → ℕ
 weight_of_all weights attached = weight_below weights attached 8
-
--- no attached backend has a lower number
-pub record IsLowest (attached b : ℕ) : Type 0 where
-  pub attached_is : has attached b ≡ true
-  pub lowest : (c : ℕ) → c < b → has attached c ≡ false
 
 -- the first attached backend at which the weights up to and with it are greater than a number
 pub record IsFirstOver (weights : List ℕ) (attached rest b : ℕ) : Type 0 where

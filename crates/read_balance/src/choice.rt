@@ -1,7 +1,7 @@
 //! The choice by weights and a ticket.
 ghost use Rattle.std.specs.Prelude.{◌≡◌, ◌<◌, ◌≤◌, ◌%◌, ℕ, true, length, get_or};
-ghost use Rattle.pool_base.specs.Sets.{has};
-ghost use Rattle.read_balance.specs.Picking.{IsFirstOver, IsLowest, weight_at, weight_below, weight_of_all};
+ghost use Rattle.pool_base.specs.Sets.{has, IsEmptySet, IsLowest};
+ghost use Rattle.read_balance.specs.Picking.{IsFirstOver, weight_at, weight_below, weight_of_all};
 
 use pool_base::{BackendId, BackendSet};
 
@@ -10,17 +10,20 @@ use pool_base::{BackendId, BackendSet};
 ///
 /// Units: `weights` has a weight for each backend by its number.
 pub fn pick(weights: &[u32], attached: BackendSet, ticket: u64) -> BackendId
-    requires some { 0 < attached.bits }
+    requires some { ¬ (IsEmptySet attached.bits) }
     requires weighed { (b : ℕ) → b < 8 → has attached.bits b ≡ true → b < length weights.now }
     ensures idle { weight_of_all weights.now attached.bits ≡ 0 → IsLowest attached.bits result.number }
     ensures turn { 0 < weight_of_all weights.now attached.bits
         → IsFirstOver weights.now attached.bits (ticket % weight_of_all weights.now attached.bits) result.number }
 {
     let total = weight_of_all(weights, attached);
-    if total == 0 {
-        return lowest(attached);
+    if total > 0 {
+        return first_over(weights, attached, ticket % total);
     }
-    first_over(weights, attached, ticket % total)
+    match attached.lowest() {
+        Some(b) => b,
+        None => unreachable!(),
+    }
 }
 
 /// What a backend counts.
@@ -46,20 +49,6 @@ fn weight_of_all(weights: &[u32], attached: BackendSet) -> u64
         total += weight_at(weights, attached, BackendId { number });
     }
     total
-}
-
-/// The lowest attached backend.
-fn lowest(attached: BackendSet) -> BackendId
-    requires { 0 < attached.bits }
-    ensures { IsLowest attached.bits result.number }
-{
-    for number in 0..8 {
-        let b = BackendId { number };
-        if attached.has(b) {
-            return b;
-        }
-    }
-    unreachable!()
 }
 
 /// The first attached backend at which the weights up to and with it are greater than `rest`.

@@ -12,4 +12,4 @@ leaves e s t b n hs hb there is h = subst (λ (k : ℕ). e + 1 + size k ≤ n) (
 pub invariant_of-self-clause-versions : goal.invariant_of-self-clause-versions
 invariant_of-self-clause-versions c =
     let g = c.args.self.now in
-    leaves g.state.epoch g.state.attached.bits c.without.result.bits c.args.b.number 4294967288 g.wide.0 c.args.b.below_8 (sym c.has.ensures ∙ c.if-not-has.false) c.without.ensures g.versions
+    leaves g.state.epoch g.state.attached.bits c.without.result.bits c.args.b.number 4294967288 g.wide.0 c.args.b.below_8 (sym c.has.ensures ∙ c.if-not-has.false) c.without.ensures.bits g.versions
