@@ -1,0 +1,4 @@
+pub mod Loops
+pub mod Keeping
+pub mod Lengths
+pub mod FieldLemmas
