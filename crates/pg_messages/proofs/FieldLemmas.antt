@@ -58,7 +58,7 @@ positive : (n : ℕ) → (n ≡ 0 → ⊥) → 0 < n
 positive zero h = absurd (h refl)
 positive (suc n) h = omega arith
 
-not_equal : (m n : ℕ) → (m ≡ n → ⊥) → eqb m n ≡ false
+pub not_equal : (m n : ℕ) → (m ≡ n → ⊥) → eqb m n ≡ false
 not_equal m n h = elim (eqb m n) as (λ b. eqb m n ≡ b → b ≡ false) [ true ↦ λ e. absurd (h (eqb-true m n e)) | false ↦ λ e. refl ] refl
 
 not_zero : (n : ℕ) → 0 < n → eqb n 0 ≡ false
@@ -98,7 +98,7 @@ number_takes w limit wide bytes x fits e =
     let front : to_be_bytes w (from_be_bytes w (take (byte_len w) bytes)) ≡ take (byte_len w) bytes = wide.back (take (byte_len w) bytes) (omega (arith, length-take (byte_len w) bytes)) (All-take is_byte (byte_len w) bytes fits) in
     let parts : bytes ≡ to_be_bytes w (from_be_bytes w (take (byte_len w) bytes)) ++ drop (byte_len w) bytes = rw front (sym (take-append-drop (byte_len w) bytes)) in
     subst (λ (y : ℕ × List ℕ). Taken bytes (to_be_bytes w y.0) y.1 × (y.0 < limit)) g.1
-      (record { parts = parts; rest_fits = All-drop is_byte (byte_len w) bytes fits }, wide.below (take (byte_len w) bytes) (All-take is_byte (byte_len w) bytes fits))
+    (record { parts = parts; rest_fits = All-drop is_byte (byte_len w) bytes fits }, wide.below (take (byte_len w) bytes) (All-take is_byte (byte_len w) bytes fits))
 
 number_again : (w : Width) (limit : ℕ) (wide : IsWide w limit) (n : ℕ) (rest : List ℕ) → n < limit → number_at w (to_be_bytes w n ++ rest) ≡ Some (n, rest)
 number_again w limit wide n rest lt =
@@ -152,11 +152,11 @@ string_takes bytes x fits e =
     let split : bytes ≡ take end bytes ++ (0 ∷ drop (end + 1) bytes) = sym (take-append-drop end bytes) ∙ ap (λ (t : List ℕ). take end bytes ++ t) (drop_more bytes end 0 p.0 ∙ ap (λ (b : ℕ). b ∷ drop (end + 1) bytes) zero_there) in
     let parts : bytes ≡ string (take end bytes) ++ drop (end + 1) bytes = split ∙ sym (append_assoc (take end bytes) (0 ∷ []) (drop (end + 1) bytes)) in
     let no_zero : IsString (take end bytes) = All-from_get_or (λ b. 0 < b) (take end bytes) 0 (λ i lt.
-        let below : i < end = omega (arith, length-take end bytes) in
-        let other = eqb-false (get_or bytes i 0) 0 (p.2 i below) in
-        rw (get_or-take end bytes i 0 below) (positive (get_or bytes i 0) other)) in
+    let below : i < end = omega (arith, length-take end bytes) in
+    let other = eqb-false (get_or bytes i 0) 0 (p.2 i below) in
+    rw (get_or-take end bytes i 0 below) (positive (get_or bytes i 0) other)) in
     subst (λ (y : List ℕ × List ℕ). Taken bytes (string y.0) y.1 × IsText y.0) (some_is (take end bytes, drop (end + 1) bytes) x b.2)
-      (record { parts = parts; rest_fits = All-drop is_byte (end + 1) bytes fits }, (no_zero, All-take is_byte end bytes fits))
+    (record { parts = parts; rest_fits = All-drop is_byte (end + 1) bytes fits }, (no_zero, All-take is_byte end bytes fits))
 
 string_again : (text rest : List ℕ) → IsText text → string_at (string text ++ rest) ≡ Some (text, rest)
 unfolding string_at
@@ -164,9 +164,9 @@ string_again text rest is =
     let long : length text < length (string text ++ rest) = omega (arith, length-append (string text) rest, length-append text (0 ∷ [])) in
     let regrouped : string text ++ rest ≡ text ++ (0 ∷ rest) = append_assoc text (0 ∷ []) rest in
     let before : (k : ℕ) → k < length text → is_zero (get_or (string text ++ rest) k 0) ≡ false = λ k lt.
-        rw (regrouped, get_or_append_left text (0 ∷ rest) 0 k lt) (not_zero (get_or text k 0) (is.0 k 0 lt)) in
+    rw (regrouped, get_or_append_left text (0 ∷ rest) 0 k lt) (not_zero (get_or text k 0) (is.0 k 0 lt)) in
     let here : length text < length (string text ++ rest) → is_zero (get_or (string text ++ rest) (length text) 0) ≡ true = λ lt.
-        rw (regrouped, get_or_at text 0 rest 0 (length text) refl) refl in
+    rw (regrouped, get_or_at text 0 rest 0 (length text) refl) refl in
     let place : position_or_len is_zero (string text ++ rest) ≡ length text = position_or_len_is is_zero (string text ++ rest) (length text) 0 (omega arith) before here in
     let found : position is_zero (string text ++ rest) ≡ Some (length text) = rw (place, lt-ltb _ _ long) refl in
     let front : take (length text) (string text ++ rest) ≡ text = ap (take (length text)) regrouped ∙ take_at text (0 ∷ rest) (length text) refl in
@@ -196,7 +196,7 @@ value_takes bytes x fits e =
           let len : length (take n.0 n.1) ≡ n.0 = omega (arith, length-take n.0 n.1) in
           let other = eqb-false n.0 4294967295 some.0 in
           let parts : bytes ≡ value (Some (take n.0 n.1)) ++ drop n.0 n.1 =
-              t.0.parts ∙ ap (λ (r : List ℕ). int32 n.0 ++ r) (sym (take-append-drop n.0 n.1)) ∙ sym (append_assoc (int32 n.0) (take n.0 n.1) (drop n.0 n.1)) ∙ ap (λ (k : ℕ). (int32 k ++ take n.0 n.1) ++ drop n.0 n.1) (sym len) in
+          t.0.parts ∙ ap (λ (r : List ℕ). int32 n.0 ++ r) (sym (take-append-drop n.0 n.1)) ∙ sym (append_assoc (int32 n.0) (take n.0 n.1) (drop n.0 n.1)) ∙ ap (λ (k : ℕ). (int32 k ++ take n.0 n.1) ++ drop n.0 n.1) (sym len) in
           subst Goal g.1 (record { parts = parts; rest_fits = All-drop is_byte n.0 n.1 t.0.rest_fits }, (All-take is_byte n.0 n.1 t.0.rest_fits, below_null n.0 (length (take n.0 n.1)) len t.1 other))
     ]
 
