@@ -12,16 +12,10 @@ use crate::client::ClientMessage;
 use crate::entries::counted_of;
 use crate::field_fault::FieldFault;
 use crate::fields::{i32_of, string_of, target_of, whole_of};
-use crate::frame::{Layout, MESSAGE_LIMIT, frame_of, judged};
+use crate::frame::{MESSAGE, frame_of, judged};
 use crate::read::Read;
 use pool_base::NoMemory;
 use std::alloc::Global;
-
-const MESSAGE: Layout = Layout {
-    place: 1,
-    least: 4,
-    most: MESSAGE_LIMIT,
-};
 
 #[tactic(auto, unfolding(crate::specs::Bodies::query_in))]
 fn query_of(alloc: Global, body: &[u8]) -> Result<ClientMessage, FieldFault>

@@ -21,6 +21,20 @@ pub struct Layout {
     pub most: u32,
 }
 
+/// A message behind the first one: the length stands behind a type, and counts itself and the body.
+pub const MESSAGE: Layout = Layout {
+    place: 1,
+    least: 4,
+    most: MESSAGE_LIMIT,
+};
+
+/// The first message of a connection: the length stands at the front, and a code or version follows.
+pub const START: Layout = Layout {
+    place: 0,
+    least: 8,
+    most: START_LIMIT,
+};
+
 /// The body that the length in front of it tells, and the bytes that the message takes with its type.
 #[tactic(auto, unfolding(crate::specs::Fronts::frame_at))]
 pub fn frame_of(layout: Layout, bytes: &[u8]) -> Read<&[u8]>

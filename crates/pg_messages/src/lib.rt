@@ -23,7 +23,10 @@ pub use client::ClientMessage;
 pub use client_reading::read_client;
 pub use client_writing::{fits, write_client};
 pub use frame::{MESSAGE_LIMIT, START_LIMIT};
-pub use laws::{again, beginnings_need_more, found, fronts_stay, one_message, spelled};
+pub use laws::{
+    beginnings_need_more, fronts_stay, no_form_begins_another, read_is_spelled, spelled_is_read,
+    written_is_a_form,
+};
 pub use read::Read;
 pub use server::{Field, Part, ServerMessage};
 pub use server_reading::read_server;

@@ -11,17 +11,11 @@ ghost use Rattle.pg_messages.specs.Fronts.{server_front};
 use crate::entries::{counted_of, zero_ended_of};
 use crate::field_fault::FieldFault;
 use crate::fields::{i32_of, string_of, u32_of, whole_of};
-use crate::frame::{Layout, MESSAGE_LIMIT, frame_of, judged};
+use crate::frame::{MESSAGE, frame_of, judged};
 use crate::read::Read;
 use crate::server::ServerMessage;
 use pool_base::NoMemory;
 use std::alloc::Global;
-
-const MESSAGE: Layout = Layout {
-    place: 1,
-    least: 4,
-    most: MESSAGE_LIMIT,
-};
 
 #[tactic(auto, unfolding(crate::specs::Bodies::auth_in))]
 fn auth_of(body: &[u8]) -> Result<ServerMessage, FieldFault>

@@ -11,17 +11,11 @@ ghost use Rattle.pg_messages.specs.Fronts.{start_front};
 use crate::entries::zero_ended_of;
 use crate::field_fault::FieldFault;
 use crate::fields::{i32_of, u16_of, u32_of, whole_of};
-use crate::frame::{Layout, START_LIMIT, frame_of, judged};
+use crate::frame::{START, frame_of, judged};
 use crate::read::Read;
 use crate::start::StartMessage;
 use pool_base::NoMemory;
 use std::alloc::Global;
-
-const START: Layout = Layout {
-    place: 0,
-    least: 8,
-    most: START_LIMIT,
-};
 
 const CANCEL_REQUEST: u32 = 80_877_102;
 

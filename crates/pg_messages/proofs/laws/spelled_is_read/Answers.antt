@@ -1,5 +1,5 @@
 use Rattle.pg_messages.proofs.CallLemmas.{client_again, server_again, start_again}
-use Rattle.pg_messages.proofs.laws.again.Goals as goal
+use Rattle.pg_messages.proofs.laws.spelled_is_read.Goals as goal
 
 pub returns-clause-client : goal.returns-clause-client
 returns-clause-client c = client_again

@@ -1,5 +1,5 @@
 use Rattle.pg_messages.proofs.CallLemmas.{client_found, server_found, start_found}
-use Rattle.pg_messages.proofs.laws.found.Goals as goal
+use Rattle.pg_messages.proofs.laws.read_is_spelled.Goals as goal
 
 pub returns-clause-client : goal.returns-clause-client
 returns-clause-client c = client_found

@@ -1,5 +1,5 @@
 use Rattle.pg_messages.proofs.CallLemmas.{client_one, server_one, start_one}
-use Rattle.pg_messages.proofs.laws.one_message.Goals as goal
+use Rattle.pg_messages.proofs.laws.no_form_begins_another.Goals as goal
 
 pub returns-clause-client : goal.returns-clause-client
 returns-clause-client c = client_one
