@@ -1,4 +1,7 @@
 //! Why a text is no configuration.
+ghost use Rattle.std.specs.Prelude.{◌≡◌, Some};
+ghost use Rattle.pool_config.specs.Printed.{shown};
+
 use pool_base::{NoMemory, Text};
 use std::fmt;
 
@@ -18,6 +21,8 @@ pub enum ConfigFault {
 }
 
 impl From<NoMemory> for ConfigFault {
+    ghost use Rattle.pool_config.specs.declared.fault.ConfigFault.{ConfigFault};
+
     ghost from_gives = { λ _ fault. fault ≡ ConfigFault.NoMemory };
 
     fn from(_: NoMemory) -> ConfigFault {
@@ -26,6 +31,8 @@ impl From<NoMemory> for ConfigFault {
 }
 
 impl fmt::Display for ConfigFault {
+    ghost output = { λ fault. Some (shown fault) };
+
     fn fmt<W: fmt::Write>(&self, f: &mut fmt::Formatter<W>) -> fmt::Result {
         match self {
             ConfigFault::BadLine(line) => write!(f, "configuration line {line}: bad line"),

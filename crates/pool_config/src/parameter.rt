@@ -1,6 +1,11 @@
 //! The parameters, and what each takes.
+ghost use Rattle.std.specs.Prelude.{◌≡◌, ◌≤◌, IfOk};
+ghost use Rattle.pool_config.specs.Table.{all_backends, name_of, with_number, place_of, backends_of, kind_of, takes, takes_text, takes_number, takes_truth};
+ghost use Rattle.pool_config.specs.Reader.{parameter_named, single_named, numbered_named, of_stem};
+
 use crate::value::Value;
-use pool_base::{BackendId, Text};
+use pool_base::{BackendId, NoMemory, Text};
+use std::alloc::Global;
 
 /// A parameter of the configuration.
 #[derive(Clone, Copy, Debug, PartialEq, Eq)]
@@ -36,18 +41,60 @@ pub enum Kind {
     OnlyOn,
 }
 
-/// The only clustering mode.
-pub(crate) const MODE: &str = "snapshot_isolation";
-
-const HOSTNAME: &[u8] = b"backend_hostname";
-
-const BACKEND_PORT: &[u8] = b"backend_port";
-
-const WEIGHT: &[u8] = b"backend_weight";
+#[tactic(auto, using(crate::proofs::Backends::backends_are))]
+/// The backends, by number.
+pub(crate) fn all_backends() -> [BackendId; 8]
+    ensures { result ≡ all_backends }
+{
+    [
+        BackendId { number: 0 },
+        BackendId { number: 1 },
+        BackendId { number: 2 },
+        BackendId { number: 3 },
+        BackendId { number: 4 },
+        BackendId { number: 5 },
+        BackendId { number: 6 },
+        BackendId { number: 7 },
+    ]
+}
 
 impl Parameter {
+    /// What a line and a fault call it.
+    pub(crate) fn name(self, alloc: Global) -> Result<Text, NoMemory>
+        ensures { IfOk result (λ name. name ≡ name_of self) }
+    {
+        let (stem, digit) = self.stem();
+        let mut name = String::from_str(alloc, stem)?;
+        if let Some(backend) = digit {
+            name.push((b'0' + backend.number) as char)?;
+        }
+        Ok(Text::from_string(name))
+    }
+
+    /// Its name without the number, and the backend with the number.
+    fn stem(self) -> (&'static str, Option<BackendId>)
+        ensures { with_number result.0.now result.1 ≡ name_of self }
+    {
+        match self {
+            Parameter::ClusteringMode => ("backend_clustering_mode", None),
+            Parameter::Hostname(b) => ("backend_hostname", Some(b)),
+            Parameter::BackendPort(b) => ("backend_port", Some(b)),
+            Parameter::Weight(b) => ("backend_weight", Some(b)),
+            Parameter::ListenAddresses => ("listen_addresses", None),
+            Parameter::Port => ("port", None),
+            Parameter::Children => ("num_init_children", None),
+            Parameter::LoadBalance => ("load_balance_mode", None),
+            Parameter::StatementBalance => ("statement_level_load_balance", None),
+            Parameter::InsertLock => ("insert_lock", None),
+            Parameter::StopOnMismatch => ("replication_stop_on_mismatch", None),
+            Parameter::FailoverOnMismatch => ("failover_if_affected_tuples_mismatch", None),
+        }
+    }
+
     /// Its place in the table of parameters, which no other has.
-    pub(crate) fn place(self) -> u8 {
+    pub(crate) fn place(self) -> u8
+        ensures { result ≡ place_of self }
+    {
         match self {
             Parameter::ClusteringMode => 0,
             Parameter::Hostname(b) => 8 + b.number,
@@ -65,7 +112,10 @@ impl Parameter {
     }
 
     /// How many backends there are at least where it is set.
-    pub(crate) fn backends(self) -> u8 {
+    pub(crate) fn backends(self) -> u8
+        ensures count { result ≡ backends_of self }
+        ensures few { result ≤ 8 }
+    {
         match self {
             Parameter::Hostname(b) | Parameter::BackendPort(b) | Parameter::Weight(b) => b.number
                 + 1,
@@ -82,7 +132,9 @@ impl Parameter {
     }
 
     /// What values it takes.
-    pub(crate) fn kind(self) -> Kind {
+    pub(crate) fn kind(self) -> Kind
+        ensures { result ≡ kind_of self }
+    {
         match self {
             Parameter::ClusteringMode => Kind::Mode,
             Parameter::Hostname(_) => Kind::HostName,
@@ -102,7 +154,10 @@ impl Parameter {
 }
 
 /// The parameter of that name, if there is one.
-pub(crate) fn parameter_named(name: &[u8]) -> Option<Parameter> {
+#[tactic(auto, unfolding(crate::specs::Reader::parameter_named))]
+pub(crate) fn parameter_named(name: &[u8]) -> Option<Parameter>
+    ensures { result ≡ parameter_named name.now }
+{
     match single_named(name) {
         Some(parameter) => Some(parameter),
         None => numbered_named(name),
@@ -110,7 +165,9 @@ pub(crate) fn parameter_named(name: &[u8]) -> Option<Parameter> {
 }
 
 /// The parameter of that name among those without a number.
-fn single_named(name: &[u8]) -> Option<Parameter> {
+fn single_named(name: &[u8]) -> Option<Parameter>
+    ensures { result ≡ single_named name.now }
+{
     if name == b"backend_clustering_mode".as_slice() {
         Some(Parameter::ClusteringMode)
     } else if name == b"listen_addresses".as_slice() {
@@ -134,22 +191,34 @@ fn single_named(name: &[u8]) -> Option<Parameter> {
     }
 }
 
+#[tactic(auto, using(crate::proofs::Backends::backend_at))]
 /// The parameter of that name among those of one backend.
-fn numbered_named(name: &[u8]) -> Option<Parameter> {
-    let [front @ .., digit] = name else {
-        return None;
-    };
-    if *digit < b'0' {
+fn numbered_named(name: &[u8]) -> Option<Parameter>
+    ensures { result ≡ numbered_named name.now }
+{
+    if name.is_empty() {
         return None;
     }
-    let Some(backend) = BackendId::from_number(*digit - b'0') else {
+    let (stem, digits) = name.split_at(name.len() - 1);
+    let digit = digits[0];
+    if digit < b'0' {
         return None;
-    };
-    if front == HOSTNAME {
+    }
+    match BackendId::from_number(digit - b'0') {
+        Some(backend) => of_stem(stem, backend),
+        None => None,
+    }
+}
+
+/// The parameter of that backend whose name begins so.
+fn of_stem(stem: &[u8], backend: BackendId) -> Option<Parameter>
+    ensures { result ≡ of_stem stem.now backend }
+{
+    if stem == b"backend_hostname".as_slice() {
         Some(Parameter::Hostname(backend))
-    } else if front == BACKEND_PORT {
+    } else if stem == b"backend_port".as_slice() {
         Some(Parameter::BackendPort(backend))
-    } else if front == WEIGHT {
+    } else if stem == b"backend_weight".as_slice() {
         Some(Parameter::Weight(backend))
     } else {
         None
@@ -157,7 +226,9 @@ fn numbered_named(name: &[u8]) -> Option<Parameter> {
 }
 
 /// Whether a parameter of that kind takes the value.
-pub(crate) fn takes(kind: Kind, value: &Value) -> bool {
+pub(crate) fn takes(kind: Kind, value: &Value) -> bool
+    ensures { result ≡ takes kind value.now }
+{
     match value {
         Value::Text(text) => takes_text(kind, text),
         Value::Number(number) => takes_number(kind, *number),
@@ -165,23 +236,29 @@ pub(crate) fn takes(kind: Kind, value: &Value) -> bool {
     }
 }
 
-fn takes_text(kind: Kind, text: &Text) -> bool {
+fn takes_text(kind: Kind, text: &Text) -> bool
+    ensures { result ≡ takes_text kind text.now }
+{
     match kind {
-        Kind::Mode => text.as_str() == MODE,
+        Kind::Mode => text.as_str() == "snapshot_isolation",
         Kind::HostName => !text.is_empty(),
         Kind::Words => true,
         Kind::Number { .. } | Kind::Truth | Kind::OnlyOn => false,
     }
 }
 
-fn takes_number(kind: Kind, number: u64) -> bool {
+fn takes_number(kind: Kind, number: u64) -> bool
+    ensures { result ≡ takes_number kind number }
+{
     match kind {
         Kind::Number { low, high } => low <= number && number <= high,
         Kind::Mode | Kind::HostName | Kind::Words | Kind::Truth | Kind::OnlyOn => false,
     }
 }
 
-fn takes_truth(kind: Kind, on: bool) -> bool {
+fn takes_truth(kind: Kind, on: bool) -> bool
+    ensures { result ≡ takes_truth kind on }
+{
     match kind {
         Kind::Truth => true,
         Kind::OnlyOn => on,

@@ -1,8 +1,14 @@
 //! The reader: a text to its configuration, or to its first fault.
+ghost use Rattle.std.specs.Prelude.{◌≡◌, ◌<◌, ◌+◌, ℕ, length, IfOk, IfErr, Ok, Err, option_map};
+ghost use Rattle.pool_config.specs.Bytes.{lines};
+ghost use Rattle.pool_config.specs.Form.{spelling_of};
+ghost use Rattle.pool_config.specs.Value.{value_of};
+ghost use Rattle.pool_config.specs.Reader.{Gives, read_lines, setting_at, set_by, refused, answer_of, parameter_named};
+
 use crate::assemble::{Setting, configuration};
 use crate::config::Config;
 use crate::fault::ConfigFault;
-use crate::line::{Line, Written, read_line};
+use crate::line::{Line, Written, cut_line, read_line};
 use crate::parameter::{Parameter, parameter_named, takes};
 use crate::value::{Value, read_value};
 use pool_base::List;
@@ -13,41 +19,39 @@ use std::alloc::Global;
 /// Shape: docs/CONFIGURATION.md, "Grammar".
 /// Errors: the first faulty line decides; what is missing is looked for after all lines.
 /// Source: Pgpool-II, "Server Configuration", of which this is a part.
-pub fn parse_config(alloc: Global, text: &[u8]) -> Result<Config, ConfigFault> {
+pub fn parse_config(alloc: Global, text: &[u8]) -> Result<Config, ConfigFault>
+    requires { length text.now < 4294967295 }
+    ensures { Gives result (answer_of text.now) }
+{
     let settings = read_settings(alloc, text)?;
     configuration(alloc, settings.as_slice())
 }
 
 /// What the lines of the text set, in their order.
-fn read_settings(alloc: Global, text: &[u8]) -> Result<List<Setting>, ConfigFault> {
+fn read_settings(alloc: Global, text: &[u8]) -> Result<List<Setting>, ConfigFault>
+    requires { length text.now < 4294967295 }
+    ensures { Gives result (read_lines 1 (lines text.now)) }
+{
     let mut settings = List::new(alloc);
-    let mut left = Some(text);
+    let mut left = text;
     let mut number: u32 = 1;
-    while let Some(bytes) = left {
-        let (line, rest) = cut_line(bytes);
+    loop {
+        let (line, rest) = cut_line(left);
         if let Some(setting) = read_setting(alloc, line, number)? {
             settings.push(setting)?;
         }
-        left = rest;
+        let Some(next) = rest else {
+            return Ok(settings);
+        };
+        left = next;
         number += 1;
     }
-    Ok(settings)
-}
-
-/// The first line, and what stands behind its line feed.
-fn cut_line(bytes: &[u8]) -> (&[u8], Option<&[u8]>) {
-    let mut at = 0;
-    while at < bytes.len() {
-        if bytes[at] == b'\n' {
-            return (&bytes[..at], Some(&bytes[at + 1..]));
-        }
-        at += 1;
-    }
-    (bytes, None)
 }
 
 /// What a line sets, if it is not empty.
-fn read_setting(alloc: Global, line: &[u8], number: u32) -> Result<Option<Setting>, ConfigFault> {
+fn read_setting(alloc: Global, line: &[u8], number: u32) -> Result<Option<Setting>, ConfigFault>
+    ensures { Gives result (setting_at number line.now) }
+{
     match read_line(line) {
         Line::Empty => Ok(None),
         Line::Other => Err(ConfigFault::BadLine(number)),
@@ -64,15 +68,24 @@ fn read_value_of(
     parameter: Parameter,
     written: Written,
     number: u32,
-) -> Result<Setting, ConfigFault> {
+) -> Result<Setting, ConfigFault>
+    ensures { Gives result (set_by number parameter (value_of (spelling_of written.entry))) }
+{
     let Some(value) = read_value(alloc, written)? else {
         return Err(ConfigFault::BadLine(number));
     };
     if takes(parameter.kind(), &value) {
         return Ok(Setting { parameter, value });
     }
-    match (parameter, &value) {
-        (Parameter::ClusteringMode, Value::Text(_)) => Err(ConfigFault::WrongMode(number)),
-        _ => Err(ConfigFault::BadLine(number)),
+    Err(refused(number, parameter, &value))
+}
+
+/// The fault of a value that the parameter does not take.
+fn refused(number: u32, parameter: Parameter, value: &Value) -> ConfigFault
+    ensures { result ≡ refused number parameter value.now }
+{
+    match (parameter, value) {
+        (Parameter::ClusteringMode, Value::Text(_)) => ConfigFault::WrongMode(number),
+        _ => ConfigFault::BadLine(number),
     }
 }

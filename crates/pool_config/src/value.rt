@@ -1,4 +1,8 @@
 //! How a value is written, and what it is.
+ghost use Rattle.std.specs.Prelude.{◌≡◌, IfOk};
+ghost use Rattle.pool_config.specs.Form.{spelling_of};
+ghost use Rattle.pool_config.specs.Value.{value_of, word_value, number_of};
+
 use crate::line::Written;
 use pool_base::{NoMemory, Text};
 use std::alloc::Global;
@@ -15,8 +19,11 @@ pub enum Value {
 /// A number has at most so many digits.
 const MOST_DIGITS: usize = 10;
 
+#[tactic(auto, using(crate::proofs::Texts::string_good, crate::proofs::Texts::string_bad))]
 /// The value that is written so, if there is one.
-pub(crate) fn read_value(alloc: Global, written: Written) -> Result<Option<Value>, NoMemory> {
+pub(crate) fn read_value(alloc: Global, written: Written) -> Result<Option<Value>, NoMemory>
+    ensures { IfOk result (λ value. value ≡ value_of (spelling_of written.entry)) }
+{
     match written {
         Written::Quoted(inner) => match str::from_utf8(inner) {
             Ok(text) => Ok(Some(Value::Text(Text::from_str(alloc, text)?))),
@@ -27,7 +34,9 @@ pub(crate) fn read_value(alloc: Global, written: Written) -> Result<Option<Value
 }
 
 /// The truth value or number that a word is.
-fn read_word(word: &[u8]) -> Option<Value> {
+fn read_word(word: &[u8]) -> Option<Value>
+    ensures { result ≡ word_value word.now }
+{
     if word == b"on".as_slice() || word == b"true".as_slice() {
         return Some(Value::Truth(true));
     }
@@ -40,17 +49,22 @@ fn read_word(word: &[u8]) -> Option<Value> {
     }
 }
 
+#[tactic(auto, using(crate::proofs::Numbers::one_more))]
 /// The number of one to ten decimal digits.
-fn read_number(word: &[u8]) -> Option<u64> {
+fn read_number(word: &[u8]) -> Option<u64>
+    ensures { result ≡ number_of word.now }
+{
     if word.is_empty() || word.len() > MOST_DIGITS {
         return None;
     }
-    let mut number = 0;
-    for digit in word {
-        if !matches!(*digit, b'0'..=b'9') {
+    let mut number: u64 = 0;
+    let mut left = word;
+    while let [digit, rest @ ..] = left {
+        if !digit.is_ascii_digit() {
             return None;
         }
         number = number * 10 + (*digit - b'0') as u64;
+        left = rest;
     }
     Some(number)
 }
