@@ -2,7 +2,7 @@
 use Rattle.std.proofs.Common.{◌-◌, ◌==◌, Bool, true, false, take, drop, length, slice_index, nat_lt, if◌then◌else◌, arith, zero, suc, Option, Some, None, slice_get, sym, subst, ◌≡◌, ◌<◌, ◌≤◌, ℕ, List, [], ◌∷◌, refl, ap, ◌∙◌}
 use mathlib.Core.HLevel.{is_prop→PathP}
 use Rattle.std.proofs.lemmas.Bool.Decides.{nat_tests}
-use Rattle.pool_config.specs.Reader.{of_stem, of_backend, by_digit, numbered_named}
+use Rattle.pool_config.specs.Names.{of_stem, of_backend, by_digit, numbered_named}
 use lib.Dec.{lit<}
 use native.Mathlib.Bridge.{le_prop}
 use Rattle.pool_base.specs.declared.backend_id.BackendId.{BackendId}

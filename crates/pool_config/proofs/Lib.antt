@@ -6,3 +6,5 @@ pub mod Numbers
 pub mod Texts
 pub mod Reading
 pub mod Nodes
+pub mod Grammar
+pub mod Laws

@@ -1,6 +1,6 @@
 -- The configuration of a text, and the fault of a text that has none.
 use Rattle.std.specs.Prelude.{◌≡◌, ◌≤◌, ◌==◌, ℕ, Bool, true, false, not, List, [], ◌∷◌, ◌++◌, map, max, take, length}
-use Rattle.std.specs.Prelude.{Option, Some, None, is_some, option_map, if◌then◌else◌, codes, find}
+use Rattle.std.specs.Prelude.{Option, Some, None, Result, Ok, Err, is_some, option_map, if◌then◌else◌, codes, find}
 use Rattle.std.specs.Str.{is_utf8}
 use Rattle.pool_base.specs.declared.backend_id.BackendId.{BackendId}
 use Rattle.pool_config.specs.Bytes.{AllOf, lines}
@@ -112,6 +112,20 @@ IsFault text (UnknownName n) = FirstFault 1 (lines text) (UnknownName n)
 IsFault text (WrongMode n) = FirstFault 1 (lines text) (WrongMode n)
 IsFault text (Missing name) = Lacks text name
 IsFault text NoMemory = ⊥
+
+-- what an answer to a text says; want of memory says nothing
+abbrev pub Says : List ℕ → Result Config ConfigFault → Type 0
+Says text (Ok config) = IsConfiguration text config
+Says text (Err NoMemory) = Unit {0}
+Says text (Err (BadLine n)) = IsFault text (BadLine n)
+Says text (Err (UnknownName n)) = IsFault text (UnknownName n)
+Says text (Err (WrongMode n)) = IsFault text (WrongMode n)
+Says text (Err (Missing name)) = IsFault text (Missing name)
+
+-- the answer is this configuration, unless memory ran out
+abbrev pub IsAnswer : Config → Result Config ConfigFault → Type 0
+IsAnswer config (Ok given) = given ≡ config
+IsAnswer config (Err fault) = fault ≡ NoMemory
 
 -- ---- what the grammar allows
 

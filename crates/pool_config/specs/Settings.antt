@@ -1,9 +1,10 @@
 -- What a line sets, which fault it has, and what the lines of a text say together.
-use Rattle.std.specs.Prelude.{◌≡◌, ◌≢◌, ◌+◌, ◌⊎◌, ℕ, true, List, [], ◌∷◌, Option, Some, None, codes}
+use Rattle.std.specs.Prelude.{◌≡◌, ◌+◌, ◌⊎◌, ℕ, true, false, bytes_eq, List, [], ◌∷◌, Option, Some, None, codes}
 use Rattle.pool_config.specs.Form.{Spelling, IsAssignment, IsEnd}
 use Rattle.pool_config.specs.Value.{value_of}
-use Rattle.pool_config.specs.Table.{name_of, kind_of, takes}
-use Rattle.pool_config.specs.declared.parameter.Parameter.{Parameter}
+use Rattle.pool_config.specs.Table.{kind_of, takes}
+use Rattle.pool_config.specs.Names.{parameter_named}
+use Rattle.pool_config.specs.declared.parameter.Parameter.TheVariants.{ClusteringMode}
 use Rattle.pool_config.specs.declared.value.Value.TheVariants.{Text}
 use Rattle.pool_config.specs.declared.assemble.Setting.{Setting}
 use Rattle.pool_config.specs.declared.fault.ConfigFault.{ConfigFault}
@@ -11,8 +12,10 @@ use Rattle.pool_config.specs.declared.fault.ConfigFault.TheVariants.{BadLine, Un
 
 -- the line gives a parameter a value that it takes
 pub record Sets (line : List ℕ) (s : Setting) : Type 0 where
+  pub name : List ℕ
   pub value : Spelling
-  pub form : IsAssignment line (name_of s.parameter) value
+  pub form : IsAssignment line name value
+  pub known : parameter_named name ≡ Some s.parameter
   pub means : value_of value ≡ Some s.value
   pub taken : takes (kind_of s.parameter) s.value ≡ true
 
@@ -21,15 +24,17 @@ pub record HasUnknownName (line : List ℕ) : Type 0 where
   pub name : List ℕ
   pub value : Spelling
   pub form : IsAssignment line name value
-  pub unknown : (p : Parameter) → name ≢ name_of p
+  pub unknown : parameter_named name ≡ None
 
 -- the line asks by a string for a mode that is not this one
 pub record AsksOtherMode (line : List ℕ) : Type 0 where
+  pub name : List ℕ
   pub mode : List ℕ
   pub value : Spelling
-  pub form : IsAssignment line (codes "backend_clustering_mode") value
+  pub form : IsAssignment line name value
+  pub known : parameter_named name ≡ Some ClusteringMode
   pub means : value_of value ≡ Some (Text mode)
-  pub other : mode ≢ codes "snapshot_isolation"
+  pub other : bytes_eq mode (codes "snapshot_isolation") ≡ false
 
 -- any other line that says something
 pub record IsBad (line : List ℕ) : Type 0 where

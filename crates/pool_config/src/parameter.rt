@@ -1,7 +1,7 @@
 //! The parameters, and what each takes.
 ghost use Rattle.std.specs.Prelude.{◌≡◌, ◌≤◌, IfOk};
 ghost use Rattle.pool_config.specs.Table.{all_backends, name_of, with_number, place_of, backends_of, kind_of, takes, takes_text, takes_number, takes_truth};
-ghost use Rattle.pool_config.specs.Reader.{parameter_named, single_named, numbered_named, of_stem};
+ghost use Rattle.pool_config.specs.Names.{parameter_named, single_named, numbered_named, of_stem};
 
 use crate::value::Value;
 use pool_base::{BackendId, NoMemory, Text};
@@ -154,7 +154,7 @@ impl Parameter {
 }
 
 /// The parameter of that name, if there is one.
-#[tactic(auto, unfolding(crate::specs::Reader::parameter_named))]
+#[tactic(auto, unfolding(crate::specs::Names::parameter_named))]
 pub(crate) fn parameter_named(name: &[u8]) -> Option<Parameter>
     ensures { result ≡ parameter_named name.now }
 {

@@ -3,7 +3,8 @@ ghost use Rattle.std.specs.Prelude.{◌≡◌, ◌<◌, ◌+◌, ℕ, length, If
 ghost use Rattle.pool_config.specs.Bytes.{lines};
 ghost use Rattle.pool_config.specs.Form.{spelling_of};
 ghost use Rattle.pool_config.specs.Value.{value_of};
-ghost use Rattle.pool_config.specs.Reader.{Gives, read_lines, setting_at, set_by, refused, answer_of, parameter_named};
+ghost use Rattle.pool_config.specs.Configuration.{Says, IsConfiguration, IsAnswer};
+ghost use Rattle.pool_config.specs.Reader.{Gives, read_lines, setting_at, set_by, refused, answer_of};
 
 use crate::assemble::{Setting, configuration};
 use crate::config::Config;
@@ -20,6 +21,17 @@ use std::alloc::Global;
 /// Errors: the first faulty line decides; what is missing is looked for after all lines.
 /// Source: Pgpool-II, "Server Configuration", of which this is a part.
 pub fn parse_config(alloc: Global, text: &[u8]) -> Result<Config, ConfigFault>
+    requires { length text.now < 4294967295 }
+    // A configuration that the text says, or its first fault.
+    ensures says { Says text.now result }
+    // The configuration that the text says is the answer.
+    ensures found { (config : Config) → IsConfiguration text.now config → IsAnswer config result }
+{
+    answer_to(alloc, text)
+}
+
+/// The answer of reading the lines and putting the configuration together.
+fn answer_to(alloc: Global, text: &[u8]) -> Result<Config, ConfigFault>
     requires { length text.now < 4294967295 }
     ensures { Gives result (answer_of text.now) }
 {

@@ -1,16 +1,8 @@
-use Rattle.std.proofs.Common.{rules, ◌≡◌, List, sym, subst, ◌∙◌, ap, Ok, Err}
-use Rattle.pool_config.specs.Taken.{AllTaken}
-use Rattle.pool_config.specs.Configuration.{missing_of}
-use Rattle.pool_config.specs.Reader.{Gives, answer_of, unless_missing}
-use Rattle.pool_config.specs.declared.assemble.Setting.{Setting}
-use Rattle.pool_config.proofs.Reading.{answer_fails, answer_is, read_taken, fails_again}
+use Rattle.pool_config.proofs.Laws.{given_means, given_is}
 use Rattle.pool_config.proofs.parse.parse_config.Goals as goal
 
-pub returns-in_err-settings : goal.returns-in_err-settings
-returns-in_err-settings c = fails_again c.from_residual.result c.in_err-settings.field-0.0 _ (search rules) (answer_fails c.args.text.now c.in_err-settings.field-0.0 c.in_err-settings.ensures)
+pub returns-clause-says : goal.returns-clause-says
+returns-clause-says c = given_means c.args.text.now _ c.answer_to.ensures
 
-pub configuration-requires : goal.configuration-requires
-configuration-requires c = subst AllTaken (sym c.as_slice.ensures) (read_taken 1 _ _ c.in_ok-settings.ensures)
-
-pub returns : goal.returns
-returns c = subst (Gives c.configuration.result) (ap (λ (said : List Setting). unless_missing (missing_of said) said) c.as_slice.ensures ∙ sym (answer_is c.args.text.now c.in_ok-settings.settings c.in_ok-settings.ensures)) c.configuration.ensures
+pub returns-clause-found : goal.returns-clause-found
+returns-clause-found c = λ config is. given_is c.args.text.now config _ c.answer_to.ensures is
