@@ -44,8 +44,9 @@ number_given {E} word r h numeral =
         not_small false e n = refl
 
 -- a numeral of five digits is no error
-pub size_read : {E : Type 0} (word : List ℕ) (e : E) → ParsesUnsigned 32 10 word (Err e) → is_numeral 5 word ≡ true → None ≡ size_of word
-size_read {E} word e h numeral =
+pub size_read : {E : Type 0} (word : List ℕ) (r : Result ℕ E) (e : E) → r ≡ Err e → ParsesUnsigned 32 10 word r → is_numeral 5 word ≡ true → None ≡ size_of word
+size_read {E} word r e is given numeral =
+    let h = subst (λ (x : Result ℕ E). ParsesUnsigned 32 10 word x) is given in
     let parts = numeral_parts 5 word numeral in
     let short : digits_value 10 word < 10 ^ 5 = digits_value_short own word 5 parts.2 parts.1 in
     let none = parse_digits own 32 word (Err e) h parts.2 in

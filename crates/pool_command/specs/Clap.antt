@@ -23,12 +23,15 @@ flag_rule id = record (new_rule id) { long = Some id; action = Some SetTrue }
 abbrev pub app_of_name : Text → App
 app_of_name name = on_top (λ s. record s { disable_help_flag = true }) (new_app name)
 
+-- a command that wants the two files
+abbrev pub files_app : Text → App
+files_app name = with_rule (with_rule (app_of_name name) (file_rule (codes "config"))) (file_rule (codes "schema"))
+
 abbrev pub serve_app : App
-serve_app = with_rule (with_rule (app_of_name (codes "serve")) (file_rule (codes "config"))) (file_rule (codes "schema"))
+serve_app = files_app (codes "serve")
 
 abbrev pub play_app : App
-play_app = with_rule (with_rule (with_rule (with_rule (with_rule (with_rule (app_of_name (codes "play"))
-    (file_rule (codes "config"))) (file_rule (codes "schema"))) (new_rule (codes "script")))
+play_app = with_rule (with_rule (with_rule (with_rule (files_app (codes "play")) (new_rule (codes "script")))
     (flag_rule (codes "journal"))) (option_rule (codes "generate"))) (option_rule (codes "size"))
 
 -- what stands on a line of words: the files, and the values of the options

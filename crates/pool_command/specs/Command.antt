@@ -45,8 +45,12 @@ abbrev pub serve_of : Option Given → Option Command
 serve_of None = None
 serve_of (Some g) = with_files g.config g.schema (λ config schema. Some (Serve config schema))
 
+-- the command of words that begin so
+abbrev pub command_by : Text → List Text → Option Command
+command_by first words = if bytes_eq first (codes "play") then play_of (play_line words)
+    else (if bytes_eq first (codes "serve") then serve_of (serve_line words) else None)
+
 -- the command that the words are, if they are one
 abbrev pub command_of : List Text → Option Command
 command_of [] = None
-command_of (first ∷ rest) = if bytes_eq first (codes "play") then play_of (play_line (first ∷ rest))
-    else (if bytes_eq first (codes "serve") then serve_of (serve_line (first ∷ rest)) else None)
+command_of (first ∷ rest) = command_by first (first ∷ rest)

@@ -1,7 +1,7 @@
 //! From words to a command.
 ghost use Rattle.std.specs.Prelude.{◌≡◌, IfOk, map, option_map, Some};
-ghost use Rattle.pool_command.specs.Clap.{given_by};
-ghost use Rattle.pool_command.specs.Command.{command_of, play_of, serve_of, generated, number_of, size_of, is_numeral};
+ghost use Rattle.pool_command.specs.Clap.{given_by, play_line, serve_line};
+ghost use Rattle.pool_command.specs.Command.{command_of, command_by, play_of, serve_of, generated, number_of, size_of, is_numeral};
 ghost use Rattle.std.specs.Str.{all_ascii_digits};
 
 use crate::command::Command;
@@ -18,15 +18,41 @@ pub fn read_words(alloc: Global, words: &[&str]) -> Result<Option<Command>, NoMe
     ensures { IfOk result (λ command. command ≡ command_of (map (λ word. word.now) words.now)) }
 {
     match words {
-        [first, ..] if *first == "play" => match read_play(alloc, words)? {
-            Some(line) => play(alloc, line),
-            None => Ok(None),
-        },
-        [first, ..] if *first == "serve" => match read_serve(alloc, words)? {
-            Some(line) => serve(alloc, line),
-            None => Ok(None),
-        },
-        _ => Ok(None),
+        [first, ..] => read_by(alloc, first, words),
+        [] => Ok(None),
+    }
+}
+
+/// The command that words are that begin so.
+fn read_by(alloc: Global, first: &str, words: &[&str]) -> Result<Option<Command>, NoMemory>
+    ensures { IfOk result (λ command. command ≡ command_by first.now (map (λ word. word.now) words.now)) }
+{
+    if first == "play" {
+        read_as_play(alloc, words)
+    } else if first == "serve" {
+        read_as_serve(alloc, words)
+    } else {
+        Ok(None)
+    }
+}
+
+/// The command of words that begin with `play`.
+fn read_as_play(alloc: Global, words: &[&str]) -> Result<Option<Command>, NoMemory>
+    ensures { IfOk result (λ command. command ≡ play_of (play_line (map (λ word. word.now) words.now))) }
+{
+    match read_play(alloc, words)? {
+        Some(line) => play(alloc, line),
+        None => Ok(None),
+    }
+}
+
+/// The command of words that begin with `serve`.
+fn read_as_serve(alloc: Global, words: &[&str]) -> Result<Option<Command>, NoMemory>
+    ensures { IfOk result (λ command. command ≡ serve_of (serve_line (map (λ word. word.now) words.now))) }
+{
+    match read_serve(alloc, words)? {
+        Some(line) => serve(alloc, line),
+        None => Ok(None),
     }
 }
 

@@ -176,10 +176,17 @@ record Spelled (bytes : List ℕ) (w : Spelling) : Type 0 where
   is : IsSpelling w
   is_end : IsEnd rest
 
+abbrev name_in : List ℕ → Option (List ℕ × Spelling) → List ℕ
+name_in d None = d
+name_in d (Some p) = p.0
+
+abbrev value_in : Spelling → Option (List ℕ × Spelling) → Spelling
+value_in d None = d
+value_in d (Some p) = p.1
+
 -- a name with its value, where the test holds
 abbrev found_if : Bool → List ℕ → Spelling → Option (List ℕ × Spelling)
-found_if true name w = Some (name, w)
-found_if false name w = None
+found_if t name w = if◌then◌else◌ {A = Option (List ℕ × Spelling)} t (Some (name, w)) None
 
 closed_is : (inner rest : List ℕ) (name n : List ℕ) (w : Spelling) → AllOf Inner inner → Stops Inner rest
     → ended name (closed_at inner rest) ≡ Some (n, w) → (name ≡ n) × Spelled (39 ∷ (inner ++ rest)) w
@@ -190,8 +197,8 @@ closed_is inner (q ∷ rest) name n w all stops h = go (is_end rest) refl h
     go false e k = absurd (cc)
     go true e k =
         let quote : q ≡ 39 = grind (arith, nat_tests) in
-        let first : name ≡ n = cc in
-        let second : quoted inner ≡ w = cc in (
+        let first : name ≡ n = ap (name_in name) k in
+        let second : quoted inner ≡ w = ap (value_in (quoted inner)) k in (
           first,
           subst (Spelled (39 ∷ (inner ++ q ∷ rest))) second (record {
             rest = rest;
@@ -209,8 +216,8 @@ bare_is (b ∷ word) rest name n w all h = go (is_end rest) refl h
     go : (t : Bool) → is_end rest ≡ t → found_if t name (bare (b ∷ word)) ≡ Some (n, w) → (name ≡ n) × Spelled ((b ∷ word) ++ rest) w
     go false e k = absurd (cc)
     go true e k =
-        let first : name ≡ n = cc in
-        let second : bare (b ∷ word) ≡ w = cc in (
+        let first : name ≡ n = ap (name_in name) k in
+        let second : bare (b ∷ word) ≡ w = ap (value_in (bare (b ∷ word))) k in (
           first,
           subst (Spelled ((b ∷ word) ++ rest)) second (record {
             rest = rest;

@@ -8,3 +8,4 @@ pub mod Reading
 pub mod Nodes
 pub mod Grammar
 pub mod Laws
+pub mod Printing

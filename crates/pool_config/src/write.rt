@@ -1,7 +1,7 @@
 //! The writer: a configuration to its one text.
 ghost use Rattle.std.specs.Prelude.{◌≡◌, ◌<◌, ◌++◌, length, IfOk, OnOk, string_bytes};
 ghost use Rattle.pool_config.specs.Printed.{text_of, node_text, nodes_text, rest_text, truth_word};
-ghost use Rattle.pool_config.specs.Configuration.{IsAllowed};
+ghost use Rattle.pool_config.specs.Configuration.{IsAllowed, IsConfiguration};
 
 use crate::config::{Config, Node};
 use pool_base::{NoMemory, Text};
@@ -13,6 +13,16 @@ use std::fmt::Write;
 /// Shape: docs/CONFIGURATION.md, "The written form".
 pub fn write_config(alloc: Global, config: &Config) -> Result<Text, NoMemory>
     requires { IsAllowed config.now }
+    ensures written { IfOk result (λ text. text ≡ text_of config.now) }
+    // The text says this configuration, so `parse_config` answers it.
+    ensures read_back { IfOk result (λ text. IsConfiguration text config.now) }
+{
+    written(alloc, config)
+}
+
+/// The one text of a configuration.
+fn written(alloc: Global, config: &Config) -> Result<Text, NoMemory>
+    requires { length config.now.nodes < 9 }
     ensures { IfOk result (λ text. text ≡ text_of config.now) }
 {
     let mut text = String::from_str(alloc, "backend_clustering_mode = 'snapshot_isolation'\n")?;

@@ -1,25 +1,17 @@
-use Rattle.std.proofs.Common.{rules, ap₂, ◌≡◌, ◌∙◌, codes, map}
-use Rattle.clap.specs.Words.{App, app_of, rule_of, with_rule, new_rule}
-use Rattle.pool_command.specs.Clap.{play_app, file_rule, flag_rule, option_rule, app_of_name}
+use Rattle.std.proofs.Common.{rules, ap, ap₂, ◌≡◌, ◌∙◌, codes}
+use Rattle.clap.specs.Words.{App, Rule, app_of, rule_of, with_rule, new_rule}
+use Rattle.pool_command.specs.Clap.{play_app}
 use Rattle.pool_command.proofs.Parsed.{play_simple, play_free, rows_are, no_fault, some_fault}
 use Rattle.pool_command.proofs.line.parse_play.Goals as goal
 
 pub returns : goal.returns
 returns c =
-    let config_is : rule_of c.required-config.result ≡ file_rule (codes "config") = search rules in
-    let schema_is : rule_of c.required-schema.result ≡ file_rule (codes "schema") = search rules in
-    let script_is : rule_of c.new-script.result ≡ new_rule (codes "script") = search rules in
-    let journal_is : rule_of c.action-journal.result ≡ flag_rule (codes "journal") = search rules in
-    let generate_is : rule_of c.long-generate.result ≡ option_rule (codes "generate") = search rules in
-    let size_is : rule_of c.long-size.result ≡ option_rule (codes "size") = search rules in
-    let start_is : app_of c.disable_help_flag.result ≡ app_of_name (codes "play") = search rules in
-    let app_is : app_of c.in_ok-command.command ≡ play_app =
-    c.in_ok-command.ensures.shape (search rules) ∙ ap₂ with_rule
-    (c.in_ok-arg-5.ensures.shape (search rules) ∙ ap₂ with_rule
-    (c.in_ok-arg-4.ensures.shape (search rules) ∙ ap₂ with_rule
-    (c.in_ok-arg-3.ensures.shape (search rules) ∙ ap₂ with_rule
-    (c.in_ok-arg-2.ensures.shape (search rules) ∙ ap₂ with_rule
-    (c.in_ok-arg.ensures.shape (search rules) ∙ ap₂ with_rule start_is config_is) schema_is) script_is) journal_is) generate_is) size_is in
+    let app_is : app_of c.in_ok-command-5.command ≡ play_app =
+    c.in_ok-command-5.ensures ∙ ap₂ with_rule
+    (c.in_ok-command-4.ensures ∙ ap₂ with_rule
+    (c.in_ok-command-3.ensures ∙ ap₂ with_rule
+    (c.in_ok-command-2.ensures ∙ ap₂ with_rule c.in_ok-command.ensures c.new.ensures.rule)
+    c.flag.ensures.rule) c.option.ensures.rule) c.option-2.ensures.rule in
     record {
       rows = rows_are _ _ _ _ app_is play_simple c.try_get_matches_from.ensures.matches;
       faultless = no_fault _ _ _ _ app_is play_free c.try_get_matches_from.ensures.kinds;
