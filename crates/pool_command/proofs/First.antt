@@ -1,5 +1,5 @@
 -- The first word decides.
-use Rattle.std.proofs.Common.{◌≡◌, ◌≤◌, ℕ, List, [], ◌∷◌, refl, ap, map, length, slice_index_or, arith, Bor}
+use Rattle.std.proofs.Common.{◌≡◌, ◌≤◌, ℕ, List, [], ◌∷◌, ap, map, length, slice_index_or, arith, Bor}
 use Rattle.pool_command.specs.Command.{command_of, command_by}
 
 pub by_first : (ws : List (Bor (List ℕ))) (first : Bor (List ℕ)) → 1 ≤ length ws → first ≡ slice_index_or ws 0 first

@@ -1,5 +1,5 @@
-use Rattle.std.proofs.Common.{rules, ap, ap₂, ◌≡◌, ◌∙◌, codes}
-use Rattle.clap.specs.Words.{App, Rule, app_of, rule_of, with_rule, new_rule}
+use Rattle.std.proofs.Common.{ap₂, ◌≡◌, ◌∙◌}
+use Rattle.clap.specs.Words.{app_of, with_rule}
 use Rattle.pool_command.specs.Clap.{play_app}
 use Rattle.pool_command.proofs.Parsed.{play_simple, play_free, rows_are, no_fault, some_fault}
 use Rattle.pool_command.proofs.line.parse_play.Goals as goal

@@ -1,5 +1,5 @@
-use Rattle.std.proofs.Common.{rules, ap, ap₂, ◌≡◌, ◌∙◌, codes}
-use Rattle.clap.specs.Words.{App, Rule, app_of, rule_of, with_rule, new_rule}
+use Rattle.std.proofs.Common.{◌≡◌}
+use Rattle.clap.specs.Words.{app_of}
 use Rattle.pool_command.specs.Clap.{serve_app}
 use Rattle.pool_command.proofs.Parsed.{serve_simple, serve_free, rows_are, no_fault, some_fault}
 use Rattle.pool_command.proofs.line.parse_serve.Goals as goal
