@@ -1,0 +1,11 @@
+pub mod Runs
+pub mod Backends
+pub mod Ranges
+pub mod Lists
+pub mod Numbers
+pub mod Texts
+pub mod Reading
+pub mod Nodes
+pub mod Grammar
+pub mod Laws
+pub mod Printing

@@ -1,0 +1,10 @@
+pub mod Bytes
+pub mod Form
+pub mod Value
+pub mod Table
+pub mod Names
+pub mod Settings
+pub mod Taken
+pub mod Configuration
+pub mod Printed
+pub mod Reader

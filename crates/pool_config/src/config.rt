@@ -1,0 +1,25 @@
+//! What a configuration says.
+use pool_base::{List, Text};
+
+/// One backend: where it listens, and how much of the reading it is to get.
+#[derive(Debug, PartialEq, Eq, Drop)]
+pub struct Node {
+    pub host: Text,
+    pub port: u16,
+    /// Its share of the reads, from 0 to 1000, beside the weights of the other backends.
+    pub weight: u32,
+}
+
+/// A configuration: the backends by number, and how clients are served.
+#[derive(Debug, PartialEq, Eq, Drop)]
+pub struct Config {
+    pub nodes: List<Node>,
+    pub listen: Text,
+    pub port: u16,
+    /// How many clients are served at once, from 1 to 64.
+    pub children: u32,
+    /// Reads are spread over the backends (`load_balance_mode`).
+    pub balance: bool,
+    /// The backend of a read is chosen for each statement (`statement_level_load_balance`).
+    pub per_statement: bool,
+}

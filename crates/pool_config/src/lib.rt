@@ -1,0 +1,20 @@
+//! The configuration of the pool: its grammar, its one table of parameters, and its one printed form.
+//! What is read is what the text says, and a text that says nothing valid is refused with its first fault.
+#![tactic(auto)]
+
+mod assemble;
+mod config;
+mod fault;
+mod line;
+mod parameter;
+mod parse;
+mod value;
+mod write;
+
+pub use config::{Config, Node};
+pub use fault::ConfigFault;
+pub use parse::parse_config;
+pub use write::write_config;
+
+#[cfg(test)]
+mod tests;

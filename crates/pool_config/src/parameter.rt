@@ -1,0 +1,267 @@
+//! The parameters, and what each takes.
+ghost use Rattle.std.specs.Prelude.{◌≡◌, ◌≤◌, IfOk};
+ghost use Rattle.pool_config.specs.Table.{all_backends, name_of, with_number, place_of, backends_of, kind_of, takes, takes_text, takes_number, takes_truth};
+ghost use Rattle.pool_config.specs.Names.{parameter_named, single_named, numbered_named, of_stem};
+
+use crate::value::Value;
+use pool_base::{BackendId, NoMemory, Text};
+use std::alloc::Global;
+
+/// A parameter of the configuration.
+#[derive(Clone, Copy, Debug, PartialEq, Eq)]
+pub enum Parameter {
+    ClusteringMode,
+    Hostname(BackendId),
+    BackendPort(BackendId),
+    Weight(BackendId),
+    ListenAddresses,
+    Port,
+    Children,
+    LoadBalance,
+    StatementBalance,
+    InsertLock,
+    StopOnMismatch,
+    FailoverOnMismatch,
+}
+
+/// What values a parameter takes.
+#[derive(Clone, Copy, Debug, PartialEq, Eq)]
+pub enum Kind {
+    /// The string `snapshot_isolation`.
+    Mode,
+    /// A string with something in it.
+    HostName,
+    /// Any string.
+    Words,
+    /// A number in this range, both ends in it.
+    Number { low: u64, high: u64 },
+    /// On or off.
+    Truth,
+    /// A safety parameter: on alone.
+    OnlyOn,
+}
+
+#[tactic(auto, using(crate::proofs::Backends::backends_are))]
+/// The backends, by number.
+pub(crate) fn all_backends() -> [BackendId; 8]
+    ensures { result ≡ all_backends }
+{
+    [
+        BackendId { number: 0 },
+        BackendId { number: 1 },
+        BackendId { number: 2 },
+        BackendId { number: 3 },
+        BackendId { number: 4 },
+        BackendId { number: 5 },
+        BackendId { number: 6 },
+        BackendId { number: 7 },
+    ]
+}
+
+impl Parameter {
+    /// What a line and a fault call it.
+    pub(crate) fn name(self, alloc: Global) -> Result<Text, NoMemory>
+        ensures { IfOk result (λ name. name ≡ name_of self) }
+    {
+        let (stem, digit) = self.stem();
+        let mut name = String::from_str(alloc, stem)?;
+        if let Some(backend) = digit {
+            name.push((b'0' + backend.number) as char)?;
+        }
+        Ok(Text::from_string(name))
+    }
+
+    /// Its name without the number, and the backend with the number.
+    fn stem(self) -> (&'static str, Option<BackendId>)
+        ensures { with_number result.0.now result.1 ≡ name_of self }
+    {
+        match self {
+            Parameter::ClusteringMode => ("backend_clustering_mode", None),
+            Parameter::Hostname(b) => ("backend_hostname", Some(b)),
+            Parameter::BackendPort(b) => ("backend_port", Some(b)),
+            Parameter::Weight(b) => ("backend_weight", Some(b)),
+            Parameter::ListenAddresses => ("listen_addresses", None),
+            Parameter::Port => ("port", None),
+            Parameter::Children => ("num_init_children", None),
+            Parameter::LoadBalance => ("load_balance_mode", None),
+            Parameter::StatementBalance => ("statement_level_load_balance", None),
+            Parameter::InsertLock => ("insert_lock", None),
+            Parameter::StopOnMismatch => ("replication_stop_on_mismatch", None),
+            Parameter::FailoverOnMismatch => ("failover_if_affected_tuples_mismatch", None),
+        }
+    }
+
+    /// Its place in the table of parameters, which no other has.
+    pub(crate) fn place(self) -> u8
+        ensures { result ≡ place_of self }
+    {
+        match self {
+            Parameter::ClusteringMode => 0,
+            Parameter::Hostname(b) => 8 + b.number,
+            Parameter::BackendPort(b) => 16 + b.number,
+            Parameter::Weight(b) => 24 + b.number,
+            Parameter::ListenAddresses => 1,
+            Parameter::Port => 2,
+            Parameter::Children => 3,
+            Parameter::LoadBalance => 4,
+            Parameter::StatementBalance => 5,
+            Parameter::InsertLock => 6,
+            Parameter::StopOnMismatch => 7,
+            Parameter::FailoverOnMismatch => 32,
+        }
+    }
+
+    /// How many backends there are at least where it is set.
+    pub(crate) fn backends(self) -> u8
+        ensures count { result ≡ backends_of self }
+        ensures few { result ≤ 8 }
+    {
+        match self {
+            Parameter::Hostname(b) | Parameter::BackendPort(b) | Parameter::Weight(b) => b.number
+                + 1,
+            Parameter::ClusteringMode
+            | Parameter::ListenAddresses
+            | Parameter::Port
+            | Parameter::Children
+            | Parameter::LoadBalance
+            | Parameter::StatementBalance
+            | Parameter::InsertLock
+            | Parameter::StopOnMismatch
+            | Parameter::FailoverOnMismatch => 0,
+        }
+    }
+
+    /// What values it takes.
+    pub(crate) fn kind(self) -> Kind
+        ensures { result ≡ kind_of self }
+    {
+        match self {
+            Parameter::ClusteringMode => Kind::Mode,
+            Parameter::Hostname(_) => Kind::HostName,
+            Parameter::BackendPort(_) | Parameter::Port => Kind::Number {
+                low: 1,
+                high: 65535,
+            },
+            Parameter::Weight(_) => Kind::Number { low: 0, high: 1000 },
+            Parameter::ListenAddresses => Kind::Words,
+            Parameter::Children => Kind::Number { low: 1, high: 64 },
+            Parameter::LoadBalance | Parameter::StatementBalance => Kind::Truth,
+            Parameter::InsertLock | Parameter::StopOnMismatch | Parameter::FailoverOnMismatch => {
+                Kind::OnlyOn
+            }
+        }
+    }
+}
+
+/// The parameter of that name, if there is one.
+#[tactic(auto, unfolding(crate::specs::Names::parameter_named))]
+pub(crate) fn parameter_named(name: &[u8]) -> Option<Parameter>
+    ensures { result ≡ parameter_named name.now }
+{
+    match single_named(name) {
+        Some(parameter) => Some(parameter),
+        None => numbered_named(name),
+    }
+}
+
+/// The parameter of that name among those without a number.
+fn single_named(name: &[u8]) -> Option<Parameter>
+    ensures { result ≡ single_named name.now }
+{
+    if name == b"backend_clustering_mode".as_slice() {
+        Some(Parameter::ClusteringMode)
+    } else if name == b"listen_addresses".as_slice() {
+        Some(Parameter::ListenAddresses)
+    } else if name == b"port".as_slice() {
+        Some(Parameter::Port)
+    } else if name == b"num_init_children".as_slice() {
+        Some(Parameter::Children)
+    } else if name == b"load_balance_mode".as_slice() {
+        Some(Parameter::LoadBalance)
+    } else if name == b"statement_level_load_balance".as_slice() {
+        Some(Parameter::StatementBalance)
+    } else if name == b"insert_lock".as_slice() {
+        Some(Parameter::InsertLock)
+    } else if name == b"replication_stop_on_mismatch".as_slice() {
+        Some(Parameter::StopOnMismatch)
+    } else if name == b"failover_if_affected_tuples_mismatch".as_slice() {
+        Some(Parameter::FailoverOnMismatch)
+    } else {
+        None
+    }
+}
+
+#[tactic(auto, using(crate::proofs::Backends::backend_at))]
+/// The parameter of that name among those of one backend.
+fn numbered_named(name: &[u8]) -> Option<Parameter>
+    ensures { result ≡ numbered_named name.now }
+{
+    if name.is_empty() {
+        return None;
+    }
+    let (stem, digits) = name.split_at(name.len() - 1);
+    let digit = digits[0];
+    if digit < b'0' {
+        return None;
+    }
+    match BackendId::from_number(digit - b'0') {
+        Some(backend) => of_stem(stem, backend),
+        None => None,
+    }
+}
+
+/// The parameter of that backend whose name begins so.
+fn of_stem(stem: &[u8], backend: BackendId) -> Option<Parameter>
+    ensures { result ≡ of_stem stem.now backend }
+{
+    if stem == b"backend_hostname".as_slice() {
+        Some(Parameter::Hostname(backend))
+    } else if stem == b"backend_port".as_slice() {
+        Some(Parameter::BackendPort(backend))
+    } else if stem == b"backend_weight".as_slice() {
+        Some(Parameter::Weight(backend))
+    } else {
+        None
+    }
+}
+
+/// Whether a parameter of that kind takes the value.
+pub(crate) fn takes(kind: Kind, value: &Value) -> bool
+    ensures { result ≡ takes kind value.now }
+{
+    match value {
+        Value::Text(text) => takes_text(kind, text),
+        Value::Number(number) => takes_number(kind, *number),
+        Value::Truth(on) => takes_truth(kind, *on),
+    }
+}
+
+fn takes_text(kind: Kind, text: &Text) -> bool
+    ensures { result ≡ takes_text kind text.now }
+{
+    match kind {
+        Kind::Mode => text.as_str() == "snapshot_isolation",
+        Kind::HostName => !text.is_empty(),
+        Kind::Words => true,
+        Kind::Number { .. } | Kind::Truth | Kind::OnlyOn => false,
+    }
+}
+
+fn takes_number(kind: Kind, number: u64) -> bool
+    ensures { result ≡ takes_number kind number }
+{
+    match kind {
+        Kind::Number { low, high } => low <= number && number <= high,
+        Kind::Mode | Kind::HostName | Kind::Words | Kind::Truth | Kind::OnlyOn => false,
+    }
+}
+
+fn takes_truth(kind: Kind, on: bool) -> bool
+    ensures { result ≡ takes_truth kind on }
+{
+    match kind {
+        Kind::Truth => true,
+        Kind::OnlyOn => on,
+        Kind::Mode | Kind::HostName | Kind::Words | Kind::Number { .. } => false,
+    }
+}

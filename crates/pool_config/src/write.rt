@@ -1,0 +1,83 @@
+//! The writer: a configuration to its one text.
+ghost use Rattle.std.specs.Prelude.{◌≡◌, ◌<◌, ◌++◌, length, IfOk, OnOk, string_bytes};
+ghost use Rattle.pool_config.specs.Printed.{text_of, node_text, nodes_text, rest_text, truth_word};
+ghost use Rattle.pool_config.specs.Configuration.{IsAllowed, IsConfiguration};
+
+use crate::config::{Config, Node};
+use pool_base::{NoMemory, Text};
+use std::alloc::{AllocError, Global};
+use std::fmt::Write;
+
+/// The text that `parse_config` reads back as the same configuration.
+///
+/// Shape: docs/CONFIGURATION.md, "The written form".
+pub fn write_config(alloc: Global, config: &Config) -> Result<Text, NoMemory>
+    requires { IsAllowed config.now }
+    ensures written { IfOk result (λ text. text ≡ text_of config.now) }
+    // The text says this configuration, so `parse_config` answers it.
+    ensures read_back { IfOk result (λ text. IsConfiguration text config.now) }
+{
+    written(alloc, config)
+}
+
+/// The one text of a configuration.
+fn written(alloc: Global, config: &Config) -> Result<Text, NoMemory>
+    requires { length config.now.nodes < 9 }
+    ensures { IfOk result (λ text. text ≡ text_of config.now) }
+{
+    let mut text = String::from_str(alloc, "backend_clustering_mode = 'snapshot_isolation'\n")?;
+    write_nodes(&mut text, config.nodes.as_slice())?;
+    write_rest(&mut text, config)?;
+    Ok(Text::from_string(text))
+}
+
+/// The lines of the backends.
+fn write_nodes(text: &mut String, nodes: &[Node]) -> Result<(), AllocError>
+    requires { length nodes.now < 9 }
+    ensures { OnOk result (string_bytes text.new ≡ string_bytes text.old ++ nodes_text 0 nodes.now) }
+{
+    let mut number: u32 = 0;
+    let mut left = nodes;
+    while let [node, rest @ ..] = left {
+        write_node(text, number, node)?;
+        number += 1;
+        left = rest;
+    }
+    Ok(())
+}
+
+/// The lines of one backend.
+fn write_node(text: &mut String, number: u32, node: &Node) -> Result<(), AllocError>
+    ensures { OnOk result (string_bytes text.new ≡ string_bytes text.old ++ node_text number node.now) }
+{
+    let host = node.host.as_str();
+    let port = node.port;
+    let weight = node.weight;
+    write!(text, "backend_hostname{number} = '{host}'\n")?;
+    write!(text, "backend_port{number} = {port}\n")?;
+    write!(text, "backend_weight{number} = {weight}\n")?;
+    Ok(())
+}
+
+/// The lines behind those of the backends.
+fn write_rest(text: &mut String, config: &Config) -> Result<(), AllocError>
+    ensures { OnOk result (string_bytes text.new ≡ string_bytes text.old ++ rest_text config.now) }
+{
+    let listen = config.listen.as_str();
+    let port = config.port;
+    let children = config.children;
+    let balance = truth_word(config.balance);
+    let per_statement = truth_word(config.per_statement);
+    write!(text, "listen_addresses = '{listen}'\n")?;
+    write!(text, "port = {port}\n")?;
+    write!(text, "num_init_children = {children}\n")?;
+    write!(text, "load_balance_mode = {balance}\n")?;
+    write!(text, "statement_level_load_balance = {per_statement}\n")?;
+    Ok(())
+}
+
+fn truth_word(on: bool) -> &'static str
+    ensures { result.now ≡ truth_word on }
+{
+    if on { "on" } else { "off" }
+}
