@@ -1,9 +1,8 @@
 -- Tools for bodies: fields up to the end.
-use Rattle.std.proofs.Common.{◌≡◌, ℕ, Bool, true, false, ◌⊎◌, inl, inr, List, [], ◌∷◌, ◌++◌, Option, Some, None, refl, sym, ap, subst, ◌∙◌, append_assoc}
+use Rattle.std.proofs.Common.{◌≡◌, ℕ, Bool, true, false, ◌⊎◌, inl, inr, List, [], ◌∷◌, ◌++◌, Option, Some, refl, sym, ap, ◌∙◌, append_assoc}
 use Rattle.std.specs.Prelude.{All, ◌||◌}
 use Rattle.std.proofs.lemmas.List.{append-nil}
-use Rattle.std.proofs.lemmas.List.Elements.{All-get_or}
-use Rattle.pg_messages.specs.Reading.{◌>>=◌, whole}
+use Rattle.pg_messages.specs.Reading.{whole}
 use Rattle.pg_messages.proofs.FieldLemmas.{IsField}
 
 pub whole_is : {A : Type 0} (x : A) (rest : List ℕ) (y : A) → whole (x, rest) ≡ Some y → (rest ≡ []) × (x ≡ y)

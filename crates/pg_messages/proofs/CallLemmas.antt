@@ -1,5 +1,5 @@
 -- The clauses of the public calls, from what their bodies give.
-use Rattle.std.proofs.Common.{◌≡◌, ℕ, ◌+◌, ◌<◌, ◌≤◌, List, [], ◌∷◌, ◌++◌, length, Result, Ok, Err, refl, sym, ap, subst, ◌∙◌, arith, take}
+use Rattle.std.proofs.Common.{◌≡◌, ℕ, ◌<◌, List, ◌++◌, length, Result, Ok, Err, refl, sym, ap, ◌∙◌, arith, take}
 use Rattle.std.proofs.lemmas.List.{take_at}
 use Rattle.std.specs.Prelude.{◌↔◌, ◌≢◌, IfOk, OnOk}
 use Rattle.std.proofs.lemmas.List.Elements.{All-nil}
@@ -15,8 +15,8 @@ use Rattle.pg_messages.specs.Frame.{framed, message_layout, start_layout, IsCut,
 use Rattle.pg_messages.specs.Client as C
 use Rattle.pg_messages.specs.Server as S
 use Rattle.pg_messages.specs.Start as T
-use Rattle.pg_messages.specs.Bodies.{is_client_type, client_in, is_server_type, server_in, start_in}
-use Rattle.pg_messages.specs.Fronts.{typed, client_front, server_front, start_front}
+use Rattle.pg_messages.specs.Bodies.{is_client_type, client_in, is_server_type, server_in}
+use Rattle.pg_messages.specs.Fronts.{client_front, server_front, start_front}
 use Rattle.pg_messages.proofs.FieldLemmas.{is_byte}
 use Rattle.pg_messages.proofs.SideLemmas.{IsSide, form_again, whole_to_side, whole_from_side, more_to_side, more_from_side, long_to_side, long_from_side, bad_to_side, bad_from_side, stays, cut_needs_more}
 use Rattle.pg_messages.proofs.ClientLemmas as client

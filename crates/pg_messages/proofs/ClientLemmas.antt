@@ -1,16 +1,16 @@
 -- Bodies of a client's messages: what is read is what is spelled, and what is spelled is read.
-use Rattle.std.proofs.Common.{◌≡◌, ℕ, ℤ, ◌+◌, ◌^◌, ◌<◌, ◌≤◌, Bool, true, false, cond, eqb, List, [], ◌∷◌, ◌++◌, length, Option, Some, None, refl, sym, ap, subst, ◌∙◌, append_assoc, arith, inl, inr, ◌⊎◌}
+use Rattle.std.proofs.Common.{◌≡◌, ℕ, ℤ, ◌+◌, ◌≤◌, Bool, true, List, [], ◌∷◌, ◌++◌, length, Option, Some, refl, sym, ap, subst, ◌∙◌, append_assoc, arith, inl, inr}
 use Rattle.std.specs.Prelude.{All}
-use Rattle.std.specs.Int.{w16, w32}
+use Rattle.std.specs.Int.{w32}
 use Rattle.std.specs.Int.RustNames.{FitsSigned}
 use Rattle.std.proofs.lemmas.Bool.{eqb-true, eq-eqb}
 use Rattle.pg_messages.specs.declared.client.ClientMessage.{ClientMessage}
 use Rattle.pg_messages.specs.declared.client.ClientMessage.TheVariants.{Query, Parse, Bind, Describe, Execute, Close, Flush, Sync, Terminate, Other}
-use Rattle.pg_messages.specs.Fields.{int16, int32, signed32, string, counted, value, target, IsString, IsCountable, AreBytes, ValueInRange, ValueFits}
+use Rattle.pg_messages.specs.Fields.{int16, int32, signed32, string, counted, value, target, AreBytes, ValueInRange, ValueFits}
 use Rattle.pg_messages.specs.Client.{tag_of, body_of, IsClean, InRange, HasBody, IsOtherType, IsClientType}
-use Rattle.pg_messages.specs.Reading.{◌>>=◌, number_at, string_at, value_at, counted_at, whole}
+use Rattle.pg_messages.specs.Reading.{whole}
 use Rattle.pg_messages.specs.Bodies.{query_in, parse_in, bind_in, describe_in, close_in, execute_in, is_other_type, is_client_type, client_in}
-use Rattle.pg_messages.proofs.FieldLemmas.{chosen, some_is, IsField, IsText, IsValue, number16, number32, number32_signed, string_field, value_field}
+use Rattle.pg_messages.proofs.FieldLemmas.{some_is, IsText, IsValue, number16, number32, number32_signed, string_field, value_field}
 use Rattle.pg_messages.proofs.EntryLemmas.{step, then_some, target_field, counted_field}
 use Rattle.pg_messages.proofs.BodyLemmas.{whole_is, at_end, one, two, three, five, regroup5, both, each, or_to, or_from}
 use Rattle.pg_messages.proofs.Lengths.{bound_fit}

@@ -1,19 +1,16 @@
 -- What lists hold, and lists themselves: what is read is what was written, and what was written is read again.
-use Rattle.std.proofs.Common.{◌≡◌, ℕ, ℤ, zero, suc, ◌+◌, ◌-◌, ◌^◌, ◌<◌, ◌≤◌, Bool, true, false, cond, ltb, eqb, List, [], ◌∷◌, ◌++◌, length, get_or, take, drop, Option, Some, None, refl, sym, ap, subst, ◌∙◌, append_assoc, arith, inl, inr, ◌⊎◌, length-append}
+use Rattle.std.proofs.Common.{◌≡◌, ℕ, zero, suc, ◌^◌, ◌<◌, ◌≤◌, Bool, true, false, cond, ltb, eqb, List, [], ◌∷◌, ◌++◌, length, Option, Some, None, refl, sym, ap, subst, ◌∙◌, append_assoc, arith, inl, inr, length-append}
 use Rattle.std.specs.Prelude.{All}
 use Rattle.std.specs.List.{flat_map}
 use Rattle.std.specs.Int.{w16, w32}
 use Rattle.std.specs.Int.RustNames.{FitsSigned}
 use Rattle.std.proofs.lemmas.Bool.{ltb-true, lt-ltb, eqb-true}
-use Rattle.std.proofs.lemmas.List.{append-nil}
-use Rattle.std.proofs.lemmas.List.Concat.{flat_map-cons}
 use Rattle.std.proofs.lemmas.List.Elements.{All-cons, All-head, All-tail, All-nil}
 use Rattle.pg_messages.specs.declared.server.Field.{Field}
 use Rattle.pg_messages.specs.declared.server.Part.{Part}
 use Rattle.pg_messages.specs.declared.start.Pair.{Pair}
-use Rattle.pg_messages.specs.Fields.{int16, int32, signed16, signed32, string, counted, zero_ended, value, field, part, pair, target, IsString, IsCountable, AreBytes, FieldFits, PartFits, FieldInRange, PartInRange, PairInRange}
-use Rattle.pg_messages.specs.Start.{IsOption}
-use Rattle.pg_messages.specs.Reading.{◌>>=◌, number_at, signed_at, string_at, value_at, field_at, part_at, pair_at, target_at, entries_at, counted_at, entries_below, zero_ended_at, whole}
+use Rattle.pg_messages.specs.Fields.{int16, int32, signed16, signed32, string, counted, zero_ended, field, part, pair, target, IsString, IsCountable, AreBytes}
+use Rattle.pg_messages.specs.Reading.{◌>>=◌, field_at, part_at, pair_at, target_at, entries_at, counted_at, entries_below, zero_ended_at}
 use Rattle.pg_messages.proofs.FieldLemmas.{bind_some, chosen, some_is, Taken, IsField, IsText, is_byte, number16, number32, number16_signed, number32_signed, string_field}
 
 -- the first step of a reader that did not fail

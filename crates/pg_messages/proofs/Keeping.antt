@@ -1,6 +1,6 @@
 -- Bytes that were there before a writer began are there after it.
-use Rattle.std.proofs.Common.{◌≡◌, List, ℕ, ◌++◌, ◌≤◌, length, take, ap, sym, ◌∙◌, refl, arith}
-use Rattle.std.proofs.lemmas.List.{take_at, take-take, length-append, length-take}
+use Rattle.std.proofs.Common.{List, ℕ, ◌++◌, ◌≤◌, length, take, ap, sym, ◌∙◌, refl, arith}
+use Rattle.std.proofs.lemmas.List.{take_at, take-take, length-take}
 use Rattle.pg_messages.specs.Kept.{Keeps}
 
 keeps_length : (a b : List ℕ) → Keeps a b → length a ≤ length b

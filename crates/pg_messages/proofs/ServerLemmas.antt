@@ -1,18 +1,18 @@
 -- Bodies of a server's messages: what is read is what is spelled, and what is spelled is read.
-use Rattle.std.proofs.Common.{◌≡◌, ℕ, ℤ, ◌+◌, ◌^◌, ◌<◌, ◌≤◌, Bool, true, false, cond, eqb, List, [], ◌∷◌, ◌++◌, length, Option, Some, None, refl, sym, ap, subst, ◌∙◌, append_assoc, arith, inl, inr, ◌⊎◌}
+use Rattle.std.proofs.Common.{◌≡◌, ℕ, ℤ, ◌+◌, ◌^◌, ◌<◌, ◌≤◌, true, eqb, List, [], ◌∷◌, length, Option, Some, None, refl, sym, ap, subst, ◌∙◌, arith, inl, inr}
 use Rattle.std.specs.Prelude.{All, ◌||◌}
-use Rattle.std.specs.Int.{w16, w32}
+use Rattle.std.specs.Int.{w32}
 use Rattle.std.specs.Int.RustNames.{FitsSigned}
 use Rattle.std.proofs.lemmas.Bool.{eqb-true, eq-eqb}
 use Rattle.pg_messages.specs.declared.server.Field.{Field}
 use Rattle.pg_messages.specs.declared.server.Part.{Part}
 use Rattle.pg_messages.specs.declared.server.ServerMessage.{ServerMessage}
 use Rattle.pg_messages.specs.declared.server.ServerMessage.TheVariants.{AuthOk, ParameterStatus, BackendKey, Ready, RowDescription, DataRow, Complete, Error, Notice, ParameterDescription, Empty, ParseComplete, BindComplete, CloseComplete, NoData, Suspended}
-use Rattle.pg_messages.specs.Fields.{int32, signed32, string, counted, zero_ended, value, field, part, IsString, IsCountable, AreBytes, FieldFits, PartFits, ValueInRange, ValueFits, FieldInRange, PartInRange}
+use Rattle.pg_messages.specs.Fields.{int32, signed32, string, counted, zero_ended, value, field, part, IsCountable, AreBytes, FieldFits, PartFits, ValueInRange, ValueFits, FieldInRange, PartInRange}
 use Rattle.pg_messages.specs.Server.{tag_of, body_of, IsClean, InRange, IsStatus, IsServerType}
-use Rattle.pg_messages.specs.Reading.{◌>>=◌, number_at, signed_at, string_at, value_at, field_at, part_at, counted_at, zero_ended_at, whole}
+use Rattle.pg_messages.specs.Reading.{◌>>=◌, signed_at, whole}
 use Rattle.pg_messages.specs.Bodies.{auth_in, status_in, key_in, ready_in, columns_in, row_in, complete_in, error_in, notice_in, kinds_in, is_server_type, server_in}
-use Rattle.pg_messages.proofs.FieldLemmas.{chosen, some_is, IsField, IsText, IsValue, number16, number32, number32_signed, string_field, value_field}
+use Rattle.pg_messages.proofs.FieldLemmas.{chosen, IsText, IsValue, number32, number32_signed, string_field, value_field}
 use Rattle.pg_messages.proofs.EntryLemmas.{step, then_some, if_true, IsPart, IsColumn, column_field, part_field, part_leads, counted_field, zero_ended_field}
 use Rattle.pg_messages.proofs.BodyLemmas.{whole_is, at_end, one, two, both, each, or_to, or_from}
 use Rattle.pg_messages.proofs.Lengths.{counted_fit}

@@ -1,18 +1,18 @@
 -- What stands at the front of a side's bytes: the answer and what it says of the bytes, both ways.
-use Rattle.std.proofs.Common.{◌≡◌, ℕ, zero, suc, ◌+◌, ◌-◌, ◌^◌, ◌<◌, ◌≤◌, Bool, true, false, cond, List, [], ◌∷◌, ◌++◌, length, take, drop, Option, Some, None, refl, sym, ap, subst, ◌∙◌, append_assoc, arith, inl, inr, ◌⊎◌, length-append, length-drop}
+use Rattle.std.proofs.Common.{◌≡◌, ℕ, suc, ◌+◌, ◌-◌, ◌^◌, ◌<◌, ◌≤◌, Bool, true, false, List, [], ◌∷◌, ◌++◌, length, take, drop, Option, Some, None, refl, sym, ap, subst, ◌∙◌, arith, inl, inr, length-append, length-drop}
 use Rattle.std.specs.Int.{w32, from_be_bytes}
 use Rattle.std.proofs.lemmas.Bool.{cases_lt}
-use Rattle.std.proofs.lemmas.List.{take_at, take-append-drop, take-append-le, drop-append-le, length-take, append-nil, take_all}
+use Rattle.std.proofs.lemmas.List.{take-append-drop, take-append-le, drop-append-le, length-take, append-nil}
 use Rattle.std.proofs.lemmas.List.Elements.{All-tail, All-take, All-drop}
 use Rattle.pg_messages.specs.declared.frame.Layout.{Layout}
 use Rattle.pg_messages.specs.declared.read.Read.{Read}
 use Rattle.pg_messages.specs.declared.read.Read.TheVariants.{Whole, More, Bad, TooLong}
 use Rattle.pg_messages.specs.Fields.{int32, AreBytes}
-use Rattle.pg_messages.specs.Frame.{framed, message_layout, stated, Opens, IsHeaded, IsSized, IsCut, BeginsWith, IsTooLong, IsBadAt}
+use Rattle.pg_messages.specs.Frame.{framed, message_layout, IsCut, BeginsWith, IsTooLong, IsBadAt}
 use Rattle.pg_messages.specs.Fronts.{frame_at, judged, opened, typed}
 use Rattle.pg_messages.proofs.FieldLemmas.{chosen, is_byte}
 use Rattle.pg_messages.proofs.EntryLemmas.{if_true, if_false}
-use Rattle.pg_messages.proofs.FrameLemmas.{states, body_in_front, frame_case, NeedsMore, IsWholeTail, IsMalformedTail, more_to, more_from, long_to, long_from, bad_to, small_from, there_from, whole_to, cut_is, found, again_from}
+use Rattle.pg_messages.proofs.FrameLemmas.{states, body_in_front, frame_case, NeedsMore, more_to, more_from, long_to, long_from, bad_to, small_from, there_from, whole_to, cut_is, found, again_from}
 
 -- ---- what follows changes nothing, once the front is no beginning
 

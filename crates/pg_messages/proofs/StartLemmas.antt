@@ -1,25 +1,25 @@
 -- The first message of a connection: what is read is what is spelled, and what stands at the front of the bytes.
-use Rattle.std.proofs.Common.{◌≡◌, ℕ, ℤ, suc, ◌+◌, ◌-◌, ◌*◌, ◌/◌, ◌%◌, ◌^◌, ◌<◌, ◌≤◌, Bool, true, false, cond, eqb, ltb, List, [], ◌∷◌, ◌++◌, length, take, drop, Option, Some, None, refl, sym, ap, subst, ◌∙◌, append_assoc, arith, inl, inr, ◌⊎◌, length-append, length-drop}
+use Rattle.std.proofs.Common.{◌≡◌, ℕ, ℤ, ◌+◌, ◌-◌, ◌^◌, ◌<◌, ◌≤◌, true, false, cond, eqb, ltb, List, [], ◌∷◌, ◌++◌, length, take, drop, Some, None, refl, sym, ap, subst, ◌∙◌, append_assoc, arith, inl, inr, length-append}
 use Rattle.std.specs.Prelude.{All}
 use Rattle.std.specs.Int.{w16, w32, from_be_bytes}
 use Rattle.std.specs.Int.RustNames.{FitsSigned}
-use Rattle.std.proofs.lemmas.Bool.{eqb-true, eqb-false, le-ltb, cases_lt}
-use Rattle.std.proofs.lemmas.List.{take-append-drop, length-take, append-nil}
+use Rattle.std.proofs.lemmas.Bool.{eqb-true, le-ltb}
+use Rattle.std.proofs.lemmas.List.{take-append-drop, length-take}
 use Rattle.std.proofs.lemmas.List.Elements.{All-take, All-drop}
 use Rattle.pg_messages.specs.declared.read.Read.{Read}
 use Rattle.pg_messages.specs.declared.read.Read.TheVariants.{Whole, More, Bad, TooLong}
 use Rattle.pg_messages.specs.declared.start.Pair.{Pair}
 use Rattle.pg_messages.specs.declared.start.StartMessage.{StartMessage}
 use Rattle.pg_messages.specs.declared.start.StartMessage.TheVariants.{Start, Ssl, Gss, Cancel}
-use Rattle.pg_messages.specs.Fields.{int16, int32, signed32, string, zero_ended, pair, IsString, AreBytes, PairInRange}
-use Rattle.pg_messages.specs.Frame.{start_framed, start_layout, stated, Opens, IsHeaded, IsSized, IsCut, BeginsWith, IsTooLong, IsBadAt}
-use Rattle.pg_messages.specs.Start.{body_of, spelling, IsOption, IsClean, InRange, IsStartForm, IsAnyByte}
+use Rattle.pg_messages.specs.Fields.{int16, int32, signed32, zero_ended, pair, AreBytes, PairInRange}
+use Rattle.pg_messages.specs.Frame.{start_framed, start_layout, Opens, IsCut, BeginsWith, IsTooLong, IsBadAt}
+use Rattle.pg_messages.specs.Start.{body_of, IsOption, IsClean, InRange, IsStartForm, IsAnyByte}
 use Rattle.pg_messages.specs.Reading.{◌>>=◌, number_at, signed_at, pair_at, zero_ended_at, whole}
 use Rattle.pg_messages.specs.Bodies.{options_in, cancel_in, start_in}
-use Rattle.pg_messages.specs.Fronts.{frame_at, judged, opened, start_front}
-use Rattle.pg_messages.proofs.FieldLemmas.{chosen, is_byte, IsText, number16, number32, number32_signed, not_equal}
-use Rattle.pg_messages.proofs.EntryLemmas.{step, then_some, if_true, if_false, IsPair, pair_field, pair_leads, zero_ended_field}
-use Rattle.pg_messages.proofs.BodyLemmas.{whole_is, at_end, one, two, three, each}
+use Rattle.pg_messages.specs.Fronts.{frame_at, judged, opened}
+use Rattle.pg_messages.proofs.FieldLemmas.{chosen, is_byte, number16, number32, number32_signed, not_equal}
+use Rattle.pg_messages.proofs.EntryLemmas.{step, then_some, if_false, IsPair, pair_field, pair_leads, zero_ended_field}
+use Rattle.pg_messages.proofs.BodyLemmas.{whole_is, at_end, one, three, each}
 use Rattle.pg_messages.proofs.FrameLemmas.{states, body_in_front, more_to, more_from, long_to, long_from, bad_to, small_from, there_from, whole_to, cut_is, again_from}
 use Rattle.pg_messages.proofs.SideLemmas.{tail_stays, tail_cut, no_body}
 

@@ -1,5 +1,5 @@
 -- Reading bodies: the message that a type and a body spell, if they spell one.
-use Rattle.std.specs.Prelude.{ℕ, zero, suc, List, [], ◌∷◌, length, Option, Some, None, Bool, true, false, ◌==◌, ◌||◌, ◌&&◌, if◌then◌else◌}
+use Rattle.std.specs.Prelude.{ℕ, List, [], ◌∷◌, Option, Some, None, Bool, ◌==◌, ◌||◌, if◌then◌else◌}
 use Rattle.std.specs.Int.{w16, w32}
 use Rattle.pg_messages.specs.declared.client.ClientMessage.{ClientMessage}
 use Rattle.pg_messages.specs.declared.client.ClientMessage.TheVariants as client

@@ -1,5 +1,5 @@
 -- How the fields of a message are spelled, and what may stand in them.
-use Rattle.std.specs.Prelude.{ℕ, ◌+◌, ◌<◌, ◌^◌, ℤ, List, [], ◌∷◌, ◌++◌, length, Option, Some, None, All, Bool, true, false, IfSome}
+use Rattle.std.specs.Prelude.{ℕ, ◌<◌, ◌^◌, ℤ, List, [], ◌∷◌, ◌++◌, length, Option, Some, None, All, Bool, true, false, IfSome}
 use Rattle.std.specs.List.{flat_map}
 use Rattle.std.specs.Int.{w16, w32, to_be_bytes, cast_unsigned}
 use Rattle.std.specs.Int.RustNames.{FitsSigned}

@@ -1,11 +1,11 @@
 -- The messages that begin a connection as bytes.
-use Rattle.std.specs.Prelude.{◌≡◌, ℕ, ◌+◌, ◌<◌, ◌≤◌, ◌^◌, List, [], ◌∷◌, ◌++◌, length, All}
+use Rattle.std.specs.Prelude.{◌≡◌, ℕ, ◌+◌, ◌<◌, ◌≤◌, ◌^◌, List, ◌++◌, length, All}
 use Rattle.std.specs.Int.{w32}
 use Rattle.std.specs.Int.RustNames.{FitsSigned}
 use Rattle.pg_messages.specs.declared.start.Pair.{Pair}
 use Rattle.pg_messages.specs.declared.start.StartMessage.{StartMessage}
 use Rattle.pg_messages.specs.declared.start.StartMessage.TheVariants.{Start, Ssl, Gss, Cancel}
-use Rattle.pg_messages.specs.Fields.{int16, int32, signed32, zero_ended, pair, IsString, AreBytes, PairInRange}
+use Rattle.pg_messages.specs.Fields.{int16, int32, signed32, zero_ended, pair, IsString, PairInRange}
 use Rattle.pg_messages.specs.Frame.{start_framed}
 
 -- the version and the options, or the number of a request

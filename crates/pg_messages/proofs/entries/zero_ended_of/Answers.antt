@@ -1,6 +1,6 @@
-use Rattle.std.proofs.Common.{◌≡◌, ◌<◌, length, get_or, sym, ◌∙◌, arith}
+use Rattle.std.proofs.Common.{◌≡◌, ◌<◌, length, get_or, arith}
 use Rattle.std.proofs.lemmas.Result.{err_from_is_err_and}
-use Rattle.pg_messages.specs.Reading.{entries_below, zero_ended_at}
+use Rattle.pg_messages.specs.Reading.{zero_ended_at}
 use Rattle.pg_messages.proofs.Loops.{below_empty, below_out, below_zero, below_goes_on, below_ends}
 use Rattle.pg_messages.proofs.entries.zero_ended_of.Goals as goal
 
