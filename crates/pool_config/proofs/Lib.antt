@@ -9,3 +9,4 @@ pub mod Nodes
 pub mod Grammar
 pub mod Laws
 pub mod Printing
+pub mod Allowing

@@ -3,7 +3,7 @@ ghost use Rattle.std.specs.Prelude.{◌≡◌, ◌<◌, ◌+◌, ℕ, length, If
 ghost use Rattle.pool_config.specs.Bytes.{lines};
 ghost use Rattle.pool_config.specs.Form.{spelling_of};
 ghost use Rattle.pool_config.specs.Value.{value_of};
-ghost use Rattle.pool_config.specs.Configuration.{Says, IsConfiguration, IsAnswer};
+ghost use Rattle.pool_config.specs.Configuration.{Says, IsConfiguration, IsAnswer, IsAllowed};
 ghost use Rattle.pool_config.specs.Reader.{Gives, read_lines, setting_at, set_by, refused, answer_of};
 
 use crate::assemble::{Setting, configuration};
@@ -26,6 +26,8 @@ pub fn parse_config(alloc: Global, text: &[u8]) -> Result<Config, ConfigFault>
     ensures says { Says text.now result }
     // The configuration that the text says is the answer.
     ensures found { (config : Config) → IsConfiguration text.now config → IsAnswer config result }
+    // The values are in their ranges, so `write_config` may write them.
+    ensures allowed { IfOk result (λ config. IsAllowed config) }
 {
     answer_to(alloc, text)
 }
