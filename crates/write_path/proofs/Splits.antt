@@ -67,10 +67,11 @@ module _ {A : Type 0} (eq : A → A → Bool) (laws : IsEquivalence eq) (attache
   pub agreed : (holder bits : ℕ) → has_answer (seen_by attached ys) holder ≡ true → bits ≡ 0
       → ((k : ℕ) → k < 8 → has bits k ≡ differs_at eq (seen_by attached zs) holder k)
       → (⊥ → DoDiffer eq (seen_by attached xs)) × (DoDiffer eq (seen_by attached xs) → ⊥)
-  agreed holder bits has_one none differ =
-      (λ e. absurd e,
-       no_two eq laws (seen_by attached xs) holder (subst (λ (l : List (Option (Taken A))). has_answer (seen_by attached l) holder ≡ true) first has_one)
-         (λ k below. sym (subst (λ (l : List (Option (Taken A))). has bits k ≡ differs_at eq (seen_by attached l) holder k) second (differ k below)) ∙ ap (λ b. has b k) none ∙ nobody k below))
+  agreed holder bits has_one none differ = (
+    λ e. absurd e,
+    no_two eq laws (seen_by attached xs) holder (subst (λ (l : List (Option (Taken A))). has_answer (seen_by attached l) holder ≡ true) first has_one)
+        (λ k below. sym (subst (λ (l : List (Option (Taken A))). has bits k ≡ differs_at eq (seen_by attached l) holder k) second (differ k below)) ∙ ap (λ b. has b k) none ∙ nobody k below),
+  )
 
   -- where somebody differs from the holder, two differ
   pub split : (holder bits : ℕ) → holder < 8 → bits < 256 → bits ≢ 0

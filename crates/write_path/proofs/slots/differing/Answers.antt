@@ -15,7 +15,7 @@ loop-at-preserved g c =
       | then-differs w ↦
           let is : c.if-differs.set.bits ≡ w.joined-set.result.bits = ap (λ x. x.bits) w.set-is in
           λ k k_below. ap (λ b. has b k) is
-              ∙ grown s w.joined-set.result.bits at d w.joined-set.ensures (sym c.differs.ensures ∙ w.if-differs.true) c.loop-at.invariant k k_below
+          ∙ grown s w.joined-set.result.bits at d w.joined-set.ensures (sym c.differs.ensures ∙ w.if-differs.true) c.loop-at.invariant k k_below
       | else-differs w ↦
           let is : c.if-differs.set.bits ≡ s = ap (λ x. x.bits) w.set-is in
           λ k k_below. ap (λ b. has b k) is ∙ left_out s at d (sym c.differs.ensures ∙ w.if-differs.false) c.loop-at.invariant k k_below
