@@ -1,0 +1,4 @@
+pub mod Asking
+pub mod Going
+pub mod Transitions
+pub mod Stages

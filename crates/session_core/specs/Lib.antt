@@ -1,0 +1,4 @@
+pub mod Statements
+pub mod Standing
+pub mod Chains
+pub mod Steps
