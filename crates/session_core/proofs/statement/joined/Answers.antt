@@ -6,4 +6,4 @@ use Rattle.session_core.proofs.statement.joined.Goals as goal
 pub returns : goal.returns
 returns c = λ k below.
     let fits : c.args.set.bits < 256 = search rules in
-    ap (λ b. has b k) c.with.ensures ∙ with_has c.args.set.bits c.args.b.number k fits c.args.b.below_8 below
+    ap (λ b. has b k) c.with.ensures.bits ∙ with_has c.args.set.bits c.args.b.number k fits c.args.b.below_8 below
