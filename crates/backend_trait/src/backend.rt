@@ -40,13 +40,17 @@ pub trait Backend: Drop {
         requires pending { IsSome ((meaning self.old).pending s.number) }
 
         // Of every backend: an answer has the form of its request, and what it leaves follows it.
-        ensures form { InForm (meaning self.old) s.number result (count self.old) (count self.new) (meaning self.new) }
+        ensures form { InForm (meaning self.old) s.number result (count self.old) (count self.new)
+            (meaning self.new) }
         ensures count { count self.old ≤ count self.new }
 
         // Of an honest one, of a prompt one, and of a steady one.
-        ensures acts { is_honest self.old ≡ true → Acts (meaning self.old) s.number result (meaning self.new) }
-        ensures promptly { is_prompt self.old ≡ true → IsPromptly (meaning self.old) s.number result }
-        ensures stays { is_steady self.old ≡ true → (meaning self.new).lost ≡ (meaning self.old).lost }
+        ensures acts { is_honest self.old ≡ true
+            → Acts (meaning self.old) s.number result (meaning self.new) }
+        ensures promptly { is_prompt self.old ≡ true
+            → IsPromptly (meaning self.old) s.number result }
+        ensures stays { is_steady self.old ≡ true
+            → (meaning self.new).lost ≡ (meaning self.old).lost }
 
         ensures honest { is_honest self.new ≡ is_honest self.old }
         ensures prompt { is_prompt self.new ≡ is_prompt self.old }

@@ -34,8 +34,10 @@ impl MemoryStore {
     /// Runs a statement in a transaction of its own, and commits it. After want of memory the rows
     /// are as before.
     pub fn run(&mut self, statement: Checked) -> Result<Answer, NoMemory>
-        ensures answer { IfOk result (λ answer. IsEffect (given_on (committed_rows self.old) statement) answer) }
-        ensures rows { IfOk result (λ answer. committed_rows self.new ≡ rows_after (committed_rows self.old) statement) }
+        ensures answer { IfOk result
+            (λ answer. IsEffect (given_on (committed_rows self.old) statement) answer) }
+        ensures rows { IfOk result
+            (λ answer. committed_rows self.new ≡ rows_after (committed_rows self.old) statement) }
         ensures err { OnErr result (committed_rows self.new ≡ committed_rows self.old) }
     {
         match statement {
@@ -48,8 +50,12 @@ impl MemoryStore {
     }
 
     fn insert(&mut self, key: i32, value: i64) -> Result<Answer, NoMemory>
-        ensures answer { IfOk result (λ answer. IsEffect (given_on (committed_rows self.old) (Checked.Insert key value)) answer) }
-        ensures rows { IfOk result (λ answer. committed_rows self.new ≡ rows_after (committed_rows self.old) (Checked.Insert key value)) }
+        ensures answer { IfOk result
+            (λ answer. IsEffect (given_on (committed_rows self.old) (Checked.Insert key value))
+            answer) }
+        ensures rows { IfOk result
+            (λ answer. committed_rows self.new ≡ rows_after (committed_rows self.old)
+            (Checked.Insert key value)) }
         ensures err { OnErr result (committed_rows self.new ≡ committed_rows self.old) }
     {
         if self.table.contains_key(&key) {

@@ -11,13 +11,15 @@ pub enum ClientMessage {
     Query {
         text: List<u8>,
     },
-    /// A statement to be prepared under a name; `kinds` are OIDs of parameter types, 0 for none stated.
+    /// A statement to be prepared under a name; `kinds` are OIDs of parameter types, 0 for none
+    /// stated.
     Parse {
         name: List<u8>,
         text: List<u8>,
         kinds: List<u32>,
     },
-    /// A portal to be made of the statement `name`; `formats` and `results` are 0 (text) and 1 (binary).
+    /// A portal to be made of the statement `name`; `formats` and `results` are 0 (text) and 1
+    /// (binary).
     Bind {
         portal: List<u8>,
         name: List<u8>,
@@ -43,7 +45,8 @@ pub enum ClientMessage {
     Flush,
     Sync,
     Terminate,
-    /// A function call, a password or a part of a COPY: `F`, `p`, `d`, `c` or `f`, whose body is not kept.
+    /// A function call, a password or a part of a COPY: `F`, `p`, `d`, `c` or `f`, whose body is
+    /// not kept.
     Other {
         tag: u8,
     },

@@ -145,15 +145,20 @@ fn client_front_of(alloc: Global, bytes: &[u8]) -> Result<Read<ClientMessage>, N
 /// Reads the message of a client at the front of `bytes`. What follows it is not looked at.
 ///
 /// Shape: `Byte1 type`, `Int32 length`, body. The length counts itself and the body, not the type.
-/// Source: PostgreSQL, Frontend/Backend Protocol, "Message Formats". House rule: a length is at most 1048576.
+/// Source: PostgreSQL, Frontend/Backend Protocol, "Message Formats". House rule: a length is at
+/// most 1048576.
 pub fn read_client(alloc: Global, bytes: &[u8]) -> Result<Read<ClientMessage>, NoMemory>
     // Whole, exactly where the bytes begin with a form of that message.
-    ensures whole { IfOk result (λ read. (m : ClientMessage) (n : ℕ) → (read ≡ Whole m n) ↔ BeginsWith IsClientForm m n bytes.now) }
-    ensures more { IfOk result (λ read. (read ≡ More) ↔ IsCut message_layout IsClientType bytes.now) }
+    ensures whole { IfOk result (λ read. (m : ClientMessage) (n : ℕ) → (read ≡ Whole m n)
+        ↔ BeginsWith IsClientForm m n bytes.now) }
+    ensures more { IfOk result (λ read. (read ≡ More)
+        ↔ IsCut message_layout IsClientType bytes.now) }
 
     // Which fault it is.
-    ensures bad { IfOk result (λ read. (place : ℕ) → (read ≡ Bad place) ↔ IsBadAt message_layout IsClientType IsClientForm place bytes.now) }
-    ensures too_long { IfOk result (λ read. (n : ℕ) → (read ≡ TooLong n) ↔ IsTooLong message_layout IsClientType n bytes.now) }
+    ensures bad { IfOk result (λ read. (place : ℕ) → (read ≡ Bad place)
+        ↔ IsBadAt message_layout IsClientType IsClientForm place bytes.now) }
+    ensures too_long { IfOk result (λ read. (n : ℕ) → (read ≡ TooLong n)
+        ↔ IsTooLong message_layout IsClientType n bytes.now) }
 
     // All of that, as a function of the bytes.
     ensures exact { IfOk result (λ read. read ≡ client_front bytes.now) }

@@ -84,8 +84,10 @@ fn put_bind(
     requires values { IsCountable values.now }
     requires values_fit { All ValueFits values.now }
     requires results { IsCountable results.now }
-    ensures put { OnOk result (onto.new ≡ onto.old ++ body_of (Bind portal.now name.now formats.now values.now results.now)) }
-    ensures in_range { OnOk result (InRange (Bind portal.now name.now formats.now values.now results.now)) }
+    ensures put { OnOk result (onto.new ≡ onto.old ++ body_of (Bind portal.now name.now formats.now
+        values.now results.now)) }
+    ensures in_range { OnOk result (InRange (Bind portal.now name.now formats.now values.now
+        results.now)) }
     ensures kept { OnErr result (Keeps onto.old onto.new) }
 {
     put_string(portal, onto)?;
@@ -154,7 +156,9 @@ pub fn write_client(message: &ClientMessage, onto: &mut List<u8>) -> Result<(), 
     requires { Fits message.now }
     ensures spelled { OnOk result (onto.new ≡ onto.old ++ spelling message.now) }
     // What was appended is read again as the same message, whatever follows it.
-    ensures again { OnOk result ((rest : Sequence ℕ) → client_front (spelling message.now ++ rest) ≡ Whole message.now (length (spelling message.now))) }
+    ensures again { OnOk result ((rest : Sequence ℕ)
+        → client_front (spelling message.now ++ rest) ≡ Whole message.now (length (spelling
+        message.now))) }
     ensures kept { OnErr result (onto.new ≡ onto.old) }
 {
     let before = onto.len();

@@ -7,7 +7,8 @@ use crate::field_fault::FieldFault;
 use crate::read::Read;
 use pool_base::NoMemory;
 
-/// The most that a message may state as its length, in bytes. The length counts itself and the body, not the type.
+/// The most that a message may state as its length, in bytes. The length counts itself and the
+/// body, not the type.
 pub const MESSAGE_LIMIT: u32 = 1_048_576;
 
 /// The most that a start message may state as its length, in bytes.
@@ -28,14 +29,16 @@ pub const MESSAGE: Layout = Layout {
     most: MESSAGE_LIMIT,
 };
 
-/// The first message of a connection: the length stands at the front, and a code or version follows.
+/// The first message of a connection: the length stands at the front, and a code or version
+/// follows.
 pub const START: Layout = Layout {
     place: 0,
     least: 8,
     most: START_LIMIT,
 };
 
-/// The body that the length in front of it tells, and the bytes that the message takes with its type.
+/// The body that the length in front of it tells, and the bytes that the message takes with its
+/// type.
 #[tactic(auto, unfolding(crate::specs::Fronts::frame_at))]
 pub fn frame_of(layout: Layout, bytes: &[u8]) -> Read<&[u8]>
     requires place { layout.place ≤ 1 }

@@ -1,4 +1,5 @@
-//! The messages of the PostgreSQL frontend/backend protocol 3.0, read from bytes and written as bytes.
+//! The messages of the PostgreSQL frontend/backend protocol 3.0, read from bytes and written as
+//! bytes.
 //! Each message has one spelling, and every proper beginning of one asks for more.
 #![tactic(auto)]
 

@@ -31,7 +31,8 @@ pub enum ServerMessage {
     Suspended,
 }
 
-/// A column of a result: `kind` is the OID of its type, `size` its bytes or -1, `format` 0 (text) or 1 (binary).
+/// A column of a result: `kind` is the OID of its type, `size` its bytes or -1, `format` 0 (text)
+/// or 1 (binary).
 #[derive(Debug, PartialEq, Eq, Drop)]
 pub struct Field {
     pub name: List<u8>,

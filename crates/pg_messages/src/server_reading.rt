@@ -179,15 +179,20 @@ fn server_front_of(alloc: Global, bytes: &[u8]) -> Result<Read<ServerMessage>, N
 /// Reads the message of a server at the front of `bytes`. What follows it is not looked at.
 ///
 /// Shape: `Byte1 type`, `Int32 length`, body. The length counts itself and the body, not the type.
-/// Source: PostgreSQL, Frontend/Backend Protocol, "Message Formats". House rule: a length is at most 1048576.
+/// Source: PostgreSQL, Frontend/Backend Protocol, "Message Formats". House rule: a length is at
+/// most 1048576.
 pub fn read_server(alloc: Global, bytes: &[u8]) -> Result<Read<ServerMessage>, NoMemory>
     // Whole, exactly where the bytes begin with the spelling of that message.
-    ensures whole { IfOk result (λ read. (m : ServerMessage) (n : ℕ) → (read ≡ Whole m n) ↔ BeginsWith IsServerForm m n bytes.now) }
-    ensures more { IfOk result (λ read. (read ≡ More) ↔ IsCut message_layout IsServerType bytes.now) }
+    ensures whole { IfOk result (λ read. (m : ServerMessage) (n : ℕ) → (read ≡ Whole m n)
+        ↔ BeginsWith IsServerForm m n bytes.now) }
+    ensures more { IfOk result (λ read. (read ≡ More)
+        ↔ IsCut message_layout IsServerType bytes.now) }
 
     // Which fault it is.
-    ensures bad { IfOk result (λ read. (place : ℕ) → (read ≡ Bad place) ↔ IsBadAt message_layout IsServerType IsServerForm place bytes.now) }
-    ensures too_long { IfOk result (λ read. (n : ℕ) → (read ≡ TooLong n) ↔ IsTooLong message_layout IsServerType n bytes.now) }
+    ensures bad { IfOk result (λ read. (place : ℕ) → (read ≡ Bad place)
+        ↔ IsBadAt message_layout IsServerType IsServerForm place bytes.now) }
+    ensures too_long { IfOk result (λ read. (n : ℕ) → (read ≡ TooLong n)
+        ↔ IsTooLong message_layout IsServerType n bytes.now) }
 
     // All of that, as a function of the bytes.
     ensures exact { IfOk result (λ read. read ≡ server_front bytes.now) }

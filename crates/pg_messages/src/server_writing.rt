@@ -114,7 +114,9 @@ pub fn write_server(message: &ServerMessage, onto: &mut List<u8>) -> Result<(), 
     requires { Fits message.now }
     ensures spelled { OnOk result (onto.new ≡ onto.old ++ spelling message.now) }
     // What was appended is read again as the same message, whatever follows it.
-    ensures again { OnOk result ((rest : Sequence ℕ) → server_front (spelling message.now ++ rest) ≡ Whole message.now (length (spelling message.now))) }
+    ensures again { OnOk result ((rest : Sequence ℕ)
+        → server_front (spelling message.now ++ rest) ≡ Whole message.now (length (spelling
+        message.now))) }
     ensures kept { OnErr result (onto.new ≡ onto.old) }
 {
     let before = onto.len();

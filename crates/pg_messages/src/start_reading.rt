@@ -78,18 +78,23 @@ fn start_front_of(alloc: Global, bytes: &[u8]) -> Result<Read<StartMessage>, NoM
     }
 }
 
-/// Reads the first message of a connection at the front of `bytes`. What follows it is not looked at.
+/// Reads the first message of a connection at the front of `bytes`. What follows it is not looked
+/// at.
 ///
 /// Shape: `Int32 length`, body. The length counts itself.
-/// Source: PostgreSQL, Frontend/Backend Protocol, "Message Formats". A length is at most 10000, as there.
+/// Source: PostgreSQL, Frontend/Backend Protocol, "Message Formats". A length is at most 10000, as
+/// there.
 pub fn read_start(alloc: Global, bytes: &[u8]) -> Result<Read<StartMessage>, NoMemory>
     // Whole, exactly where the bytes begin with the spelling of that message.
-    ensures whole { IfOk result (λ read. (m : StartMessage) (n : ℕ) → (read ≡ Whole m n) ↔ BeginsWith IsStartForm m n bytes.now) }
+    ensures whole { IfOk result (λ read. (m : StartMessage) (n : ℕ) → (read ≡ Whole m n)
+        ↔ BeginsWith IsStartForm m n bytes.now) }
     ensures more { IfOk result (λ read. (read ≡ More) ↔ IsCut start_layout IsAnyByte bytes.now) }
 
     // Which fault it is.
-    ensures bad { IfOk result (λ read. (place : ℕ) → (read ≡ Bad place) ↔ IsBadAt start_layout IsAnyByte IsStartForm place bytes.now) }
-    ensures too_long { IfOk result (λ read. (n : ℕ) → (read ≡ TooLong n) ↔ IsTooLong start_layout IsAnyByte n bytes.now) }
+    ensures bad { IfOk result (λ read. (place : ℕ) → (read ≡ Bad place)
+        ↔ IsBadAt start_layout IsAnyByte IsStartForm place bytes.now) }
+    ensures too_long { IfOk result (λ read. (n : ℕ) → (read ≡ TooLong n)
+        ↔ IsTooLong start_layout IsAnyByte n bytes.now) }
 
     // All of that, as a function of the bytes.
     ensures exact { IfOk result (λ read. read ≡ start_front bytes.now) }

@@ -187,8 +187,8 @@ fn start_messages_of_drivers(rt: HostRuntime) -> Result<(), Fail> {
             2,
         ),
         (
-            b"\x00\x00\x00\x65\x00\x03\x00\x00user\x00ann\x00database\x00shop\x00client_encoding\x00UTF8\x00\
-DateStyle\x00ISO\x00TimeZone\x00UTC\x00extra_float_digits\x002\x00\x00",
+            b"\x00\x00\x00\x65\x00\x03\x00\x00user\x00ann\x00database\x00shop\x00\
+client_encoding\x00UTF8\x00DateStyle\x00ISO\x00TimeZone\x00UTC\x00extra_float_digits\x002\x00\x00",
             6,
         ),
     ];
@@ -214,15 +214,18 @@ DateStyle\x00ISO\x00TimeZone\x00UTC\x00extra_float_digits\x002\x00\x00",
     Ok(())
 }
 
-// `psql` sends a text as a Query; the JDBC driver sends the messages of the extended protocol with an
+// `psql` sends a text as a Query; the JDBC driver sends the messages of the extended protocol with
+// an
 // int4 parameter in binary form and a limit of one row; `pgbench -M prepared` names its statement.
 #[test]
 fn statements_of_drivers_are_read_and_written(rt: HostRuntime) -> Result<(), Fail> {
     let mut bytes: &[u8] = b"Q\x00\x00\x00\x0eSELECT 1;\x00\
 P\x00\x00\x00\x2aS_1\x00SELECT v FROM t WHERE id=$1\x00\x00\x01\x00\x00\x00\x17\
-B\x00\x00\x00\x1b\x00S_1\x00\x00\x01\x00\x01\x00\x01\x00\x00\x00\x04\x00\x00\x00\x07\x00\x01\x00\x01\
+B\x00\x00\x00\x1b\x00S_1\x00\x00\x01\x00\x01\x00\x01\
+\x00\x00\x00\x04\x00\x00\x00\x07\x00\x01\x00\x01\
 D\x00\x00\x00\x06P\x00E\x00\x00\x00\x09\x00\x00\x00\x00\x01S\x00\x00\x00\x04\
-P\x00\x00\x00\x14P_0\x00SELECT 1;\x00\x00\x00C\x00\x00\x00\x09SP_0\x00H\x00\x00\x00\x04X\x00\x00\x00\x04";
+P\x00\x00\x00\x14P_0\x00SELECT 1;\x00\x00\x00\
+C\x00\x00\x00\x09SP_0\x00H\x00\x00\x00\x04X\x00\x00\x00\x04";
     let all = bytes;
     let mut written = List::new(rt.alloc());
     let tags = b"QPBDESPCHX";
@@ -265,7 +268,9 @@ fn a_description_of_a_column_is_spelled_as_the_manual_has_it(rt: HostRuntime) ->
     }
     assert_eq!(rt;
         written.as_slice(),
-        b"T\x00\x00\x00\x1b\x00\x01id\x00\x00\x00\x00\x00\x00\x00\x00\x00\x00\x17\x00\x04\xff\xff\xff\xff\x00\x00".as_slice()
+        b"T\x00\x00\x00\x1b\x00\x01id\x00\x00\x00\x00\x00\x00\x00\
+\x00\x00\x00\x17\x00\x04\xff\xff\xff\xff\x00\x00"
+            .as_slice()
     );
     let nul = ServerMessage::Complete {
         tag: list(rt, b"a\x00")?,

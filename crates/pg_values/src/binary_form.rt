@@ -138,7 +138,8 @@ pub fn from_binary(alloc: Global, kind: ColType, bytes: &[u8]) -> Result<Value, 
     ensures code { IfRefused result (RefusesBinary kind bytes.now) }
 
     // The other way round, unless memory was refused.
-    ensures each_value { (value : Value) → ReadsBinary kind bytes.now value → IsValueOr result value }
+    ensures each_value { (value : Value) → ReadsBinary kind bytes.now value
+        → IsValueOr result value }
     ensures each_code { (code : List ℕ) → RefusesBinary kind bytes.now code → IsCodeOr result code }
     ensures memory { IsRefusedFor result (kind ≡ col.Text) }
 {

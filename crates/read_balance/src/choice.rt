@@ -5,16 +5,19 @@ ghost use Rattle.read_balance.specs.Picking.{IsFirstOver, weight_at, weight_belo
 
 use pool_base::{BackendId, BackendSet};
 
-/// The backend that answers a read: the attached backends take turns by their weights, as the ticket
+/// The backend that answers a read: the attached backends take turns by their weights, as the
+/// ticket
 /// says; where no attached backend has a weight, the lowest of them. It takes no memory.
 ///
 /// Units: `weights` has a weight for each backend by its number.
 pub fn pick(weights: &[u32], attached: BackendSet, ticket: u64) -> BackendId
     requires some { ¬ (IsEmptySet attached.bits) }
     requires weighed { (b : ℕ) → b < 8 → has attached.bits b ≡ true → b < length weights.now }
-    ensures idle { weight_of_all weights.now attached.bits ≡ 0 → IsLowest attached.bits result.number }
+    ensures idle { weight_of_all weights.now attached.bits ≡ 0
+        → IsLowest attached.bits result.number }
     ensures turn { 0 < weight_of_all weights.now attached.bits
-        → IsFirstOver weights.now attached.bits (ticket % weight_of_all weights.now attached.bits) result.number }
+        → IsFirstOver weights.now attached.bits
+        (ticket % weight_of_all weights.now attached.bits) result.number }
 {
     let total = weight_of_all(weights, attached);
     if total > 0 {

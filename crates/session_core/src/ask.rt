@@ -47,7 +47,8 @@ pub(crate) fn ask<B: Backend>(
     ensures honest { B.is_honest one.new ≡ true }
     ensures prompt { B.is_prompt one.new ≡ true }
     ensures steady { B.is_steady one.new ≡ true }
-    ensures asked { IfOk result (λ answer. IsAsked (B.meaning one.old) s.number request answer (B.meaning one.new)) }
+    ensures asked { IfOk result
+        (λ answer. IsAsked (B.meaning one.old) s.number request answer (B.meaning one.new)) }
 {
     match one.post(s, request) {
         Posted::NoMemory(_) => Err(NoMemory),
@@ -81,7 +82,8 @@ fn ask_at<B: Backend>(
     request: Request,
 ) -> Result<Answer, NoMemory>
     requires below { b.number < length shelf.old }
-    requires may { (st : Store) → slice_get (map B.meaning shelf.old) b.number ≡ Some st → IsAlone s.number st × MayPost st s.number request }
+    requires may { (st : Store) → slice_get (map B.meaning shelf.old) b.number ≡ Some st
+        → IsAlone s.number st × MayPost st s.number request }
     requires honest { All (λ b. B.is_honest b ≡ true) shelf.old }
     requires prompt { All (λ b. B.is_prompt b ≡ true) shelf.old }
     requires steady { All (λ b. B.is_steady b ≡ true) shelf.old }
@@ -89,7 +91,9 @@ fn ask_at<B: Backend>(
     ensures honest { All (λ b. B.is_honest b ≡ true) shelf.new }
     ensures prompt { All (λ b. B.is_prompt b ≡ true) shelf.new }
     ensures steady { All (λ b. B.is_steady b ≡ true) shelf.new }
-    ensures asked { IfOk result (λ answer. AskedAt s.number request b.number answer (map B.meaning shelf.old) (map B.meaning shelf.new)) }
+    ensures asked { IfOk result
+        (λ answer. AskedAt s.number request b.number answer (map B.meaning shelf.old) (map
+        B.meaning shelf.new)) }
 {
     let at = usize::from(b.number);
     ask(&mut shelf[at], s, request)
@@ -115,8 +119,10 @@ pub(crate) fn go_down<B: Backend>(
     ensures prompt { All (λ b. B.is_prompt b ≡ true) shelf.new }
     ensures steady { All (λ b. B.is_steady b ≡ true) shelf.new }
     ensures kind { OnOk result (kind_of chain.new ≡ kind) }
-    ensures asked { OnOk result (WereAsked s.number (request_of step) (answer_of chain.new) (has_refused chain.new) (map B.meaning shelf.old) (map B.meaning shelf.new)) }
-    ensures end { OnOk result (HaveAllAnswered chain.new attached.bits ⊎ IsStopped chain.new attached.bits) }
+    ensures asked { OnOk result (WereAsked s.number (request_of step) (answer_of chain.new)
+        (has_refused chain.new) (map B.meaning shelf.old) (map B.meaning shelf.new)) }
+    ensures end { OnOk result (HaveAllAnswered chain.new attached.bits
+        ⊎ IsStopped chain.new attached.bits) }
 {
     chain.begin(kind);
     for _ in 0..shelf.len() {

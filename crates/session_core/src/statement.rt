@@ -12,7 +12,8 @@ use backend_trait::{Answer, Backend, Checked};
 use pool_base::{BackendId, BackendSet, NoMemory, SessionId};
 use write_path::{Chain, ChainKind, Judged};
 
-/// Runs a statement over the backends, in a transaction of its own that commits: it takes snapshots,
+/// Runs a statement over the backends, in a transaction of its own that commits: it takes
+/// snapshots,
 /// runs and commits down the chain in rising order. A refusal of the primary is rolled back.
 ///
 /// After want of memory nothing is said of the backends.
@@ -33,9 +34,12 @@ pub fn run_statement<B: Backend>(
     ensures prompt { All (λ b. B.is_prompt b ≡ true) shelf.new }
     ensures steady { All (λ b. B.is_steady b ≡ true) shelf.new }
 
-    // The answer is the statement's effect on the primary's rows, and each backend has the rows after.
-    ensures answer { IfOk result (λ answer. IsEffect (given_on (primary_rows (map B.meaning shelf.old)) statement) answer) }
-    ensures ready { OnOk result (AreReady (rows_after (primary_rows (map B.meaning shelf.old)) statement) (map B.meaning shelf.new)) }
+    // The answer is the statement's effect on the primary's rows, and each backend has the rows
+    // after.
+    ensures answer { IfOk result
+        (λ answer. IsEffect (given_on (primary_rows (map B.meaning shelf.old)) statement) answer) }
+    ensures ready { OnOk result (AreReady (rows_after (primary_rows (map B.meaning shelf.old))
+        statement) (map B.meaning shelf.new)) }
 {
     let attached = first(shelf.len());
     go_down(chain, ChainKind::All, shelf, attached, s, Step::Begin)?;
@@ -83,7 +87,8 @@ fn joined(set: BackendSet, b: BackendId) -> BackendSet
 fn kept(chain: &Chain<Answer>, attached: BackendSet) -> Result<Answer, NoMemory>
     requires end { HaveAllAnswered chain.now attached.bits ⊎ IsStopped chain.now attached.bits }
     requires some { (b : ℕ) × (b < 8) × (has attached.bits b ≡ true) }
-    ensures { IfOk result (λ answer. (b : ℕ) × (b < 8) × (has attached.bits b ≡ true) × (answer_of chain.now b ≡ Some answer)) }
+    ensures { IfOk result (λ answer. (b : ℕ) × (b < 8) × (has attached.bits b ≡ true)
+        × (answer_of chain.now b ≡ Some answer)) }
 {
     let holder = holder_of(chain.judge(attached));
     match chain.answer_of(holder) {

@@ -231,8 +231,10 @@ impl Gate {
 
     fn set_quiet(&mut self, quiet: u8) -> GateAnswer
         requires { quiet ≤ 3 }
-        ensures state { self.new.state ≡ Rattle.snapshot_gate.specs.Function.with_quiet self.old.state quiet }
-        ensures answer { result ≡ GateAnswer.Granted (Rattle.snapshot_gate.specs.Function.view_of self.new.state) }
+        ensures state { self.new.state ≡ Rattle.snapshot_gate.specs.Function.with_quiet
+            self.old.state quiet }
+        ensures answer { result ≡ GateAnswer.Granted (Rattle.snapshot_gate.specs.Function.view_of
+            self.new.state) }
     {
         let state = self.state;
         *self = Gate {

@@ -50,7 +50,8 @@ impl<A: Eq + Drop> Chain<A> {
     /// The backend that is to be asked next. None: the chain is at its end.
     pub fn next(&self, attached: BackendSet) -> Option<BackendId>
         // The end: all have answered, or the lowest has refused where that stops the chain.
-        ensures end { IsNone result ↔ (HaveAllAnswered self.now attached.bits ⊎ IsStopped self.now attached.bits) }
+        ensures end { IsNone result ↔ (HaveAllAnswered self.now attached.bits
+            ⊎ IsStopped self.now attached.bits) }
         // The lowest attached one that has not answered.
         ensures next { IfSome result (λ b. IsNext self.now attached.bits b.number) }
     {
@@ -83,7 +84,8 @@ impl<A: Eq + Drop> Chain<A> {
         requires end { HaveAllAnswered self.now attached.bits ⊎ IsStopped self.now attached.bits }
         requires some { (b : ℕ) × (b < 8) × (has attached.bits b ≡ true) }
         // The holder is the lowest of the largest group.
-        ensures holder { IsHolder A.eq (answers_among self.now attached.bits) (holder_of result).number }
+        ensures holder { IsHolder A.eq (answers_among self.now attached.bits) (holder_of
+            result).number }
         // Split: two answers differ, and these from the holder's.
         ensures split { IsSplit result ↔ DoDiffer A.eq (answers_among self.now attached.bits) }
         ensures differing { HasOnlyDiffering A.eq (answers_among self.now attached.bits) result }

@@ -124,7 +124,8 @@ pub(crate) fn differing<A: Eq>(
     holder: BackendId,
 ) -> BackendSet
     requires eight { length slots.now ≡ 8 }
-    ensures { (k : ℕ) → k < 8 → has result.bits k ≡ differs_at A.eq (seen_by attached.bits slots.now) holder.number k }
+    ensures { (k : ℕ) → k < 8
+        → has result.bits k ≡ differs_at A.eq (seen_by attached.bits slots.now) holder.number k }
 {
     let mut set = BackendSet::EMPTY;
     for at in 0..BACKENDS {
@@ -146,7 +147,8 @@ fn joined(set: BackendSet, b: BackendId) -> BackendSet
 pub(crate) fn first_open<A>(slots: &[Option<Taken<A>>], attached: BackendSet) -> Option<BackendId>
     requires eight { length slots.now ≡ 8 }
     ensures none { IfNone result ((k : ℕ) → k < 8 → is_open attached.bits slots.now k ≡ false) }
-    ensures lowest { IfSome result (λ b. (is_open attached.bits slots.now b.number ≡ true) × ((k : ℕ) → k < b.number → is_open attached.bits slots.now k ≡ false)) }
+    ensures lowest { IfSome result (λ b. (is_open attached.bits slots.now b.number ≡ true)
+        × ((k : ℕ) → k < b.number → is_open attached.bits slots.now k ≡ false)) }
 {
     for at in 0..BACKENDS {
         let b = BackendId { number: at };
