@@ -1,3 +1,5 @@
 pub mod formers
 pub mod Codes
 pub mod Sets
+pub mod Outside
+pub mod Reading

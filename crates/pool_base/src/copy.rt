@@ -1,0 +1,30 @@
+//! Copying a front of some bytes into a piece.
+ghost use Rattle.std.specs.Prelude.{◌≡◌, ◌<◌, ◌≤◌, take, drop, length};
+ghost use Rattle.pool_base.specs.Outside.{GaveAt, content};
+
+use crate::outside::Got;
+
+/// Copies as many bytes as there are and fit.
+pub(crate) fn copy_front(from: &[u8], into: &mut [u8]) -> usize
+    ensures len { length into.new ≡ length into.old }
+    ensures within { (result ≤ length into.old) × (result ≤ length from.now) }
+    ensures some { 0 < length into.old → 0 < length from.now → 1 ≤ result }
+    ensures bytes { take result into.new ≡ take result from.now }
+{
+    let count = from.len().min(into.len());
+    into[..count].copy_from_slice(&from[..count]);
+    count
+}
+
+/// Reads a content at a place.
+pub(crate) fn read_at(from: &[u8], place: u64, into: &mut [u8]) -> Got
+    requires { 0 < length into.old }
+    ensures len { length into.new ≡ length into.old }
+    ensures gives { GaveAt result place into.new (content from.now) }
+{
+    if place >= from.len() as u64 {
+        return Got::End;
+    }
+    let rest = from.split_at(place as usize).1;
+    Got::Bytes(copy_front(rest, into))
+}
