@@ -1,7 +1,9 @@
 -- Reading a file, one piece after another.
-use Rattle.std.proofs.Common.{◌≡◌, ℕ, zero, suc, ◌+◌, ◌-◌, ◌<◌, ◌≤◌, List, [], ◌∷◌, ◌++◌, length, take, drop, refl, sym, ap, subst, ◌∙◌, arith}
-use Rattle.std.proofs.lemmas.List.{append_assoc, take-append-drop, length-take-le, drop-drop}
-use Rattle.pool_base.specs.Outside.{Told, untold, absent, content, StandsAt, EndsBy, IsTold, IsLonger}
+use Rattle.std.proofs.Common.{◌≡◌, ℕ, ◌+◌, ◌≤◌, List, ◌++◌, length, take, drop, sym, ap, ◌∙◌}
+use Rattle.std.proofs.lemmas.List.{take-append-drop, length-take-le, drop-drop}
+use Rattle.pool_base.specs.Outside.{Told, untold, absent, content, GaveSurely, FaultyRead}
+use Rattle.pool_base.specs.declared.outside.Got.{Got}
+use Rattle.pool_base.specs.declared.outside.Got.TheVariants as got
 
 -- where it is told, these bytes are a front of the file
 abbrev pub IsFrontOf : Told → List ℕ → Type 0
@@ -14,3 +16,14 @@ pub copied : (all : List ℕ) (place n : ℕ) (bytes : List ℕ) → bytes ≡ t
 copied all place n bytes is within =
     let long : length bytes ≡ n = ap length is ∙ length-take-le n (drop place all) within in
     sym (take-append-drop n (drop place all)) ∙ ap (λ xs. xs ++ drop n (drop place all)) (sym is) ∙ ap (λ xs. bytes ++ xs) (drop-drop n place all) ∙ ap (λ k. bytes ++ drop (place + k) all) (sym long)
+
+-- bytes that were copied from what is left, and what is left then
+pub read_on : (all : List ℕ) (place n : ℕ) (bytes : List ℕ) → bytes ≡ take n (drop place all) → drop place all ≡ bytes ++ drop (place + n) all
+read_on all place n bytes is =
+    sym (take-append-drop n (drop place all)) ∙ ap (λ xs. xs ++ drop n (drop place all)) (sym is) ∙ ap (λ xs. bytes ++ xs) (drop-drop n place all)
+
+-- an answer that is no failure needs no fault
+pub surely : (answer : Got) (before after : ℕ) → GaveSurely answer → FaultyRead answer before after
+surely (got.Bytes count) before after h = tt
+surely got.End before after h = tt
+surely got.Failed before after h = absurd h

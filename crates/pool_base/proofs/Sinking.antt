@@ -1,5 +1,5 @@
 -- What a sink has taken, one piece after another.
-use Rattle.std.proofs.Common.{◌≡◌, ℕ, ◌<◌, ◌≤◌, List, [], ◌++◌, refl, sym, ap, ◌∙◌, take, drop, inl, inr, arith}
+use Rattle.std.proofs.Common.{◌≡◌, ℕ, ◌≤◌, List, [], ◌++◌, refl, sym, ap, ◌∙◌, take, drop, inl, inr, arith}
 use Rattle.std.specs.Prelude.{Option, Some, None}
 use Rattle.std.proofs.lemmas.List.{append_assoc, append-nil, take-append-drop}
 use Rattle.pool_base.specs.Outside.{Appends, AppendsFront, Rose}
@@ -48,3 +48,7 @@ rose_after a b c h r = elim r as (λ r. Rose a c) [ inl l ↦ inl (omega arith) 
 -- a count that rose, and then did not fall, rose in the whole time
 pub rose_before : (a b c : ℕ) → Rose a b → b ≤ c → Rose a c
 rose_before a b c r h = elim r as (λ r. Rose a c) [ inl l ↦ inl (omega arith) | inr l ↦ inr (omega arith) ]
+
+-- nothing is a front of anything
+pub front_nothing : (a : Option (List ℕ)) (x : List ℕ) → AppendsFront a a x
+front_nothing a x = record { front = []; rest = x; parts = refl; has = appends_nothing a }

@@ -3,3 +3,5 @@ pub mod Codes
 pub mod Sets
 pub mod Outside
 pub mod Reading
+pub mod Planned
+pub mod Moments

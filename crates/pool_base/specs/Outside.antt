@@ -1,5 +1,5 @@
 -- What lies outside the program: what a read gives, what a write takes, what is told of files.
-use Rattle.std.specs.Prelude.{◌≡◌, ℕ, ◌+◌, ◌<◌, ◌≤◌, ◌⊎◌, Bool, true, false, ◌||◌, List, [], ◌∷◌, ◌++◌, length, take, drop, Option, Some, None, bytes_eq, if◌then◌else◌}
+use Rattle.std.specs.Prelude.{◌≡◌, ℕ, ◌+◌, ◌<◌, ◌≤◌, ◌⊎◌, Bool, true, false, List, [], ◌∷◌, ◌++◌, length, take, drop, Option, Some, None, bytes_eq, unwrap_or, if◌then◌else◌}
 use Rattle.pool_base.specs.declared.outside.Got.{Got}
 use Rattle.pool_base.specs.declared.outside.Got.TheVariants as got
 use Rattle.pool_base.specs.declared.outside.Put.{Put}
@@ -95,8 +95,38 @@ IsLonger untold limit = Unit {0}
 IsLonger absent limit = ⊥
 IsLonger (content all) limit = limit < length all
 
--- the file of that name, where the first name goes with the first content and so on
+-- the content that stands beside a name, the first where there are several
+abbrev pub content_at : List (List ℕ) → List (List ℕ) → List ℕ → Option (List ℕ)
+content_at [] contents name = None
+content_at (other ∷ names) [] name = None
+content_at (other ∷ names) (bytes ∷ contents) name = if bytes_eq other name then Some bytes else content_at names contents name
+
+-- the file of that content, or none
+abbrev pub told_by : Option (List ℕ) → Told
+told_by None = absent
+told_by (Some bytes) = content bytes
+
+-- files in memory tell the content beside a name, and that no other file is there
 abbrev pub told_of : List (List ℕ) → List (List ℕ) → List ℕ → Told
-told_of [] contents name = absent
-told_of (other ∷ names) [] name = absent
-told_of (other ∷ names) (bytes ∷ contents) name = if bytes_eq other name then content bytes else told_of names contents name
+told_of names contents name = told_by (content_at names contents name)
+
+-- files that never fail tell the content beside a name, and that any other file is empty
+abbrev pub told_or_empty : List (List ℕ) → List (List ℕ) → List ℕ → Told
+told_or_empty names contents name = content (unwrap_or (content_at names contents name) [])
+
+-- the answer is no failure
+abbrev pub GaveSurely : Got → Type 0
+GaveSurely (got.Bytes count) = Unit {0}
+GaveSurely got.End = Unit {0}
+GaveSurely got.Failed = ⊥
+
+-- the answer is a failure
+abbrev pub is_failed : Got → Bool
+is_failed (got.Bytes count) = false
+is_failed got.End = false
+is_failed got.Failed = true
+
+-- a write that takes some takes all
+abbrev pub TakesAll : Put → List ℕ → Type 0
+TakesAll (put.Taken count) piece = count ≡ length piece
+TakesAll put.Failed piece = Unit {0}

@@ -34,7 +34,12 @@ impl From<NoMemory> for ReadFault {
 /// Reads a whole file of at most `limit` bytes.
 ///
 /// Units: `limit` counts bytes.
-pub fn read_whole<F: Files>(alloc: Global, files: &mut F, name: &str, limit: usize) -> Result<List<u8>, ReadFault>
+pub fn read_whole<F: Files>(
+    alloc: Global,
+    files: &mut F,
+    name: &str,
+    limit: usize,
+) -> Result<List<u8>, ReadFault>
     ensures whole { IfOk result (λ bytes. IsTold (F.contents files.old name.now) bytes) }
     ensures short { IfOk result (λ bytes. length bytes ≤ limit) }
     ensures kept { F.contents files.new ≡ F.contents files.old }
