@@ -1,0 +1,10 @@
+pub mod Runs
+pub mod DigitLemmas
+pub mod WordLemmas
+pub mod MomentLemmas
+pub mod CalendarTie
+pub mod MomentMeaning
+pub mod PrintLemmas
+pub mod Exactness
+pub mod RoundTrip
+pub mod OnePrint

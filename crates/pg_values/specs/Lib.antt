@@ -1,1 +1,10 @@
 pub mod Kinds
+pub mod Range
+pub mod Digits
+pub mod Calendar
+pub mod Moments
+pub mod Text
+pub mod Binary
+pub mod Answers
+pub mod Whole
+pub mod Reading

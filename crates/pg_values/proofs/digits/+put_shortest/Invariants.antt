@@ -1,0 +1,4 @@
+use Rattle.pg_values.proofs.digits.+put_shortest.Given as goal
+
+abbrev pub decreases-put_shortest : goal.decreases-put_shortest
+decreases-put_shortest l = l.width

@@ -1,0 +1,276 @@
+ghost use Rattle.pg_values.specs.Range.{IsInRange};
+
+use super::*;
+use crate::moment::is_moment;
+use pool_base::{NoMemory, Text};
+use std::alloc::Global;
+use std::test::Fail;
+
+// Whether a text is read as a value of the type, and is that value.
+fn reads(alloc: Global, kind: ColType, text: &str, want: &Value) -> bool {
+    match from_text(alloc, kind, text.as_bytes()) {
+        Ok(found) => found == *want,
+        Err(_) => false,
+    }
+}
+
+// Whether the text form of a value is this text.
+fn prints(alloc: Global, value: &Value, want: &str) -> bool
+    requires { IsInRange value.now }
+{
+    match text_of(alloc, value) {
+        Ok(Some(text)) => text.as_str() == want,
+        Ok(None) | Err(NoMemory) => false,
+    }
+}
+
+fn code_of(answer: Result<Value, ValueFault>) -> Option<[u8; 5]> {
+    match answer {
+        Err(ValueFault::Bad(code)) => Some(code.bytes),
+        Ok(_) | Err(ValueFault::NoMemory) => None,
+    }
+}
+
+// PostgreSQL 15, "Boolean Type" and "Numeric Types".
+#[test]
+fn bools_and_numbers_are_read(rt: HostRuntime) {
+    let alloc = rt.alloc();
+    for (text, want) in [
+        ("t", true),
+        ("TRUE", true),
+        (" Yes ", true),
+        ("on", true),
+        ("1", true),
+        ("oFF", false),
+        ("no", false),
+        ("0  ", false),
+    ] {
+        assert!(rt;
+            reads(alloc, ColType::Bool, text, &Value::Bool(want)),
+            "{text}"
+        );
+    }
+    for (text, want) in [
+        ("0", 0),
+        (" +7", 7),
+        ("-0", 0),
+        ("2147483647", i32::MAX),
+        ("-2147483648 ", i32::MIN),
+        ("000000000000000000000000000012", 12),
+    ] {
+        assert!(rt;
+            reads(alloc, ColType::Int4, text, &Value::Int4(want)),
+            "{text}"
+        );
+    }
+    for (text, want) in [
+        ("9223372036854775807", i64::MAX),
+        ("-9223372036854775808", i64::MIN),
+    ] {
+        assert!(rt;
+            reads(alloc, ColType::Int8, text, &Value::Int8(want)),
+            "{text}"
+        );
+    }
+}
+
+// The numbers were computed with Python's datetime, which is proleptic Gregorian too.
+#[test]
+fn moments_are_read(rt: HostRuntime) {
+    let alloc = rt.alloc();
+    for (text, want) in [
+        ("2000-01-01", 0),
+        ("0001-01-01", -63_082_281_600_000_000),
+        ("9999-12-31 23:59:59.999999", 252_455_615_999_999_999),
+        ("1970-01-01T00:00Z", -946_684_800_000_000),
+        ("2024-02-29 12:30:00+00", 762_525_000_000_000),
+        ("2024-02-29 12:30+05:30", 762_505_200_000_000),
+        ("2024-02-29 12:30+15:59", 762_467_460_000_000),
+        ("1900-03-01", -3_150_576_000_000_000),
+        ("2026-11-27 01:02:03.5", 849_056_523_500_000),
+        ("2001-02-03 04:05:06.0001Z", 34_488_306_000_100),
+        ("0000-12-31 23:00-02", -63_082_278_000_000_000),
+        ("9999-12-31 23:59+00:01", 252_455_615_880_000_000),
+    ] {
+        assert!(rt;
+            reads(alloc, ColType::Moment, text, &Value::Moment(want)),
+            "{text}"
+        );
+    }
+}
+
+#[test]
+fn texts_are_refused_by_their_codes(rt: HostRuntime) {
+    let alloc = rt.alloc();
+    for (kind, text, want) in [
+        (ColType::Bool, "tr", *b"22P02"),
+        (ColType::Bool, "\ttrue", *b"22P02"),
+        (ColType::Bool, "", *b"22P02"),
+        (ColType::Int4, "1 2", *b"22P02"),
+        (ColType::Int4, "+-1", *b"22P02"),
+        (ColType::Int4, "99999999999999999999x", *b"22P02"),
+        (ColType::Int4, "2147483648", *b"22003"),
+        (ColType::Int4, "-2147483649", *b"22003"),
+        (ColType::Int8, "9223372036854775808", *b"22003"),
+        (ColType::Int8, "-999999999999999999999999999999", *b"22003"),
+        (ColType::Moment, "2024-2-29", *b"22007"),
+        (ColType::Moment, " 2024-02-29", *b"22007"),
+        (ColType::Moment, "2024-02-29Z", *b"22007"),
+        (ColType::Moment, "2024-02-29 12:30.5", *b"22007"),
+        (ColType::Moment, "2024-02-29 12:30:00.1234567", *b"22007"),
+        (ColType::Moment, "2024-02-29 12:30:00.", *b"22007"),
+        (ColType::Moment, "2024-02-29 12:30-0530", *b"22007"),
+        (ColType::Moment, "2023-02-29", *b"22008"),
+        (ColType::Moment, "2024-13-01", *b"22008"),
+        (ColType::Moment, "2024-02-29 24:00", *b"22008"),
+        (ColType::Moment, "2024-02-29 12:30:60", *b"22008"),
+        (ColType::Moment, "2024-02-29 12:30+02:75", *b"22008"),
+        (ColType::Moment, "2024-02-29 12:30+15:60", *b"22008"),
+        (ColType::Moment, "2024-02-29 12:30+16", *b"22008"),
+        (ColType::Moment, "0000-12-31", *b"22008"),
+        (ColType::Moment, "9999-12-31 23:59-01", *b"22008"),
+        (ColType::Text, "a\0b", *b"22021"),
+        (ColType::Int4, "x\0", *b"22021"),
+    ] {
+        assert_eq!(rt;
+            code_of(from_text(alloc, kind, text.as_bytes())),
+            Some(want),
+            "{text}"
+        );
+    }
+    assert_eq!(rt;
+        code_of(from_text(alloc, ColType::Bool, &[0xC0, 0x80])),
+        Some(*b"22021")
+    );
+}
+
+#[test]
+fn values_are_printed(rt: HostRuntime) {
+    let alloc = rt.alloc();
+    assert!(rt; prints(alloc, &Value::Bool(true), "t"));
+    assert!(rt; prints(alloc, &Value::Bool(false), "f"));
+    assert!(rt; prints(alloc, &Value::Int4(i32::MIN), "-2147483648"));
+    assert!(rt; prints(alloc, &Value::Int8(0), "0"));
+    assert!(rt; matches!(text_of(alloc, &Value::Null), Ok(None)));
+    for (micros, want) in [
+        (0, "2000-01-01 00:00:00+00"),
+        (-63_082_281_600_000_000, "0001-01-01 00:00:00+00"),
+        (252_455_615_999_999_999, "9999-12-31 23:59:59.999999+00"),
+        (849_056_523_500_000, "2026-11-27 01:02:03.5+00"),
+        (34_488_306_000_100, "2001-02-03 04:05:06.0001+00"),
+        (5_097_600_000_000, "2000-02-29 00:00:00+00"),
+    ] {
+        assert!(rt; is_moment(micros), "{want}");
+        assert!(rt; prints(alloc, &Value::Moment(micros), want), "{want}");
+    }
+}
+
+// PostgreSQL 15, "Formats and Format Codes": numbers in network byte order.
+#[test]
+fn binary_forms_are_those_of_the_protocol(rt: HostRuntime) -> Result<(), Fail> {
+    let alloc = rt.alloc();
+    for (kind, value, want) in [
+        (ColType::Bool, Value::Bool(true), [1].as_slice()),
+        (ColType::Bool, Value::Bool(false), [0].as_slice()),
+        (
+            ColType::Int4,
+            Value::Int4(-2),
+            [0xFF, 0xFF, 0xFF, 0xFE].as_slice(),
+        ),
+        (
+            ColType::Int4,
+            Value::Int4(i32::MIN),
+            [0x80, 0, 0, 0].as_slice(),
+        ),
+        (
+            ColType::Int8,
+            Value::Int8(258),
+            [0, 0, 0, 0, 0, 0, 1, 2].as_slice(),
+        ),
+        (
+            ColType::Moment,
+            Value::Moment(-946_684_800_000_000),
+            [0xFF, 0xFC, 0xA2, 0xFE, 0xC4, 0xC8, 0x20, 0].as_slice(),
+        ),
+        (
+            ColType::Moment,
+            Value::Moment(252_455_615_999_999_999),
+            [3, 0x80, 0xE7, 0x0B, 0x91, 0x3B, 0x7F, 0xFF].as_slice(),
+        ),
+    ] {
+        let form = binary_of(alloc, &value)
+            .ok()
+            .ok_or("memory")?
+            .ok_or("no form")?;
+        assert_eq!(rt; form.as_slice(), want);
+        assert_eq!(rt;
+            from_binary(alloc, kind, want).ok().ok_or("refused")?,
+            value
+        );
+    }
+    assert_eq!(rt;
+        from_binary(alloc, ColType::Bool, &[2])
+            .ok()
+            .ok_or("refused")?,
+        Value::Bool(true)
+    );
+    assert!(rt;
+        binary_of(alloc, &Value::Null)
+            .ok()
+            .ok_or("memory")?
+            .is_none()
+    );
+    Ok(())
+}
+
+#[test]
+fn hostile_bytes_are_refused_by_their_codes(rt: HostRuntime) {
+    let alloc = rt.alloc();
+    for (kind, bytes, want) in [
+        (ColType::Bool, [].as_slice(), *b"08P01"),
+        (ColType::Bool, [1, 1].as_slice(), *b"22P03"),
+        (ColType::Int4, [1, 2, 3].as_slice(), *b"08P01"),
+        (ColType::Int4, [1, 2, 3, 4, 5].as_slice(), *b"22P03"),
+        (ColType::Int8, [1, 2, 3, 4].as_slice(), *b"08P01"),
+        (
+            ColType::Moment,
+            [0xFF, 0x1F, 0xE2, 0xFF, 0xC5, 0x9C, 0x5F, 0xFF].as_slice(),
+            *b"22008",
+        ),
+        (
+            ColType::Moment,
+            [3, 0x80, 0xE7, 0x0B, 0x91, 0x3B, 0x80, 0].as_slice(),
+            *b"22008",
+        ),
+        (ColType::Text, [b'a', 0].as_slice(), *b"22021"),
+        (ColType::Text, [0xED, 0xA0, 0x80].as_slice(), *b"22021"),
+    ] {
+        assert_eq!(rt; code_of(from_binary(alloc, kind, bytes)), Some(want));
+    }
+}
+
+// PostgreSQL 15, the catalogue pg_type.
+#[test]
+fn types_have_their_numbers(rt: HostRuntime) {
+    for (kind, oid) in [
+        (ColType::Bool, 16),
+        (ColType::Int8, 20),
+        (ColType::Int4, 23),
+        (ColType::Text, 25),
+        (ColType::Moment, 1184),
+    ] {
+        assert_eq!(rt; oid_of(kind), oid);
+        assert_eq!(rt; kind_of(oid), Some(kind));
+    }
+    assert_eq!(rt; kind_of(1043), None);
+}
+
+#[test]
+fn a_copy_is_the_value(rt: HostRuntime) -> Result<(), Fail> {
+    let value = Value::Text(Text::from_str(rt.alloc(), "a").ok().ok_or("memory")?);
+    assert_eq!(rt; value.clone()?, value);
+    text_is_read_again();
+    binary_is_read_again();
+    a_value_has_one_text();
+    Ok(())
+}
