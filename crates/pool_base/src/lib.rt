@@ -1,5 +1,5 @@
-//! The words that every crate of the pool speaks: lists and texts, numbers of sessions and backends,
-//! the calls of the gate, and what lies outside the program.
+//! The words that every crate speaks: lists and texts, numbers of sessions and backends, the calls
+//! of the gate, and what lies outside the program.
 #![tactic(auto)]
 
 mod backend_id;

@@ -1,7 +1,7 @@
 //! Objects in memory that fail where they are told to.
 ghost use Rattle.std.specs.Prelude.{◌≡◌, ◌++◌, ◌<◌, ◌≤◌, ◌||◌, Some, [], true, false, length, is_none};
 ghost use Rattle.pool_base.specs.Outside.{FaultyRead, FaultyWrite, Gave, GaveAt, Took, told_of, content_at, is_end, is_failed, TakesAll};
-ghost use Rattle.pool_base.specs.Planned.{is_planned};
+ghost use Rattle.pool_base.specs.Planned.{IsPlan, is_planned};
 
 use crate::copy::{content_of, read_at};
 use crate::fault_plan::FaultPlan;
@@ -24,7 +24,7 @@ impl MemorySource {
     pub fn new(bytes: List<u8>, fails: List<u64>) -> MemorySource
         ensures left { ⟦<MemorySource as Source>⟧.left result ≡ Some bytes }
         ensures ended { ⟦<MemorySource as Source>⟧.ended result ≡ false }
-        ensures plan { (result.plan.fails ≡ fails) × (result.plan.calls ≡ 0) × (result.plan.faults ≡ 0) }
+        ensures plan { IsPlan result.plan.fails result.plan.calls result.plan.faults fails }
     {
         MemorySource {
             left: Remaining::new(bytes),
@@ -75,7 +75,7 @@ impl MemorySink {
     /// `fails` are the numbers of the calls that are to fail, counted from 1.
     pub fn new(alloc: Global, fails: List<u64>) -> MemorySink
         ensures taken { ⟦<MemorySink as Sink>⟧.taken result ≡ Some [] }
-        ensures plan { (result.plan.fails ≡ fails) × (result.plan.calls ≡ 0) × (result.plan.faults ≡ 0) }
+        ensures plan { IsPlan result.plan.fails result.plan.calls result.plan.faults fails }
     {
         MemorySink {
             bytes: List::new(alloc),
@@ -101,7 +101,8 @@ impl Sink for MemorySink {
         ensures takes { Took result piece.now (Some self.old.bytes) (Some self.new.bytes) }
         ensures failed { FaultyWrite result self.old.plan.faults self.new.plan.faults }
         ensures later { self.old.plan.faults ≤ self.new.plan.faults }
-        ensures planned { is_planned self.old.plan.fails self.old.plan.calls ≡ true → result ≡ Put.Failed }
+        ensures planned { is_planned self.old.plan.fails self.old.plan.calls ≡ true →
+            result ≡ Put.Failed }
         ensures all { TakesAll result piece.now }
     {
         if self.plan.next_fails() {
@@ -128,11 +129,11 @@ pub struct MemoryFiles {
 }
 
 impl MemoryFiles {
-    /// The first name goes with the first content, and so on. Of two contents with one name the first
-    /// counts. `fails` are the numbers of the calls that are to fail, counted from 1.
+    /// The first name goes with the first content, and so on. Of two contents with one name the
+    /// first counts. `fails` are the numbers of the calls that are to fail, counted from 1.
     pub fn new(names: List<Text>, contents: List<List<u8>>, fails: List<u64>) -> MemoryFiles
         ensures contents { ⟦<MemoryFiles as Files>⟧.contents result ≡ told_of names contents }
-        ensures plan { (result.plan.fails ≡ fails) × (result.plan.calls ≡ 0) × (result.plan.faults ≡ 0) }
+        ensures plan { IsPlan result.plan.fails result.plan.calls result.plan.faults fails }
     {
         MemoryFiles {
             names,
@@ -151,11 +152,14 @@ impl Files for MemoryFiles {
     fn read(&mut self, name: &str, place: u64, into: &mut [u8]) -> Got
         requires { 0 < length into.old }
         ensures len { length into.new ≡ length into.old }
-        ensures gives { GaveAt result place into.new (told_of self.old.names self.old.contents name.now) }
-        ensures kept { told_of self.new.names self.new.contents ≡ told_of self.old.names self.old.contents }
+        ensures gives { GaveAt result place into.new
+            (told_of self.old.names self.old.contents name.now) }
+        ensures kept { told_of self.new.names self.new.contents ≡
+            told_of self.old.names self.old.contents }
         ensures failed { FaultyRead result self.old.plan.faults self.new.plan.faults }
         ensures later { self.old.plan.faults ≤ self.new.plan.faults }
-        ensures planned { is_failed result ≡ (is_planned self.old.plan.fails self.old.plan.calls || is_none (content_at self.old.names self.old.contents name.now)) }
+        ensures planned { is_failed result ≡ (is_planned self.old.plan.fails self.old.plan.calls ||
+            is_none (content_at self.old.names self.old.contents name.now)) }
     {
         if self.plan.next_fails() {
             return Got::Failed;

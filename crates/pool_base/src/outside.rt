@@ -72,7 +72,8 @@ pub trait Files {
 
     ghost fault_count: { Self → ℕ };
 
-    /// Reads the bytes that stand at a place of a file into the piece. A file that is not there is a fault.
+    /// Reads the bytes that stand at a place of a file into the piece. A file that is not there is
+    /// a fault.
     ///
     /// Units: `place` counts bytes from 0.
     fn read(&mut self, name: &str, place: u64, into: &mut [u8]) -> Got

@@ -60,7 +60,8 @@ fn extend_surely(rt: &impl Wait, bytes: &mut List<u8>, piece: &[u8])
     unreachable!()
 }
 
-/// A sink that keeps what it takes and never fails: where memory is refused, it waits and tries again.
+/// A sink that keeps what it takes and never fails. Where memory is refused, it waits and tries
+/// again.
 #[derive(Drop)]
 pub struct SureSink<W: Wait + Drop> {
     bytes: List<u8>,
@@ -108,8 +109,8 @@ pub struct SureFiles {
 }
 
 impl SureFiles {
-    /// The first name goes with the first content, and so on. Of two contents with one name the first
-    /// counts.
+    /// The first name goes with the first content, and so on. Of two contents with one name the
+    /// first counts.
     pub fn new(names: List<Text>, contents: List<List<u8>>) -> SureFiles
         ensures { ⟦<SureFiles as Files>⟧.contents result ≡ told_or_empty names contents }
     {

@@ -134,7 +134,8 @@ impl<R: rt::Files<File = File> + Drop> Files for SystemFiles<R> {
     }
 }
 
-/// The clock of the system. Where it gives an `Err`, the last moment is given again, and 0 where there is none yet.
+/// The clock of the system. Where it gives an `Err`, the last moment is given again, and 0 where
+/// there is none yet.
 #[derive(Drop)]
 pub struct SystemClock<R: rt::Clock + Drop> {
     rt: R,
