@@ -1,7 +1,9 @@
 //! What a backend answers.
+ghost use Rattle.std.specs.Prelude.{◌≡◌};
 
 use crate::row::Row;
 use pool_base::{Code, List};
+use std::alloc::AllocError;
 
 /// What a backend answers to a request.
 #[derive(Debug, PartialEq, Eq, Drop)]
@@ -17,6 +19,22 @@ pub enum Answer {
     Serial(i64),
     /// The transaction is dead, and nothing but a rollback ends it.
     Refused(Code),
+}
+
+impl Clone for Answer {
+    ghost is_clone = { λ answer copy. copy ≡ answer };
+
+    fn clone(&self) -> Result<Answer, AllocError> {
+        Ok(match self {
+            Answer::Began => Answer::Began,
+            Answer::Rows(rows) => Answer::Rows(rows.clone()?),
+            Answer::Count(count) => Answer::Count(*count),
+            Answer::Locked => Answer::Locked,
+            Answer::Done => Answer::Done,
+            Answer::Serial(next) => Answer::Serial(*next),
+            Answer::Refused(code) => Answer::Refused(*code),
+        })
+    }
 }
 
 /// What a look for the answer finds.
