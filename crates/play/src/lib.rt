@@ -1,0 +1,16 @@
+//! One session, played from a script: lines in, bytes fed, statements run, and the transcript out.
+#![tactic(auto)]
+
+mod database;
+mod play_fault;
+mod player;
+mod rendering;
+mod replies;
+mod script;
+mod session;
+
+pub use database::Database;
+pub use play_fault::PlayFault;
+pub use player::play;
+pub use rendering::render;
+pub use script::{ScriptLine, read_script};
