@@ -15,6 +15,8 @@ pub trait Database {
 
     /// Runs a statement.
     fn run(&mut self, statement: Statement) -> Result<Answer, NoMemory>
-        ensures answer { IfOk result (λ answer. IsEffect (given_on (rows self.old) statement) answer) }
-        ensures rows { IfOk result (λ answer. rows self.new ≡ rows_after (rows self.old) statement) };
+        ensures answer { IfOk result
+            (λ answer. IsEffect (given_on (rows self.old) statement) answer) }
+        ensures rows { IfOk result
+            (λ answer. rows self.new ≡ rows_after (rows self.old) statement) };
 }

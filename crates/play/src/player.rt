@@ -42,12 +42,15 @@ pub fn play<D: Database, O: Sink>(
     requires played { ArePlayed script.now }
     requires fits { RowsFit (D.rows database.old) }
     // Its whole transcript, and the rows that it leaves.
-    ensures all { OnOk result (Appends (O.taken out.old) (O.taken out.new) (transcript_of (D.rows database.old) script.now)) }
+    ensures all { OnOk result (Appends (O.taken out.old) (O.taken out.new) (transcript_of (D.rows
+        database.old) script.now)) }
     ensures rows { OnOk result (D.rows database.new ≡ final_rows (D.rows database.old) script.now) }
 
     // After a fault a front of it was written.
-    ensures front { OnErr result (AppendsFront (O.taken out.old) (O.taken out.new) (transcript_of (D.rows database.old) script.now)) }
-    ensures cause { IfErr result (λ e. e ≡ faults.SinkFailed → Rose (O.fault_count out.old) (O.fault_count out.new)) }
+    ensures front { OnErr result (AppendsFront (O.taken out.old) (O.taken out.new) (transcript_of
+        (D.rows database.old) script.now)) }
+    ensures cause { IfErr result (λ e. e ≡ faults.SinkFailed
+        → Rose (O.fault_count out.old) (O.fault_count out.new)) }
     ensures later { O.fault_count out.old ≤ O.fault_count out.new }
 {
     let mut online = false;
@@ -69,11 +72,15 @@ fn play_line<D: Database, O: Sink>(
     requires played { IsPlayed line.now }
     requires fits { RowsFit (D.rows database.old) }
     ensures online { IfOk result (λ after. after ≡ connected online line.now) }
-    ensures all { OnOk result (Appends (O.taken out.old) (O.taken out.new) (echo line.now ++ shown online (D.rows database.old) line.now)) }
-    ensures rows { OnOk result (D.rows database.new ≡ rows_then online (D.rows database.old) line.now) }
+    ensures all { OnOk result (Appends (O.taken out.old) (O.taken out.new) (echo line.now ++ shown
+        online (D.rows database.old) line.now)) }
+    ensures rows { OnOk result (D.rows database.new ≡ rows_then online (D.rows database.old)
+        line.now) }
     ensures fits { OnOk result (RowsFit (D.rows database.new)) }
-    ensures front { OnErr result (AppendsFront (O.taken out.old) (O.taken out.new) (echo line.now ++ shown online (D.rows database.old) line.now)) }
-    ensures cause { IfErr result (λ e. e ≡ faults.SinkFailed → Rose (O.fault_count out.old) (O.fault_count out.new)) }
+    ensures front { OnErr result (AppendsFront (O.taken out.old) (O.taken out.new) (echo line.now
+        ++ shown online (D.rows database.old) line.now)) }
+    ensures cause { IfErr result (λ e. e ≡ faults.SinkFailed
+        → Rose (O.fault_count out.old) (O.fault_count out.new)) }
     ensures later { O.fault_count out.old ≤ O.fault_count out.new }
 {
     put_echo(alloc, line, out)?;
@@ -92,11 +99,15 @@ fn show<D: Database, O: Sink>(
     requires played { IsPlayed line.now }
     requires fits { RowsFit (D.rows database.old) }
     ensures online { IfOk result (λ after. after ≡ connected online line.now) }
-    ensures all { OnOk result (Appends (O.taken out.old) (O.taken out.new) (shown online (D.rows database.old) line.now)) }
-    ensures rows { OnOk result (D.rows database.new ≡ rows_then online (D.rows database.old) line.now) }
+    ensures all { OnOk result (Appends (O.taken out.old) (O.taken out.new) (shown online (D.rows
+        database.old) line.now)) }
+    ensures rows { OnOk result (D.rows database.new ≡ rows_then online (D.rows database.old)
+        line.now) }
     ensures fits { OnOk result (RowsFit (D.rows database.new)) }
-    ensures front { OnErr result (AppendsFront (O.taken out.old) (O.taken out.new) (shown online (D.rows database.old) line.now)) }
-    ensures cause { IfErr result (λ e. e ≡ faults.SinkFailed → Rose (O.fault_count out.old) (O.fault_count out.new)) }
+    ensures front { OnErr result (AppendsFront (O.taken out.old) (O.taken out.new) (shown online
+        (D.rows database.old) line.now)) }
+    ensures cause { IfErr result (λ e. e ≡ faults.SinkFailed
+        → Rose (O.fault_count out.old) (O.fault_count out.new)) }
     ensures later { O.fault_count out.old ≤ O.fault_count out.new }
 {
     match line {
@@ -109,8 +120,10 @@ fn show<D: Database, O: Sink>(
 /// Writes a script line as the transcript has it.
 fn put_echo<O: Sink>(alloc: Global, line: &ScriptLine, out: &mut O) -> Result<(), PlayFault>
     ensures all { OnOk result (Appends (O.taken out.old) (O.taken out.new) (echo line.now)) }
-    ensures front { OnErr result (AppendsFront (O.taken out.old) (O.taken out.new) (echo line.now)) }
-    ensures cause { IfErr result (λ e. e ≡ faults.SinkFailed → Rose (O.fault_count out.old) (O.fault_count out.new)) }
+    ensures front { OnErr result (AppendsFront (O.taken out.old)
+        (O.taken out.new) (echo line.now)) }
+    ensures cause { IfErr result (λ e. e ≡ faults.SinkFailed
+        → Rose (O.fault_count out.old) (O.fault_count out.new)) }
     ensures later { O.fault_count out.old ≤ O.fault_count out.new }
 {
     let text = echo_of(alloc, line)?;
@@ -139,7 +152,8 @@ fn echo_of(alloc: Global, line: &ScriptLine) -> Result<List<u8>, NoMemory>
 }
 
 fn echo_query(alloc: Global, text: &[u8]) -> Result<List<u8>, NoMemory>
-    ensures { IfOk result (λ line. line ≡ ended (codes "1 FE=> 'Q' \"" ++ (text.now ++ codes "\""))) }
+    ensures { IfOk result
+        (λ line. line ≡ ended (codes "1 FE=> 'Q' \"" ++ (text.now ++ codes "\""))) }
 {
     let mut line = List::from_slice(alloc, b"1 FE=> 'Q' \"")?;
     line.extend_from_slice(text)?;
@@ -151,8 +165,10 @@ fn echo_query(alloc: Global, text: &[u8]) -> Result<List<u8>, NoMemory>
 fn start<O: Sink>(alloc: Global, online: bool, out: &mut O) -> Result<bool, PlayFault>
     ensures online { IfOk result (λ after. after ≡ true) }
     ensures all { OnOk result (Appends (O.taken out.old) (O.taken out.new) (shown_session online)) }
-    ensures front { OnErr result (AppendsFront (O.taken out.old) (O.taken out.new) (shown_session online)) }
-    ensures cause { IfErr result (λ e. e ≡ faults.SinkFailed → Rose (O.fault_count out.old) (O.fault_count out.new)) }
+    ensures front { OnErr result (AppendsFront (O.taken out.old) (O.taken out.new) (shown_session
+        online)) }
+    ensures cause { IfErr result (λ e. e ≡ faults.SinkFailed
+        → Rose (O.fault_count out.old) (O.fault_count out.new)) }
     ensures later { O.fault_count out.old ≤ O.fault_count out.new }
 {
     if online {
@@ -175,12 +191,19 @@ fn ask<D: Database, O: Sink>(
 ) -> Result<bool, PlayFault>
     requires query { Fits (asked.Query text.now) }
     requires fits { RowsFit (D.rows database.old) }
-    ensures online { IfOk result (λ after. (statement : Statement) → Spells text.now statement → after ≡ online) }
-    ensures all { OnOk result ((statement : Statement) → Spells text.now statement → Appends (O.taken out.old) (O.taken out.new) (shown_query online (D.rows database.old) statement)) }
-    ensures rows { OnOk result ((statement : Statement) → Spells text.now statement → D.rows database.new ≡ rows_then_query online (D.rows database.old) statement) }
+    ensures online { IfOk result (λ after. (statement : Statement) → Spells text.now statement
+        → after ≡ online) }
+    ensures all { OnOk result ((statement : Statement) → Spells text.now statement
+        → Appends (O.taken out.old) (O.taken out.new) (shown_query online (D.rows database.old)
+        statement)) }
+    ensures rows { OnOk result ((statement : Statement) → Spells text.now statement
+        → D.rows database.new ≡ rows_then_query online (D.rows database.old) statement) }
     ensures fits { OnOk result (RowsFit (D.rows database.new)) }
-    ensures front { OnErr result ((statement : Statement) → Spells text.now statement → AppendsFront (O.taken out.old) (O.taken out.new) (shown_query online (D.rows database.old) statement)) }
-    ensures cause { IfErr result (λ e. e ≡ faults.SinkFailed → Rose (O.fault_count out.old) (O.fault_count out.new)) }
+    ensures front { OnErr result ((statement : Statement) → Spells text.now statement
+        → AppendsFront (O.taken out.old) (O.taken out.new) (shown_query online (D.rows
+        database.old) statement)) }
+    ensures cause { IfErr result (λ e. e ≡ faults.SinkFailed
+        → Rose (O.fault_count out.old) (O.fault_count out.new)) }
     ensures later { O.fault_count out.old ≤ O.fault_count out.new }
 {
     if !online {
@@ -214,11 +237,14 @@ fn leave<D: Database, O: Sink>(
 ) -> Result<bool, PlayFault>
     requires fits { RowsFit (D.rows database.old) }
     ensures online { IfOk result (λ after. after ≡ false) }
-    ensures all { OnOk result (Appends (O.taken out.old) (O.taken out.new) (shown_terminate online)) }
+    ensures all { OnOk result (Appends (O.taken out.old) (O.taken out.new) (shown_terminate
+        online)) }
     ensures rows { OnOk result (D.rows database.new ≡ D.rows database.old) }
     ensures fits { OnOk result (RowsFit (D.rows database.new)) }
-    ensures front { OnErr result (AppendsFront (O.taken out.old) (O.taken out.new) (shown_terminate online)) }
-    ensures cause { IfErr result (λ e. e ≡ faults.SinkFailed → Rose (O.fault_count out.old) (O.fault_count out.new)) }
+    ensures front { OnErr result (AppendsFront (O.taken out.old) (O.taken out.new) (shown_terminate
+        online)) }
+    ensures cause { IfErr result (λ e. e ≡ faults.SinkFailed
+        → Rose (O.fault_count out.old) (O.fault_count out.new)) }
     ensures later { O.fault_count out.old ≤ O.fault_count out.new }
 {
     if !online {
@@ -246,7 +272,8 @@ fn terminate_bytes(alloc: Global) -> Result<List<u8>, NoMemory>
 /// At the end of the script, a session that is connected is closed.
 fn close<O: Sink>(online: bool, out: &mut O) -> Result<(), PlayFault>
     ensures all { OnOk result (Appends (O.taken out.old) (O.taken out.new) (closing online)) }
-    ensures front { OnErr result (AppendsFront (O.taken out.old) (O.taken out.new) (closing online)) }
+    ensures front { OnErr result (AppendsFront (O.taken out.old) (O.taken out.new) (closing
+        online)) }
     ensures cause { OnErr result (Rose (O.fault_count out.old) (O.fault_count out.new)) }
     ensures later { O.fault_count out.old ≤ O.fault_count out.new }
 {
@@ -259,9 +286,14 @@ fn close<O: Sink>(online: bool, out: &mut O) -> Result<(), PlayFault>
 
 /// Writes the lines of the messages in these bytes.
 fn put_replies<O: Sink>(alloc: Global, bytes: &[u8], out: &mut O) -> Result<(), PlayFault>
-    ensures all { OnOk result ((messages : Sequence ServerMessage) → AreReadAgain messages → bytes.now ≡ spelled_all messages → Appends (O.taken out.old) (O.taken out.new) (lines_of messages)) }
-    ensures front { OnErr result ((messages : Sequence ServerMessage) → AreReadAgain messages → bytes.now ≡ spelled_all messages → AppendsFront (O.taken out.old) (O.taken out.new) (lines_of messages)) }
-    ensures cause { IfErr result (λ e. e ≡ faults.SinkFailed → Rose (O.fault_count out.old) (O.fault_count out.new)) }
+    ensures all { OnOk result ((messages : Sequence ServerMessage) → AreReadAgain messages
+        → bytes.now ≡ spelled_all messages
+        → Appends (O.taken out.old) (O.taken out.new) (lines_of messages)) }
+    ensures front { OnErr result ((messages : Sequence ServerMessage) → AreReadAgain messages
+        → bytes.now ≡ spelled_all messages
+        → AppendsFront (O.taken out.old) (O.taken out.new) (lines_of messages)) }
+    ensures cause { IfErr result (λ e. e ≡ faults.SinkFailed
+        → Rose (O.fault_count out.old) (O.fault_count out.new)) }
     ensures later { O.fault_count out.old ≤ O.fault_count out.new }
 {
     let mut rest = bytes;
@@ -275,12 +307,17 @@ fn put_replies<O: Sink>(alloc: Global, bytes: &[u8], out: &mut O) -> Result<(), 
     Ok(())
 }
 
-/// Writes the line of the message at the front, and gives its length; 0 where there is no whole message.
+/// Writes the line of the message at the front, and gives its length; 0 where there is no whole
+/// message.
 fn put_reply<O: Sink>(alloc: Global, bytes: &[u8], out: &mut O) -> Result<usize, PlayFault>
     ensures within { IfOk result (λ n. n ≤ length bytes.now) }
-    ensures all { IfOk result (λ n. (m : ServerMessage) (k : ℕ) → server_front bytes.now ≡ Whole m k → (n ≡ k) × Appends (O.taken out.old) (O.taken out.new) (line_of 1 m)) }
-    ensures front { OnErr result ((m : ServerMessage) (k : ℕ) → server_front bytes.now ≡ Whole m k → AppendsFront (O.taken out.old) (O.taken out.new) (line_of 1 m)) }
-    ensures cause { IfErr result (λ e. e ≡ faults.SinkFailed → Rose (O.fault_count out.old) (O.fault_count out.new)) }
+    ensures all { IfOk result (λ n. (m : ServerMessage) (k : ℕ)
+        → server_front bytes.now ≡ Whole m k → (n ≡ k)
+        × Appends (O.taken out.old) (O.taken out.new) (line_of 1 m)) }
+    ensures front { OnErr result ((m : ServerMessage) (k : ℕ) → server_front bytes.now ≡ Whole m k
+        → AppendsFront (O.taken out.old) (O.taken out.new) (line_of 1 m)) }
+    ensures cause { IfErr result (λ e. e ≡ faults.SinkFailed
+        → Rose (O.fault_count out.old) (O.fault_count out.new)) }
     ensures later { O.fault_count out.old ≤ O.fault_count out.new }
 {
     let read = read_server(alloc, bytes)?;
@@ -295,8 +332,10 @@ fn put_reply<O: Sink>(alloc: Global, bytes: &[u8], out: &mut O) -> Result<usize,
 
 fn put_message<O: Sink>(alloc: Global, message: ServerMessage, out: &mut O) -> Result<(), PlayFault>
     ensures all { OnOk result (Appends (O.taken out.old) (O.taken out.new) (line_of 1 message)) }
-    ensures front { OnErr result (AppendsFront (O.taken out.old) (O.taken out.new) (line_of 1 message)) }
-    ensures cause { IfErr result (λ e. e ≡ faults.SinkFailed → Rose (O.fault_count out.old) (O.fault_count out.new)) }
+    ensures front { OnErr result (AppendsFront (O.taken out.old) (O.taken out.new) (line_of 1
+        message)) }
+    ensures cause { IfErr result (λ e. e ≡ faults.SinkFailed
+        → Rose (O.fault_count out.old) (O.fault_count out.new)) }
     ensures later { O.fault_count out.old ≤ O.fault_count out.new }
 {
     let line = message_line(alloc, &message)?;

@@ -10,7 +10,8 @@ use std::alloc::Global;
 
 /// Puts the line of a message to a session behind what is there.
 ///
-/// Shape: `n <= BE ` and the message's form, as `1 <= BE CommandComplete ("INSERT 0 1")`. In quotes,
+/// Shape: `n <= BE ` and the message's form, as `1 <= BE CommandComplete ("INSERT 0 1")`. In
+/// quotes,
 /// bytes 32 to 126 stand for themselves, `"` and `\` behind a `\`, every other byte as `\x` and two
 /// digits of base 16.
 pub fn render(
@@ -115,7 +116,8 @@ fn push_setting(name: &List<u8>, value: &List<u8>, onto: &mut List<u8>) -> Resul
 }
 
 fn push_key(alloc: Global, process: i32, secret: i32, onto: &mut List<u8>) -> Result<(), NoMemory>
-    ensures { OnOk result (onto.new ≡ onto.old ++ (signed_decimal process ++ (32 ∷ signed_decimal secret))) }
+    ensures { OnOk result (onto.new ≡ onto.old ++ (signed_decimal process ++ (32 ∷ signed_decimal
+        secret))) }
 {
     push_signed(alloc, process, onto)?;
     onto.push(b' ')?;

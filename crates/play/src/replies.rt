@@ -88,7 +88,8 @@ fn number_text(alloc: Global, number: i64) -> Result<List<u8>, NoMemory>
 
 /// The end of a SELECT that gave so many rows.
 pub(crate) fn selected(alloc: Global, count: usize) -> Result<ServerMessage, NoMemory>
-    ensures tag { IfOk result (λ message. message ≡ messages.Complete (codes "SELECT " ++ decimal count)) }
+    ensures tag { IfOk result
+        (λ message. message ≡ messages.Complete (codes "SELECT " ++ decimal count)) }
     ensures fits { IfOk result Fits }
 {
     let tag = selected_tag(alloc, count)?;
@@ -104,7 +105,8 @@ fn selected_tag(alloc: Global, count: usize) -> Result<List<u8>, NoMemory>
 
 /// The end of an INSERT of so many rows.
 pub(crate) fn inserted(alloc: Global, count: u64) -> Result<ServerMessage, NoMemory>
-    ensures tag { IfOk result (λ message. message ≡ messages.Complete (codes "INSERT 0 " ++ decimal count)) }
+    ensures tag { IfOk result
+        (λ message. message ≡ messages.Complete (codes "INSERT 0 " ++ decimal count)) }
     ensures fits { IfOk result Fits }
 {
     let tag = inserted_tag(alloc, count)?;

@@ -33,7 +33,8 @@ pub enum ScriptLine {
 /// Shape: no line, or `session 1`, then lines `1 'Q' "text"` whose text is a statement of the
 /// profile, then at most one line `1 'X'`. Each line ends with LF.
 pub fn read_script(alloc: Global, text: &[u8]) -> Result<Option<List<ScriptLine>>, NoMemory>
-    ensures exactly { IfOk result (λ read. MatchOption read ((lines : List ScriptLine) → IsScript text.now lines → ⊥) (λ lines. IsScript text.now lines)) }
+    ensures exactly { IfOk result (λ read. MatchOption read ((lines : List ScriptLine)
+        → IsScript text.now lines → ⊥) (λ lines. IsScript text.now lines)) }
 {
     let mut lines = List::new(alloc);
     if text.is_empty() {
@@ -55,7 +56,8 @@ pub fn read_script(alloc: Global, text: &[u8]) -> Result<Option<List<ScriptLine>
 
 /// The first line and what stands behind its LF, if there is an LF.
 fn first_line(text: &[u8]) -> Option<(&[u8], &[u8])>
-    ensures { MatchOption result (IsOneLine text.now) (λ parts. IsOneLine parts.0.now × (text.now ≡ parts.0.now ++ 10 ∷ parts.1.now)) }
+    ensures { MatchOption result (IsOneLine text.now) (λ parts. IsOneLine parts.0.now
+        × (text.now ≡ parts.0.now ++ 10 ∷ parts.1.now)) }
 {
     let at = text.iter().position(|byte| *byte == b'\n')?;
     Some((&text[..at], &text[at + 1..]))
@@ -63,15 +65,19 @@ fn first_line(text: &[u8]) -> Option<(&[u8], &[u8])>
 
 /// The text of a Query line, if the line is one.
 fn query_text(line: &[u8]) -> Option<&[u8]>
-    ensures { MatchOption result ((text : List ℕ) → line.now ≢ before_text ++ (text ++ behind_text)) (λ text. line.now ≡ before_text ++ (text.now ++ behind_text)) }
+    ensures { MatchOption result ((text : List ℕ)
+        → line.now ≢ before_text ++ (text ++ behind_text))
+        (λ text. line.now ≡ before_text ++ (text.now ++ behind_text)) }
 {
     line.strip_prefix(b"1 'Q' \"")?.strip_suffix(b"\"")
 }
 
 /// The statement of a Query line's text, if it spells one and can be sent.
 fn query_statement(text: &[u8]) -> Option<Statement>
-    ensures found { IfSome result (λ statement. Fits (messages.Query text.now) × Spells text.now statement) }
-    ensures only { (statement : Statement) → Fits (messages.Query text.now) → Spells text.now statement → result ≡ Some statement }
+    ensures found { IfSome result (λ statement. Fits (messages.Query text.now)
+        × Spells text.now statement) }
+    ensures only { (statement : Statement) → Fits (messages.Query text.now)
+        → Spells text.now statement → result ≡ Some statement }
 {
     if can_send(text) {
         read_statement(text)
@@ -90,7 +96,8 @@ fn can_send(text: &[u8]) -> bool
 /// Reads the lines behind the session's, and says whether they are such.
 fn read_tail(alloc: Global, text: &[u8], lines: &mut List<ScriptLine>) -> Result<bool, NoMemory>
     ensures { IfOk result (λ whole. MatchBool whole
-        ((tail : List ScriptLine) × (lines.new ≡ lines.old ++ tail) × (text.now ≡ spelling tail) × IsTail tail)
+        ((tail : List ScriptLine) × (lines.new ≡ lines.old ++ tail)
+        × (text.now ≡ spelling tail) × IsTail tail)
         ((tail : List ScriptLine) → text.now ≡ spelling tail → IsTail tail → ⊥)) }
 {
     let mut rest = text;

@@ -29,7 +29,8 @@ pub(crate) fn connect(
     input: &[u8],
     output: &mut List<u8>,
 ) -> Result<bool, NoMemory>
-    ensures { IfOk result (λ online. HoldsStart input.now → (online ≡ true) × Sent output.old output.new (start_up session.number)) }
+    ensures { IfOk result (λ online. HoldsStart input.now → (online ≡ true)
+        × Sent output.old output.new (start_up session.number)) }
 {
     let read = read_start(alloc, input)?;
     if !is_start(&read) {
@@ -60,9 +61,12 @@ pub(crate) fn serve<S: Database>(
     output: &mut List<u8>,
 ) -> Result<bool, NoMemory>
     requires { RowsFit (S.rows database.old) }
-    ensures query { IfOk result (λ online. (text : List ℕ) (statement : Statement) → HoldsClient input.now (asked.Query text) → Spells text statement
-        → (online ≡ true) × Sent output.old output.new (replies_to (S.rows database.old) statement) × (S.rows database.new ≡ rows_after (S.rows database.old) statement)) }
-    ensures terminate { IfOk result (λ online. HoldsClient input.now asked.Terminate → (online ≡ false) × (S.rows database.new ≡ S.rows database.old)) }
+    ensures query { IfOk result (λ online. (text : List ℕ) (statement : Statement)
+        → HoldsClient input.now (asked.Query text) → Spells text statement
+        → (online ≡ true) × Sent output.old output.new (replies_to (S.rows database.old) statement)
+        × (S.rows database.new ≡ rows_after (S.rows database.old) statement)) }
+    ensures terminate { IfOk result (λ online. HoldsClient input.now asked.Terminate
+        → (online ≡ false) × (S.rows database.new ≡ S.rows database.old)) }
     ensures kept { OnOk result (RowsFit (S.rows database.new)) }
 {
     let read = read_client(alloc, input)?;
@@ -94,7 +98,8 @@ fn answer_query<S: Database>(
 ) -> Result<bool, NoMemory>
     requires { RowsFit (S.rows database.old) }
     ensures query { IfOk result (λ online. (statement : Statement) → Spells text.now statement
-        → (online ≡ true) × Sent output.old output.new (replies_to (S.rows database.old) statement) × (S.rows database.new ≡ rows_after (S.rows database.old) statement)) }
+        → (online ≡ true) × Sent output.old output.new (replies_to (S.rows database.old) statement)
+        × (S.rows database.new ≡ rows_after (S.rows database.old) statement)) }
     ensures kept { OnOk result (RowsFit (S.rows database.new)) }
 {
     let Some(statement) = read_statement(text) else {
@@ -132,7 +137,8 @@ fn send_settings(alloc: Global, output: &mut List<u8>) -> Result<(), NoMemory>
 
 /// Sends the key of a session: its number, and no secret.
 fn send_key(session: SessionId, output: &mut List<u8>) -> Result<(), NoMemory>
-    ensures { OnOk result (Sent output.old output.new (messages.BackendKey (pos session.number) (pos 0) ∷ [])) }
+    ensures { OnOk result (Sent output.old output.new (messages.BackendKey (pos session.number)
+        (pos 0) ∷ [])) }
 {
     let process = session.number as i32;
     send(ServerMessage::BackendKey { process, secret: 0 }, output)?;
@@ -147,7 +153,8 @@ fn send_setting(
 ) -> Result<(), NoMemory>
     requires name { is_label name.now ≡ true }
     requires value { is_label value.now ≡ true }
-    ensures { OnOk result (Sent output.old output.new (messages.ParameterStatus name.now value.now ∷ [])) }
+    ensures { OnOk result (Sent output.old output.new (messages.ParameterStatus name.now value.now
+        ∷ [])) }
 {
     let message = setting(alloc, name, value)?;
     send(message, output)?;
@@ -171,7 +178,9 @@ fn send_answer(alloc: Global, answer: Answer, output: &mut List<u8>) -> Result<(
 
 fn send_rows(alloc: Global, rows: &[Row], output: &mut List<u8>) -> Result<(), NoMemory>
     requires { All RowFits rows.now }
-    ensures { OnOk result (Sent output.old output.new (messages.RowDescription columns ∷ (map row_message rows.now ++ messages.Complete (codes "SELECT " ++ decimal (length rows.now)) ∷ []))) }
+    ensures { OnOk result (Sent output.old output.new (messages.RowDescription columns ∷ (map
+        row_message rows.now ++ messages.Complete (codes "SELECT " ++ decimal (length
+        rows.now)) ∷ []))) }
 {
     let description = row_description(alloc)?;
     send(description, output)?;
@@ -185,7 +194,8 @@ fn send_rows(alloc: Global, rows: &[Row], output: &mut List<u8>) -> Result<(), N
 }
 
 fn send_count(alloc: Global, count: u64, output: &mut List<u8>) -> Result<(), NoMemory>
-    ensures { OnOk result (Sent output.old output.new (messages.Complete (codes "INSERT 0 " ++ decimal count) ∷ [])) }
+    ensures { OnOk result (Sent output.old output.new (messages.Complete (codes "INSERT 0 " ++
+        decimal count) ∷ [])) }
 {
     let message = inserted(alloc, count)?;
     send(message, output)?;

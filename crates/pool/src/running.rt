@@ -23,7 +23,10 @@ pub fn run<F: Files, O: Sink, D: Database>(
 ) -> u8
     requires { RowsFit (D.rows database.old) }
     // Each status comes with its cause, and with what was written.
-    ensures { Returns (map (λ w. w.now) words.now) (F.contents files.old) (F.fault_count files.old) (F.fault_count files.new) result (outside (O.fault_count out.old) (O.fault_count out.new) (O.taken out.old) (O.taken out.new) (D.rows database.old) (D.rows database.new)) }
+    ensures { Returns (map
+        (λ w. w.now) words.now) (F.contents files.old) (F.fault_count files.old) (F.fault_count
+        files.new) result (outside (O.fault_count out.old) (O.fault_count out.new) (O.taken
+        out.old) (O.taken out.new) (D.rows database.old) (D.rows database.new)) }
 {
     run_words(alloc, words, files, out, database).code()
 }
@@ -36,7 +39,10 @@ fn run_words<F: Files, O: Sink, D: Database>(
     database: &mut D,
 ) -> Status
     requires { RowsFit (D.rows database.old) }
-    ensures { Ends (map (λ w. w.now) words.now) (F.contents files.old) (F.fault_count files.old) (F.fault_count files.new) result (outside (O.fault_count out.old) (O.fault_count out.new) (O.taken out.old) (O.taken out.new) (D.rows database.old) (D.rows database.new)) }
+    ensures { Ends (map
+        (λ w. w.now) words.now) (F.contents files.old) (F.fault_count files.old) (F.fault_count
+        files.new) result (outside (O.fault_count out.old) (O.fault_count out.new) (O.taken
+        out.old) (O.taken out.new) (D.rows database.old) (D.rows database.new)) }
 {
     match command_of(words) {
         None => say(out, b"pool: the words are no command\n", Status::NoCommand),
@@ -52,7 +58,10 @@ fn run_command<F: Files, O: Sink, D: Database>(
     database: &mut D,
 ) -> Status
     requires { RowsFit (D.rows database.old) }
-    ensures { CommandEnds (F.contents files.old) (F.fault_count files.old) (F.fault_count files.new) (command.now.config.now, command.now.schema.now, command.now.script.now) result (outside (O.fault_count out.old) (O.fault_count out.new) (O.taken out.old) (O.taken out.new) (D.rows database.old) (D.rows database.new)) }
+    ensures { CommandEnds (F.contents files.old) (F.fault_count files.old) (F.fault_count
+        files.new) (command.now.config.now, command.now.schema.now, command.now.script.now)
+        result (outside (O.fault_count out.old) (O.fault_count out.new) (O.taken out.old)
+        (O.taken out.new) (D.rows database.old) (D.rows database.new)) }
 {
     match read_texts(alloc, command, files) {
         Err(status) => status,
@@ -67,7 +76,9 @@ fn run_texts<O: Sink, D: Database>(
     database: &mut D,
 ) -> Status
     requires { RowsFit (D.rows database.old) }
-    ensures { TextsEnds texts.now.config texts.now.schema texts.now.script result (outside (O.fault_count out.old) (O.fault_count out.new) (O.taken out.old) (O.taken out.new) (D.rows database.old) (D.rows database.new)) }
+    ensures { TextsEnds texts.now.config texts.now.schema texts.now.script result (outside
+        (O.fault_count out.old) (O.fault_count out.new) (O.taken out.old) (O.taken out.new)
+        (D.rows database.old) (D.rows database.new)) }
 {
     match built_script(alloc, texts) {
         Err(_) => Status::NoMemory,
@@ -78,7 +89,9 @@ fn run_texts<O: Sink, D: Database>(
 
 /// The lines of the script, if all three texts ask for what is built.
 fn built_script(alloc: Global, texts: &Texts) -> Result<Option<List<ScriptLine>>, NoMemory>
-    ensures { IfOk result (λ found. MatchOption found ((lines : Sequence ScriptLine) → IsBuilt texts.now.config texts.now.schema texts.now.script lines → ⊥) (λ lines. IsBuilt texts.now.config texts.now.schema texts.now.script lines)) }
+    ensures { IfOk result (λ found. MatchOption found ((lines : Sequence ScriptLine)
+        → IsBuilt texts.now.config texts.now.schema texts.now.script lines → ⊥)
+        (λ lines. IsBuilt texts.now.config texts.now.schema texts.now.script lines)) }
 {
     if !are_built(&texts.config, &texts.schema) {
         return Ok(None);
@@ -97,7 +110,8 @@ fn run_script<O: Sink, D: Database>(
 ) -> Status
     requires session { IsOneSession script.now }
     requires fits { RowsFit (D.rows database.old) }
-    ensures { ScriptEnds script.now result (outside (O.fault_count out.old) (O.fault_count out.new) (O.taken out.old) (O.taken out.new) (D.rows database.old) (D.rows database.new)) }
+    ensures { ScriptEnds script.now result (outside (O.fault_count out.old) (O.fault_count out.new)
+        (O.taken out.old) (O.taken out.new) (D.rows database.old) (D.rows database.new)) }
 {
     match play(alloc, script, database, out) {
         Ok(()) => Status::Done,
@@ -109,7 +123,8 @@ fn run_script<O: Sink, D: Database>(
 /// Writes a line, and answers the status; where it cannot be written, the status says so.
 fn say<O: Sink>(out: &mut O, line: &[u8], status: Status) -> Status
     requires { status ≢ SinkFailed }
-    ensures { Says status result line.now (O.taken out.old) (O.taken out.new) (O.fault_count out.old) (O.fault_count out.new) }
+    ensures { Says status result line.now (O.taken out.old) (O.taken out.new) (O.fault_count
+        out.old) (O.fault_count out.new) }
 {
     match write_all(out, line) {
         Ok(()) => status,

@@ -3,17 +3,28 @@ use model_store::MemoryStore;
 use pool_base::{List, MemoryFiles, MemorySink, NoMemory, Text};
 use std::test::Fail;
 
-const CONFIG: &str =
-    "backend_clustering_mode = 'snapshot_isolation'\nbackend_hostname0 = 'a'\nbackend_port0 = 5432\n";
+const CONFIG: &str = "backend_clustering_mode = 'snapshot_isolation'\nbackend_hostname0 = 'a'\n\
+    backend_port0 = 5432\n";
 
 const SCHEMA: &str = "CREATE TABLE t (id int4 PRIMARY KEY, v int8);\n";
 
-const SCRIPT: &str =
-    "session 1\n1 'Q' \"INSERT INTO t (id, v) VALUES (1, 10)\"\n1 'Q' \"SELECT id, v FROM t WHERE id = 1\"\n1 'X'\n";
+const SCRIPT: &str = "session 1\n1 'Q' \"INSERT INTO t (id, v) VALUES (1, 10)\"\n\
+    1 'Q' \"SELECT id, v FROM t WHERE id = 1\"\n1 'X'\n";
 
 // Worked out from the rules of the protocol and of the transcript.
-const TRANSCRIPT: &str =
-    "== session 1\n1 <= BE AuthenticationOk\n1 <= BE ParameterStatus (\"client_encoding\" \"UTF8\")\n1 <= BE ParameterStatus (\"DateStyle\" \"ISO, MDY\")\n1 <= BE ParameterStatus (\"integer_datetimes\" \"on\")\n1 <= BE ParameterStatus (\"server_encoding\" \"UTF8\")\n1 <= BE ParameterStatus (\"server_version\" \"14.0\")\n1 <= BE ParameterStatus (\"standard_conforming_strings\" \"on\")\n1 <= BE ParameterStatus (\"TimeZone\" \"UTC\")\n1 <= BE BackendKeyData (1 0)\n1 <= BE ReadyForQuery (I)\n1 FE=> 'Q' \"INSERT INTO t (id, v) VALUES (1, 10)\"\n1 <= BE CommandComplete (\"INSERT 0 1\")\n1 <= BE ReadyForQuery (I)\n1 FE=> 'Q' \"SELECT id, v FROM t WHERE id = 1\"\n1 <= BE RowDescription (\"id\" 23 0, \"v\" 20 0)\n1 <= BE DataRow (\"1\", \"10\")\n1 <= BE CommandComplete (\"SELECT 1\")\n1 <= BE ReadyForQuery (I)\n1 FE=> 'X'\n1 closed\n";
+const TRANSCRIPT: &str = "== session 1\n1 <= BE AuthenticationOk\n\
+    1 <= BE ParameterStatus (\"client_encoding\" \"UTF8\")\n\
+    1 <= BE ParameterStatus (\"DateStyle\" \"ISO, MDY\")\n\
+    1 <= BE ParameterStatus (\"integer_datetimes\" \"on\")\n\
+    1 <= BE ParameterStatus (\"server_encoding\" \"UTF8\")\n\
+    1 <= BE ParameterStatus (\"server_version\" \"14.0\")\n\
+    1 <= BE ParameterStatus (\"standard_conforming_strings\" \"on\")\n\
+    1 <= BE ParameterStatus (\"TimeZone\" \"UTC\")\n1 <= BE BackendKeyData (1 0)\n\
+    1 <= BE ReadyForQuery (I)\n1 FE=> 'Q' \"INSERT INTO t (id, v) VALUES (1, 10)\"\n\
+    1 <= BE CommandComplete (\"INSERT 0 1\")\n1 <= BE ReadyForQuery (I)\n\
+    1 FE=> 'Q' \"SELECT id, v FROM t WHERE id = 1\"\n\
+    1 <= BE RowDescription (\"id\" 23 0, \"v\" 20 0)\n1 <= BE DataRow (\"1\", \"10\")\n\
+    1 <= BE CommandComplete (\"SELECT 1\")\n1 <= BE ReadyForQuery (I)\n1 FE=> 'X'\n1 closed\n";
 
 /// The files `config`, `schema` and `script`; the calls of that number fail.
 fn files(rt: &impl AllocGlobal, script: &str, fails: &[u64]) -> Result<MemoryFiles, NoMemory> {

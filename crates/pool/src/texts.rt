@@ -15,8 +15,8 @@ const SCHEMA_LIMIT: usize = 262_144;
 const SCRIPT_LIMIT: usize = 4_194_304;
 
 /// The configuration that is built: one backend.
-const CONFIG: &str =
-    "backend_clustering_mode = 'snapshot_isolation'\nbackend_hostname0 = 'a'\nbackend_port0 = 5432\n";
+const CONFIG: &str = "backend_clustering_mode = 'snapshot_isolation'\nbackend_hostname0 = 'a'\n\
+    backend_port0 = 5432\n";
 
 /// The schema that is built: the table t.
 const SCHEMA: &str = "CREATE TABLE t (id int4 PRIMARY KEY, v int8);\n";
@@ -39,7 +39,9 @@ pub struct Texts {
 
 /// The command of these words, if they are one: `play CONFIG SCHEMA SCRIPT`.
 pub fn command_of<'a>(words: &[&'a str]) -> Option<Command<'a>>
-    ensures { option_map (λ c. (c.config.now, c.schema.now, c.script.now)) result ≡ command_of (map (λ w. w.now) words.now) }
+    ensures { option_map
+        (λ c. (c.config.now, c.schema.now, c.script.now)) result ≡ command_of (map
+        (λ w. w.now) words.now) }
 {
     match words {
         [first, config, schema, script] => {
@@ -63,7 +65,10 @@ pub fn read_texts<F: Files>(
     command: &Command<'_>,
     files: &mut F,
 ) -> Result<Texts, Status>
-    ensures read { IfOk result (λ t. IsRead (F.contents files.old command.now.config.now) 65536 t.config × IsRead (F.contents files.old command.now.schema.now) 262144 t.schema × IsRead (F.contents files.old command.now.script.now) 4194304 t.script) }
+    ensures read { IfOk result
+        (λ t. IsRead (F.contents files.old command.now.config.now) 65536 t.config
+        × IsRead (F.contents files.old command.now.schema.now) 262144 t.schema
+        × IsRead (F.contents files.old command.now.script.now) 4194304 t.script) }
     ensures fault { IfErr result (IsFault (F.fault_count files.old) (F.fault_count files.new)) }
 {
     let config = read_text(alloc, files, command.config, CONFIG_LIMIT)?;
@@ -99,7 +104,8 @@ fn read_text<F: Files>(
 /// Whether the configuration and the schema are those that are built.
 #[tactic(auto, unfolding(crate::specs::Texts::built_config, crate::specs::Texts::built_schema))]
 pub fn are_built(config: &Option<List<u8>>, schema: &Option<List<u8>>) -> bool
-    ensures { IsTrue result ↔ ((config.now ≡ Some built_config) × (schema.now ≡ Some built_schema)) }
+    ensures { IsTrue result ↔ ((config.now ≡ Some built_config)
+        × (schema.now ≡ Some built_schema)) }
 {
     is_text(config, CONFIG.as_bytes()) && is_text(schema, SCHEMA.as_bytes())
 }

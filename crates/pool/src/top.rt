@@ -23,15 +23,22 @@ pub fn pool_run<F: Files, O: Sink>(
 ) -> u8
     requires { committed_rows store.old ≡ no_rows }
     // Each status comes with its cause, and with what was written.
-    ensures ends { Returns (map (λ w. w.now) words.now) (F.contents files.old) (F.fault_count files.old) (F.fault_count files.new) result
-        (outside (O.fault_count out.old) (O.fault_count out.new) (O.taken out.old) (O.taken out.new) (committed_rows store.old) (committed_rows store.new)) }
+    ensures ends { Returns (map (λ w. w.now) words.now) (F.contents files.old)
+        (F.fault_count files.old) (F.fault_count files.new) result
+        (outside (O.fault_count out.old) (O.fault_count out.new) (O.taken out.old)
+        (O.taken out.new) (committed_rows store.old) (committed_rows store.new)) }
 
     // Status 0: the transcript of the script that the file contains, and the rows that it leaves.
-    ensures played { result ≡ 0 → (config schema script text : Sequence ℕ) → command_of (map (λ w. w.now) words.now) ≡ Some (config, schema, script) → F.contents files.old script ≡ content text
-        → Played text (outside (O.fault_count out.old) (O.fault_count out.new) (O.taken out.old) (O.taken out.new) (committed_rows store.old) (committed_rows store.new)) }
+    ensures played { result ≡ 0 → (config schema script text : Sequence ℕ) → command_of (map
+        (λ w. w.now) words.now) ≡ Some (config, schema, script)
+        → F.contents files.old script ≡ content text
+        → Played text (outside (O.fault_count out.old) (O.fault_count out.new)
+        (O.taken out.old) (O.taken out.new) (committed_rows store.old)
+        (committed_rows store.new)) }
     // Status 1: exactly where the words are no command, unless its line could not be written.
     ensures no_command { result ≡ 1 → command_of (map (λ w. w.now) words.now) ≡ None }
-    ensures always { command_of (map (λ w. w.now) words.now) ≡ None → (result ≡ 1) ⊎ ((result ≡ 5) × Rose (O.fault_count out.old) (O.fault_count out.new)) }
+    ensures always { command_of (map (λ w. w.now) words.now) ≡ None → (result ≡ 1) ⊎ ((result ≡ 5)
+        × Rose (O.fault_count out.old) (O.fault_count out.new)) }
     // Status 4 and 5: only where the count rose.
     ensures files { result ≡ 4 → Rose (F.fault_count files.old) (F.fault_count files.new) }
     ensures sink { result ≡ 5 → Rose (O.fault_count out.old) (O.fault_count out.new) }
@@ -47,8 +54,10 @@ fn run_in_memory<F: Files, O: Sink>(
     store: &mut MemoryStore,
 ) -> u8
     requires { committed_rows store.old ≡ no_rows }
-    ensures { Returns (map (λ w. w.now) words.now) (F.contents files.old) (F.fault_count files.old) (F.fault_count files.new) result
-        (outside (O.fault_count out.old) (O.fault_count out.new) (O.taken out.old) (O.taken out.new) (committed_rows store.old) (committed_rows store.new)) }
+    ensures { Returns (map (λ w. w.now) words.now) (F.contents files.old)
+        (F.fault_count files.old) (F.fault_count files.new) result
+        (outside (O.fault_count out.old) (O.fault_count out.new) (O.taken out.old)
+        (O.taken out.new) (committed_rows store.old) (committed_rows store.new)) }
 {
     let held = mem::replace(store, MemoryStore::new(alloc));
     let mut database = InMemory { store: held };
