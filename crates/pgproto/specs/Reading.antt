@@ -1,0 +1,77 @@
+-- Reading from the left: a value and the bytes after it, or nothing.
+use Rattle.std.specs.Prelude.{◌≡◌, ℕ, ◌+◌, ◌-◌, ◌*◌, ◌++◌, zero, suc, length, take, drop, bytes_eq, List, [], ◌∷◌, Bool, true, false, ◌&&◌, ◌||◌, ◌==◌, not, nat_le, nat_lt, if◌then◌else◌, Option, Some, None, Result, Ok, Err}
+use Rattle.std.specs.Str.{is_utf8}
+use Rattle.pgproto.specs.Words.{is_digit, is_shown, hex_digit}
+use Rattle.pgproto.specs.declared.stop.Stop.{Stop}
+use Rattle.pgproto.specs.declared.stop.Stop.TheVariants.{NotALine, NoMemory}
+
+infixl 10 ◌>>=◌
+abbrev pub ◌>>=◌ : {A B : Type 0} → Option A → (A → Option B) → Option B
+(Some x) >>= f = f x
+None >>= f = None
+
+-- what a function returned, seen by view, is what reading gives, unless memory was refused
+abbrev pub Fails : {Y : Type 0} → Stop → Option Y → Type 0
+Fails NotALine read = read ≡ None
+Fails NoMemory read = Unit {0}
+
+abbrev pub Gives : {X Y : Type 0} → (X → Y) → Result X Stop → Option Y → Type 0
+Gives view (Ok x) read = read ≡ Some (view x)
+Gives view (Err stop) read = Fails stop read
+
+-- the digits in front, behind a number
+abbrev pub digits_at : ℕ → List ℕ → ℕ × List ℕ
+digits_at n [] = (n, [])
+digits_at n (b ∷ bytes) = if is_digit b then digits_at (n * 10 + (b - 48)) bytes else (n, b ∷ bytes)
+
+-- a digit is in front
+abbrev pub has_digit : List ℕ → Bool
+has_digit [] = false
+has_digit (b ∷ bytes) = is_digit b
+
+-- a number up to a greatest one
+unfoldable pub number_at : ℕ → List ℕ → Option (ℕ × List ℕ)
+number_at most bytes =
+    if has_digit bytes && nat_le (digits_at 0 bytes).0 most then Some (digits_at 0 bytes) else None
+
+-- these bytes
+abbrev pub word_at : List ℕ → List ℕ → Option (List ℕ)
+word_at word bytes = if bytes_eq (take (length word) bytes) word then Some (drop (length word) bytes) else None
+
+-- one byte of a string and the bytes after it; None at the quote that ends it
+abbrev pub string_byte : List ℕ → Option (Option ℕ × List ℕ)
+string_byte [] = None
+string_byte (b ∷ []) = if b == 34 then Some (None, []) else None
+string_byte (b ∷ c ∷ bytes) =
+    if b == 34 then Some (None, c ∷ bytes)
+    else if b == 92 then (if c == 34 || c == 92 then Some (Some c, bytes) else if c == 110 then Some (Some 10, bytes) else None)
+    else if is_shown b && not (b == 10) then Some (Some b, c ∷ bytes)
+    else None
+
+-- two hexadecimal digits and the bytes after them; None at the quote that ends them
+abbrev pub hex_byte : List ℕ → Option (Option ℕ × List ℕ)
+hex_byte [] = None
+hex_byte (h ∷ []) = if h == 34 then Some (None, []) else None
+hex_byte (h ∷ l ∷ bytes) =
+    if h == 34 then Some (None, l ∷ bytes)
+    else if nat_lt (hex_digit h) 16 && nat_lt (hex_digit l) 16 then Some (Some (hex_digit h * 16 + hex_digit l), bytes)
+    else None
+
+abbrev pub with_front : List ℕ → Option (List ℕ × List ℕ) → Option (List ℕ × List ℕ)
+with_front front read = read >>= λ y. Some (front ++ y.0, y.1)
+
+abbrev pub behind : (List ℕ → Option (List ℕ × List ℕ)) → Option ℕ → List ℕ → Option (List ℕ × List ℕ)
+behind more None bytes = Some ([], bytes)
+behind more (Some b) bytes = with_front (b ∷ []) (more bytes)
+
+-- byte after byte up to the quote; the number bounds the turns
+unfoldable pub bytes_at : (List ℕ → Option (Option ℕ × List ℕ)) → ℕ → List ℕ → Option (List ℕ × List ℕ)
+bytes_at step zero bytes = None
+bytes_at step (suc n) bytes = step bytes >>= λ x. behind (bytes_at step n) x.0 x.1
+
+-- the rest of a string behind its first quote, of valid UTF-8
+unfoldable pub string_at : List ℕ → Option (List ℕ × List ℕ)
+string_at bytes = word_at (34 ∷ []) bytes >>= λ inside. bytes_at string_byte (suc (length inside)) inside >>= λ x. if is_utf8 x.0 then Some x else None
+
+unfoldable pub hex_at : List ℕ → Option (List ℕ × List ℕ)
+hex_at bytes = word_at (34 ∷ []) bytes >>= λ inside. bytes_at hex_byte (suc (length inside)) inside

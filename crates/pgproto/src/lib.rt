@@ -1,0 +1,9 @@
+//! Scripts that are played, and the lines of their transcripts.
+#![tactic(auto)]
+
+mod line;
+mod reader;
+mod stop;
+mod words;
+
+pub use line::{Mark, Script, ScriptLine, ScriptValue};
