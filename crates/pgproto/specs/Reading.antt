@@ -1,7 +1,9 @@
 -- Reading from the left: a value and the bytes after it, or nothing.
-use Rattle.std.specs.Prelude.{◌≡◌, ℕ, ◌+◌, ◌-◌, ◌*◌, ◌++◌, zero, suc, length, take, drop, bytes_eq, List, [], ◌∷◌, Bool, true, false, ◌&&◌, ◌||◌, ◌==◌, not, nat_le, nat_lt, if◌then◌else◌, Option, Some, None, Result, Ok, Err}
+use Rattle.std.specs.Prelude.{◌≡◌, ℕ, ◌+◌, ◌-◌, ◌*◌, ◌++◌, zero, suc, length, take, drop, bytes_eq, List, [], ◌∷◌, Bool, true, false, ◌&&◌, ◌||◌, ◌==◌, not, nat_le, nat_lt, if◌then◌else◌, Option, Some, None, Result, Ok, Err, ℤ, pos, neg_ℤ, codes}
 use Rattle.std.specs.Str.{is_utf8}
 use Rattle.pgproto.specs.Words.{is_digit, is_shown, hex_digit}
+use Rattle.pgproto.specs.declared.line.ScriptValue.{ScriptValue}
+use Rattle.pgproto.specs.declared.line.ScriptValue.TheVariants.{Null, Str, Hex}
 use Rattle.pgproto.specs.declared.stop.Stop.{Stop}
 use Rattle.pgproto.specs.declared.stop.Stop.TheVariants.{NotALine, NoMemory}
 
@@ -75,3 +77,50 @@ string_at bytes = word_at (34 ∷ []) bytes >>= λ inside. bytes_at string_byte 
 
 unfoldable pub hex_at : List ℕ → Option (List ℕ × List ℕ)
 hex_at bytes = word_at (34 ∷ []) bytes >>= λ inside. bytes_at hex_byte (suc (length inside)) inside
+
+-- a number of a session, of a backend
+unfoldable pub session_at : List ℕ → Option (ℕ × List ℕ)
+session_at bytes = number_at 64 bytes >>= λ x. if x.0 == 0 then None else Some x
+
+abbrev pub backend_at : List ℕ → Option (ℕ × List ℕ)
+backend_at bytes = number_at 7 bytes
+
+-- a minus in front
+abbrev pub has_minus : List ℕ → Bool
+has_minus [] = false
+has_minus (b ∷ bytes) = b == 45
+
+unfoldable pub limit_at : List ℕ → Option (ℤ × List ℕ)
+limit_at bytes =
+    if has_minus bytes then (word_at (codes "-") bytes >>= λ after. number_at 2147483648 after >>= λ x. Some (neg_ℤ (pos x.0), x.1))
+    else (number_at 2147483647 bytes >>= λ x. Some (pos x.0, x.1))
+
+-- the first byte; 0 where there is none
+abbrev pub front : List ℕ → ℕ
+front [] = 0
+front (b ∷ bytes) = b
+
+unfoldable pub value_at : List ℕ → Option (ScriptValue × List ℕ)
+value_at bytes =
+    if front bytes == 34 then (string_at bytes >>= λ x. Some (Str x.0, x.1))
+    else if front bytes == 120 then (word_at (codes "x") bytes >>= λ after. hex_at after >>= λ x. Some (Hex x.0, x.1))
+    else (word_at (codes "null") bytes >>= λ after. Some (Null, after))
+
+-- behind a space
+unfoldable pub spaced_at : {A : Type 0} → (List ℕ → Option (A × List ℕ)) → List ℕ → Option (A × List ℕ)
+spaced_at item bytes = word_at (codes " ") bytes >>= item
+
+abbrev pub with_items : {A : Type 0} → List A → Option (List A × List ℕ) → Option (List A × List ℕ)
+with_items front read = read >>= λ y. Some (front ++ y.0, y.1)
+
+-- so many, each behind a space
+unfoldable pub items_at : {A : Type 0} → (List ℕ → Option (A × List ℕ)) → ℕ → List ℕ → Option (List A × List ℕ)
+items_at item zero bytes = Some ([], bytes)
+items_at item (suc n) bytes = spaced_at item bytes >>= λ x. with_items (x.0 ∷ []) (items_at item n x.1)
+
+-- the greatest count of a list
+abbrev pub most_items : ℕ
+most_items = 32767
+
+unfoldable pub counted_at : {A : Type 0} → (List ℕ → Option (A × List ℕ)) → List ℕ → Option (List A × List ℕ)
+counted_at item bytes = spaced_at (number_at most_items) bytes >>= λ n. items_at item n.0 n.1

@@ -2,6 +2,7 @@
 #![tactic(auto)]
 
 mod line;
+mod parts;
 mod reader;
 mod stop;
 mod words;
