@@ -2,6 +2,7 @@
 #![tactic(auto)]
 
 mod line;
+mod lists;
 mod parts;
 mod reader;
 mod stop;

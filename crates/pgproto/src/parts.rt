@@ -81,7 +81,7 @@ pub(crate) fn spaced_string(alloc: Global, bytes: &[u8]) -> Result<(Text, &[u8])
 }
 
 #[tactic(auto, unfolding(crate::specs::Reading::spaced_at))]
-fn spaced_number(most: u32, bytes: &[u8]) -> Result<(u32, &[u8]), Stop>
+pub(crate) fn spaced_number(most: u32, bytes: &[u8]) -> Result<(u32, &[u8]), Stop>
     ensures gives { Gives (λ x. (x.0, x.1.now)) result (spaced_at (number_at most) bytes.now) }
     ensures most { IfOk result (λ x. x.0 ≤ most) }
 {
@@ -90,7 +90,7 @@ fn spaced_number(most: u32, bytes: &[u8]) -> Result<(u32, &[u8]), Stop>
 }
 
 #[tactic(auto, unfolding(crate::specs::Reading::spaced_at))]
-fn spaced_value(alloc: Global, bytes: &[u8]) -> Result<(ScriptValue, &[u8]), Stop>
+pub(crate) fn spaced_value(alloc: Global, bytes: &[u8]) -> Result<(ScriptValue, &[u8]), Stop>
     ensures { Gives (λ x. (x.0, x.1.now)) result (spaced_at value_at bytes.now) }
 {
     let after = word(b" ", bytes)?;
