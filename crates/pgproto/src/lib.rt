@@ -3,6 +3,7 @@
 
 mod line;
 mod lists;
+mod messages;
 mod parts;
 mod reader;
 mod stop;
