@@ -1,0 +1,10 @@
+pub mod Fields
+pub mod Frame
+pub mod Client
+pub mod Server
+pub mod Start
+pub mod Reading
+pub mod Bodies
+pub mod Fronts
+pub mod Calls
+pub mod Kept
