@@ -1,6 +1,7 @@
 //! Scripts that are played, and the lines of their transcripts.
 #![tactic(auto)]
 
+mod laws;
 mod line;
 mod lists;
 mod messages;
@@ -9,4 +10,5 @@ mod reader;
 mod stop;
 mod words;
 
+pub use laws::trial;
 pub use line::{Mark, Script, ScriptLine, ScriptValue};

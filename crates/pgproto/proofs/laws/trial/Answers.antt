@@ -1,0 +1,5 @@
+use Rattle.pgproto.proofs.WordLaws.{number_found}
+use Rattle.pgproto.proofs.laws.trial.Goals as goal
+
+pub returns : goal.returns
+returns c = number_found
