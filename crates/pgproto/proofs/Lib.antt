@@ -2,3 +2,4 @@ pub mod Digits
 pub mod Items
 pub mod Loop
 pub mod WordLaws
+pub mod TextLaws

@@ -40,14 +40,18 @@ number_at most bytes =
 abbrev pub word_at : List ℕ → List ℕ → Option (List ℕ)
 word_at word bytes = if bytes_eq (take (length word) bytes) word then Some (drop (length word) bytes) else None
 
+-- the byte that an escape stands for
+abbrev pub escape_at : List ℕ → Option (Option ℕ × List ℕ)
+escape_at [] = None
+escape_at (c ∷ bytes) = if c == 34 || c == 92 then Some (Some c, bytes) else if c == 110 then Some (Some 10, bytes) else None
+
 -- one byte of a string and the bytes after it; None at the quote that ends it
 abbrev pub string_byte : List ℕ → Option (Option ℕ × List ℕ)
 string_byte [] = None
-string_byte (b ∷ []) = if b == 34 then Some (None, []) else None
-string_byte (b ∷ c ∷ bytes) =
-    if b == 34 then Some (None, c ∷ bytes)
-    else if b == 92 then (if c == 34 || c == 92 then Some (Some c, bytes) else if c == 110 then Some (Some 10, bytes) else None)
-    else if is_shown b && not (b == 10) then Some (Some b, c ∷ bytes)
+string_byte (b ∷ bytes) =
+    if b == 34 then Some (None, bytes)
+    else if b == 92 then escape_at bytes
+    else if is_shown b && not (b == 10) then Some (Some b, bytes)
     else None
 
 -- two hexadecimal digits and the bytes after them; None at the quote that ends them

@@ -2,7 +2,7 @@
 ghost use Rattle.std.specs.Prelude.{◌≡◌, ◌<◌, ◌≤◌, ◌+◌, ◌*◌, ℕ, suc, min, length, true, false, IfOk, MatchOption};
 ghost use Rattle.std.specs.Str.{is_utf8};
 ghost use Rattle.pgproto.specs.Words.{is_digit, is_shown, hex_digit};
-ghost use Rattle.pgproto.specs.Reading.{Gives, bytes_at, digits_at, has_digit, hex_at, hex_byte, number_at, string_at, string_byte, word_at};
+ghost use Rattle.pgproto.specs.Reading.{Gives, bytes_at, digits_at, escape_at, has_digit, hex_at, hex_byte, number_at, string_at, string_byte, word_at};
 
 use crate::stop::Stop;
 use pool_base::{List, Text};
@@ -44,6 +44,18 @@ fn hex_digit(byte: u8) -> u8
     }
 }
 
+/// The byte that an escape stands for, and the bytes after it.
+fn escape(bytes: &[u8]) -> Result<(Option<u8>, &[u8]), Stop>
+    ensures gives { Gives (λ x. (x.0, x.1.now)) result (escape_at bytes.now) }
+    ensures shorter { IfOk result (λ x. length x.1.now < length bytes.now) }
+{
+    match bytes {
+        [byte, after @ ..] if *byte == b'"' || *byte == b'\\' => Ok((Some(*byte), after)),
+        [b'n', after @ ..] => Ok((Some(b'\n'), after)),
+        _ => Err(Stop::NotALine),
+    }
+}
+
 /// The next byte of a string, and the bytes after it; None at its last quote.
 fn string_byte(bytes: &[u8]) -> Result<(Option<u8>, &[u8]), Stop>
     ensures gives { Gives (λ x. (x.0, x.1.now)) result (string_byte bytes.now) }
@@ -51,12 +63,8 @@ fn string_byte(bytes: &[u8]) -> Result<(Option<u8>, &[u8]), Stop>
 {
     match bytes {
         [b'"', after @ ..] => Ok((None, after)),
-        [b'\\', byte, after @ ..] if *byte == b'"' || *byte == b'\\' => Ok((Some(*byte), after)),
-        [b'\\', b'n', after @ ..] => Ok((Some(b'\n'), after)),
-        [b'\\', ..] => Err(Stop::NotALine),
-        [byte, after @ ..] if is_shown(*byte) && *byte != b'\n' && !after.is_empty() => {
-            Ok((Some(*byte), after))
-        }
+        [b'\\', after @ ..] => escape(after),
+        [byte, after @ ..] if is_shown(*byte) && *byte != b'\n' => Ok((Some(*byte), after)),
         _ => Err(Stop::NotALine),
     }
 }
