@@ -63,6 +63,10 @@ IsString text = All (λ b. 0 < b) text
 abbrev pub IsCountable : {A : Type 0} → List A → Type 0
 IsCountable xs = length xs < 2 ^ 15
 
+-- a value whose length is not taken for that of null
+abbrev pub ValueFits : Option (List ℕ) → Type 0
+ValueFits v = IfSome v (λ bytes. length bytes < 4294967295)
+
 abbrev pub FieldFits : Field → Type 0
 FieldFits f = IsString f.name
 

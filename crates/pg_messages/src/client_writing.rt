@@ -1,6 +1,8 @@
 //! Writing a client's messages.
-ghost use Rattle.std.specs.Prelude.{◌≡◌, ◌++◌, ◌↔◌, ◌+◌, ◌-◌, ◌≤◌, ◌^◌, min, length, List as Sequence, ℕ, OnOk, OnErr, IsTrue};
+ghost use Rattle.std.specs.Prelude.{◌≡◌, ◌++◌, ◌↔◌, ◌+◌, ◌-◌, ◌≤◌, ◌^◌, min, length, List as Sequence, [], ◌∷◌, ℕ, OnOk, OnErr, IsTrue, All};
 ghost use Rattle.pg_messages.specs.declared.read.Read.TheVariants.{Whole};
+ghost use Rattle.pg_messages.specs.Fields.{target, IsCountable, ValueFits};
+ghost use Rattle.pg_messages.specs.declared.client.ClientMessage.TheVariants.{Bind};
 ghost use Rattle.pg_messages.specs.Client.{tag_of, body_of, spelling, IsClean, Fits, InRange, IsOtherType};
 ghost use Rattle.pg_messages.specs.Fronts.{client_front};
 ghost use Rattle.pg_messages.specs.Kept.{Keeps};
@@ -62,7 +64,11 @@ fn body_len(message: &ClientMessage) -> usize
     }
 }
 
-fn put_target(portal: bool, onto: &mut List<u8>) -> Result<(), NoMemory> {
+/// The letter that tells a portal from a statement.
+fn put_target(portal: bool, onto: &mut List<u8>) -> Result<(), NoMemory>
+    ensures put { OnOk result (onto.new ≡ onto.old ++ target portal ∷ []) }
+    ensures kept { OnErr result (Keeps onto.old onto.new) }
+{
     onto.push(if portal { b'P' } else { b'S' })
 }
 
@@ -73,7 +79,15 @@ fn put_bind(
     values: &[Option<List<u8>>],
     results: &[u16],
     onto: &mut List<u8>,
-) -> Result<(), NoMemory> {
+) -> Result<(), NoMemory>
+    requires formats { IsCountable formats.now }
+    requires values { IsCountable values.now }
+    requires values_fit { All ValueFits values.now }
+    requires results { IsCountable results.now }
+    ensures put { OnOk result (onto.new ≡ onto.old ++ body_of (Bind portal.now name.now formats.now values.now results.now)) }
+    ensures in_range { OnOk result (InRange (Bind portal.now name.now formats.now values.now results.now)) }
+    ensures kept { OnErr result (Keeps onto.old onto.new) }
+{
     put_string(portal, onto)?;
     put_string(name, onto)?;
     put_counted(formats, onto)?;

@@ -103,15 +103,16 @@ pub fn zero_ended_of<E: Entry>(alloc: Global, bytes: &[u8]) -> Result<(List<E>, 
     let mut rest = bytes;
     // Each entry takes a byte or more.
     for _ in 0..bytes.len() {
-        match rest {
-            [] => return Err(FieldFault::Malformed),
-            [0, after @ ..] => return Ok((entries, after)),
-            [_, ..] => {
-                let (entry, after) = E::entry_of(alloc, rest)?;
-                entries.push(entry)?;
-                rest = after;
-            }
+        let Some(first) = rest.first() else {
+            return Err(FieldFault::Malformed);
+        };
+        if *first == 0 {
+            let (_, after) = rest.split_at(1);
+            return Ok((entries, after));
         }
+        let (entry, after) = E::entry_of(alloc, rest)?;
+        entries.push(entry)?;
+        rest = after;
     }
     Err(FieldFault::Malformed)
 }

@@ -1,9 +1,9 @@
 //! Fields, put behind the bytes of a list.
-ghost use Rattle.std.specs.Prelude.{ℕ, List as Sequence, Option, ◌≡◌, ◌++◌, ◌∷◌, ◌<◌, ◌≤◌, ◌+◌, ◌-◌, ◌^◌, min, length, All, OnOk, OnErr, IfSome};
+ghost use Rattle.std.specs.Prelude.{ℕ, List as Sequence, Option, ◌≡◌, ◌++◌, ◌∷◌, ◌<◌, ◌≤◌, ◌+◌, ◌-◌, ◌^◌, min, length, All, OnOk, OnErr};
 ghost use Rattle.std.specs.List.{flat_map};
 ghost use Rattle.std.specs.Int.{w16, w32};
 ghost use Rattle.std.specs.Int.RustNames.{FitsSigned};
-ghost use Rattle.pg_messages.specs.Fields.{int16, int32, signed16, signed32, string, counted, zero_ended, value, field, part, IsString, IsCountable, FieldFits, PartFits, AreBytes, ValueInRange, FieldInRange, PartInRange};
+ghost use Rattle.pg_messages.specs.Fields.{int16, int32, signed16, signed32, string, counted, zero_ended, value, field, part, IsString, IsCountable, ValueFits, AreBytes, ValueInRange, FieldInRange, PartInRange};
 ghost use Rattle.pg_messages.specs.Kept.{Keeps};
 
 use crate::server::{Field, Part};
@@ -82,7 +82,7 @@ impl Spelled for u32 {
 impl Spelled for Option<List<u8>> {
     ghost spelled = { value };
 
-    ghost Fits = { λ v. IfSome v (λ bytes. length bytes < 2 ^ 32 - 1) };
+    ghost Fits = { ValueFits };
 
     ghost InRange = { ValueInRange };
 

@@ -1,0 +1,12 @@
+pub mod Loops
+pub mod Keeping
+pub mod Lengths
+pub mod FieldLemmas
+pub mod EntryLemmas
+pub mod BodyLemmas
+pub mod ClientLemmas
+pub mod FrameLemmas
+pub mod SideLemmas
+pub mod ServerLemmas
+pub mod StartLemmas
+pub mod CallLemmas
