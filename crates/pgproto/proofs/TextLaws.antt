@@ -221,3 +221,101 @@ string_again text bytes rest (is, parts) =
     ap (λ (w : Option (List ℕ)). w >>= λ inside. bytes_at string_byte (suc (length inside)) inside >>= λ y. if is_utf8 y.0 then Some y else None) (word_again (34 ∷ []) bytes inside begins)
     ∙ ap (λ (w : Option (List ℕ × List ℕ)). w >>= λ y. if is_utf8 y.0 then Some y else None) read
     ∙ taken (is_utf8 text) (text, rest) (is_utf8-from_IsUtf8 text is.utf8)
+
+-- ---- hexadecimal digits
+
+abbrev pub HexByte : ℕ → List ℕ → List ℕ → Type 0
+HexByte b bytes after = (high low : ℕ) × (hex_digit high < 16) × (hex_digit low < 16) × (b ≡ hex_digit high * 16 + hex_digit low) × (bytes ≡ high ∷ low ∷ after)
+
+below : (a b : ℕ) → nat_lt a b ≡ true → a < b
+below a b e = grind (arith, nat_tests)
+
+is_below : (a b : ℕ) → a < b → nat_lt a b ≡ true
+is_below a b e = grind (arith, nat_tests)
+
+-- a quote is no digit
+quote_no_digit : (b : ℕ) → hex_digit b < 16 → (b == 34) ≡ false
+quote_no_digit b small = go (b == 34) refl
+  where
+    go : (t : Bool) → (b == 34) ≡ t → t ≡ false
+    go true e = let h : hex_digit 34 < 16 = subst (λ (k : ℕ). hex_digit k < 16) (is_at b 34 e) small in absurd (omega arith)
+    go false e = refl
+
+hex_byte_found : (bytes : List ℕ) (b : ℕ) (after : List ℕ) → hex_byte bytes ≡ Some (Some b, after) → HexByte b bytes after
+hex_byte_found [] b after e = absurd (cc)
+hex_byte_found (h ∷ []) b after e = go (h == 34) e
+  where
+    go : (p : Bool) → (if p then gave None [] else None) ≡ Some (Some b, after) → HexByte b (h ∷ []) after
+    go true e = absurd (no_byte b [] after e)
+    go false e = absurd (cc)
+hex_byte_found (h ∷ l ∷ bytes) b after e = go (h == 34) (nat_lt (hex_digit h) 16 && nat_lt (hex_digit l) 16) refl e
+  where
+    go : (p q : Bool) → (nat_lt (hex_digit h) 16 && nat_lt (hex_digit l) 16) ≡ q → (if p then gave None (l ∷ bytes) else if q then gave (Some (hex_digit h * 16 + hex_digit l)) bytes else None) ≡ Some (Some b, after) → HexByte b (h ∷ l ∷ bytes) after
+    go true q q= e = absurd (no_byte b (l ∷ bytes) after e)
+    go false true q= e =
+        let s = some_byte b (hex_digit h * 16 + hex_digit l) bytes after e in
+        let t = both_true (nat_lt (hex_digit h) 16) (nat_lt (hex_digit l) 16) q= in
+        (h, l, below _ _ t.0, below _ _ t.1, sym s.0, ap (λ (xs : List ℕ). h ∷ l ∷ xs) s.1)
+    go false false q= e = absurd (cc)
+
+hex_end : (bytes after : List ℕ) → hex_byte bytes ≡ Some (None, after) → bytes ≡ 34 ∷ after
+hex_end [] after e = absurd (cc)
+hex_end (h ∷ []) after e = go (h == 34) refl e
+  where
+    go : (p : Bool) → (h == 34) ≡ p → (if p then gave None [] else None) ≡ Some (None, after) → h ∷ [] ≡ 34 ∷ after
+    go true p= e =
+        let p : ◌≡◌ {A = Option ℕ × List ℕ} (None, []) (None, after) = some_is _ _ e in
+        ap₂ (λ (k : ℕ) (xs : List ℕ). k ∷ xs) (is_at h 34 p=) (pair_1 _ _ p)
+    go false p= e = absurd (cc)
+hex_end (h ∷ l ∷ bytes) after e = go (h == 34) (nat_lt (hex_digit h) 16 && nat_lt (hex_digit l) 16) refl e
+  where
+    go : (p q : Bool) → (h == 34) ≡ p → (if p then gave None (l ∷ bytes) else if q then gave (Some (hex_digit h * 16 + hex_digit l)) bytes else None) ≡ Some (None, after) → h ∷ l ∷ bytes ≡ 34 ∷ after
+    go true q p= e =
+        let p : ◌≡◌ {A = Option ℕ × List ℕ} (None, l ∷ bytes) (None, after) = some_is _ _ e in
+        ap₂ (λ (k : ℕ) (xs : List ℕ). k ∷ xs) (is_at h 34 p=) (pair_1 _ _ p)
+    go false true p= e = absurd (quote_only (hex_digit h * 16 + hex_digit l) bytes after e)
+    go false false p= e = absurd (cc)
+
+hex_byte_again : (bytes : List ℕ) (b : ℕ) (after : List ℕ) → HexByte b bytes after → hex_byte bytes ≡ Some (Some b, after)
+hex_byte_again bytes b after (h, l, hs, ls, is, parts) =
+    ap hex_byte parts
+    ∙ ap (λ (t : Bool). if t then gave None (l ∷ after) else if nat_lt (hex_digit h) 16 && nat_lt (hex_digit l) 16 then gave (Some (hex_digit h * 16 + hex_digit l)) after else None) (quote_no_digit h hs)
+    ∙ ap₂ (λ (t u : Bool). if t && u then gave (Some (hex_digit h * 16 + hex_digit l)) after else None) (is_below _ _ hs) (is_below _ _ ls)
+    ∙ ap (λ (k : ℕ). gave (Some k) after) (sym is)
+
+hex_less : (bytes : List ℕ) (b : ℕ) (after : List ℕ) → HexByte b bytes after → length after < length bytes
+hex_less bytes b after (h, l, hs, ls, is, parts) = omega (arith, ap length parts)
+
+quote_ends : (rest : List ℕ) → hex_byte (34 ∷ rest) ≡ Some (None, rest)
+quote_ends [] = refl
+quote_ends (l ∷ rest) = refl
+
+hex_reads : Reads hex_byte HexByte
+hex_reads = record { found = hex_byte_found; end = hex_end; again = hex_byte_again; less = hex_less; quote = quote_ends }
+
+hex_from_run : (found bytes rest : List ℕ) → Run HexByte found bytes rest → (digits : List ℕ) × AreHexOf digits found × (bytes ≡ digits ++ rest)
+hex_from_run [] bytes rest r = ([], tt, r)
+hex_from_run (b ∷ found) bytes rest (after, (h, l, hs, ls, is, parts), more) =
+    let m = hex_from_run found after rest more in
+    (h ∷ l ∷ m.0, (hs, ls, is, m.1), parts ∙ ap (λ (xs : List ℕ). h ∷ l ∷ xs) m.2)
+
+hex_to_run : (digits found rest : List ℕ) → AreHexOf digits found → Run HexByte found (digits ++ rest) rest
+hex_to_run [] [] rest are = refl
+hex_to_run [] (b ∷ found) rest are = absurd are
+hex_to_run (h ∷ []) found rest are = absurd are
+hex_to_run (h ∷ l ∷ digits) [] rest are = absurd are
+hex_to_run (h ∷ l ∷ digits) (b ∷ found) rest (hs, ls, is, more) = (digits ++ rest, (h, l, hs, ls, is, refl), hex_to_run digits found rest more)
+
+pub hex_found : (bytes : List ℕ) (x : List ℕ × List ℕ) → hex_at bytes ≡ Some x → HexOf x.0 bytes x.1
+unfolding hex_at
+hex_found bytes x e =
+    let r = bind_some (word_at (34 ∷ []) bytes) (λ inside. bytes_at hex_byte (suc (length inside)) inside) x e in
+    let run = hex_from_run x.0 r.0 (34 ∷ x.1) (run_found hex_reads (suc (length r.0)) r.0 x r.2) in
+    (run.0, run.1, word_found (34 ∷ []) bytes r.0 r.1 ∙ ap (λ (xs : List ℕ). 34 ∷ xs) run.2)
+
+pub hex_again : (found bytes rest : List ℕ) → HexOf found bytes rest → hex_at bytes ≡ Some (found, rest)
+unfolding hex_at
+hex_again found bytes rest (digits, are, parts) =
+    let inside = digits ++ 34 ∷ rest in
+    ap (λ (w : Option (List ℕ)). w >>= λ inside. bytes_at hex_byte (suc (length inside)) inside) (word_again (34 ∷ []) bytes inside parts)
+    ∙ run_again hex_reads found (suc (length inside)) inside rest (hex_to_run digits found (34 ∷ rest) are) (omega arith)
