@@ -3,3 +3,4 @@ pub mod Items
 pub mod Loop
 pub mod WordLaws
 pub mod TextLaws
+pub mod PartLaws

@@ -32,7 +32,7 @@ fronted : (b : ℕ) (r : Option (List ℕ × List ℕ)) (x : List ℕ × List �
 fronted b (Some y) x e = (y, refl, sym cc)
 fronted b None x e = absurd (cc)
 
-some_is : {A : Type 0} (x y : A) → Some x ≡ Some y → x ≡ y
+pub some_is : {A : Type 0} (x y : A) → Some x ≡ Some y → x ≡ y
 some_is x y e = cc
 
 module _ {step : List ℕ → Option (Option ℕ × List ℕ)} {form : ℕ → List ℕ → List ℕ → Type 0} (reads : Reads step form) where
@@ -101,10 +101,10 @@ not_both true false e = (refl, refl)
 not_both true true e = absurd (cc)
 not_both false b e = absurd (cc)
 
-is_at : (a b : ℕ) → (a == b) ≡ true → a ≡ b
+pub is_at : (a b : ℕ) → (a == b) ≡ true → a ≡ b
 is_at a b e = grind (arith, nat_tests)
 
-is_not : (a b : ℕ) → (a == b) ≡ false → a ≢ b
+pub is_not : (a b : ℕ) → (a == b) ≡ false → a ≢ b
 is_not a b e = grind (arith, nat_tests)
 
 -- an escape stands for a quote, a backslash or LF
