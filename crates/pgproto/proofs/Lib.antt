@@ -4,3 +4,4 @@ pub mod Loop
 pub mod WordLaws
 pub mod TextLaws
 pub mod PartLaws
+pub mod FieldLaws

@@ -1,5 +1,6 @@
 -- A line of a script as plain data, and which bytes are such a line.
 use Rattle.std.specs.Prelude.{◌≡◌, ◌≤◌, ◌<◌, ℕ, ℤ, pos, neg_ℤ, ◌+◌, ◌++◌, ◌⊎◌, List, [], ◌∷◌, length, map, Bool, true, false, codes}
+use Rattle.std.specs.List.{AllByRecursion}
 use Rattle.pgproto.specs.Words.{AreHexOf, IsNumber, IsString, quoted}
 use Rattle.pgproto.specs.declared.line.Mark.{Mark}
 use Rattle.pgproto.specs.declared.line.Mark.TheVariants as mark
@@ -155,3 +156,12 @@ IsLine (close s portal name) bytes =
 IsLine (flush s) bytes = Numbered s (codes " 'H'") bytes []
 IsLine (sync s) bytes = Numbered s (codes " 'S'") bytes []
 IsLine (terminate s) bytes = Numbered s (codes " 'X'") bytes []
+
+-- the lists of a line can be counted, and their numbers are of their types
+abbrev pub IsSmall : Line → Type 0
+IsSmall (parse s name text kinds) = (length kinds ≤ 32767) × AllByRecursion (λ n. n ≤ 4294967295) kinds
+IsSmall (bind s portal name formats values results) =
+    ((length formats ≤ 32767) × AllByRecursion (λ n. n ≤ 65535) formats)
+    × (length values ≤ 32767)
+    × ((length results ≤ 32767) × AllByRecursion (λ n. n ≤ 65535) results)
+IsSmall line = Unit {0}
