@@ -5,3 +5,4 @@ pub mod WordLaws
 pub mod TextLaws
 pub mod PartLaws
 pub mod FieldLaws
+pub mod LineLaws
