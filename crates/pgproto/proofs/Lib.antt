@@ -6,3 +6,4 @@ pub mod TextLaws
 pub mod PartLaws
 pub mod FieldLaws
 pub mod LineLaws
+pub mod LineAgain
