@@ -7,3 +7,4 @@ pub mod PartLaws
 pub mod FieldLaws
 pub mod LineLaws
 pub mod LineAgain
+pub mod ReaderLaws

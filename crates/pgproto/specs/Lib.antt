@@ -1,4 +1,5 @@
 pub mod Words
 pub mod Line
+pub mod Script
 pub mod Reading
 pub mod LineReading

@@ -1,14 +1,16 @@
 //! Scripts that are played, and the lines of their transcripts.
 #![tactic(auto)]
 
-mod laws;
 mod line;
 mod lists;
+mod message;
 mod messages;
 mod parts;
 mod reader;
+mod script;
 mod stop;
 mod words;
 
-pub use laws::trial;
 pub use line::{Mark, Script, ScriptLine, ScriptValue};
+pub use message::message_of;
+pub use script::ScriptFault;

@@ -1,6 +1,6 @@
 //! The reader of one line.
-ghost use Rattle.std.specs.Prelude.{◌≡◌, ℕ};
-ghost use Rattle.pgproto.specs.Line.{line_of, place_of};
+ghost use Rattle.std.specs.Prelude.{◌≡◌, ℕ, Some, IfOk};
+ghost use Rattle.pgproto.specs.Line.{IsLine, IsSmall, Line, line_of, place_of};
 ghost use Rattle.pgproto.specs.Reading.{Gives, front, spaced_at};
 ghost use Rattle.pgproto.specs.LineReading.{answer_at, cut_line_at, ended, letter_at, line_at, lose_line_at, moment_line_at, numbered_at, order_at, place_at, post_at, raw_at, session_line_at, target_at, until_at};
 
@@ -13,8 +13,16 @@ use pool_base::SessionId;
 use std::alloc::Global;
 
 /// The line that the bytes are, without its end.
-#[tactic(auto, unfolding(crate::specs::LineReading::line_at))]
 pub(crate) fn line(alloc: Global, bytes: &[u8]) -> Result<ScriptLine, Stop>
+    ensures found { IfOk result (λ l. IsLine (line_of l) bytes.now) }
+    ensures small { IfOk result (λ l. IsSmall (line_of l)) }
+    ensures only { (l : Line) → IsLine l bytes.now → IsSmall l → Gives line_of result (Some l) }
+{
+    exact_line(alloc, bytes)
+}
+
+#[tactic(auto, unfolding(crate::specs::LineReading::line_at))]
+fn exact_line(alloc: Global, bytes: &[u8]) -> Result<ScriptLine, Stop>
     ensures { Gives line_of result (line_at bytes.now) }
 {
     match bytes {
