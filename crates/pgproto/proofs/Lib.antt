@@ -8,3 +8,4 @@ pub mod FieldLaws
 pub mod LineLaws
 pub mod LineAgain
 pub mod ReaderLaws
+pub mod ScriptLaws

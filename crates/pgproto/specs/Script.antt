@@ -82,7 +82,7 @@ pub record IsBadAt (text : List ℕ) (n : ℕ) : Type 0 where
   pub one_each : AllByRecursion IsOneLine before
   pub one : IsOneLine bad
   pub are : AreLines before found
-  pub text_is : text ≡ text_of before ++ bad ++ behind
+  pub text_is : text ≡ text_of before ++ (bad ++ behind)
   pub number : length before + 1 ≡ n
   pub is_bad : IsBad bad behind
 

@@ -13,4 +13,4 @@ mod words;
 
 pub use line::{Mark, Script, ScriptLine, ScriptValue};
 pub use message::message_of;
-pub use script::ScriptFault;
+pub use script::{ScriptFault, read_script};

@@ -1,5 +1,5 @@
 //! The reader of a whole script.
-ghost use Rattle.std.specs.Prelude.{◌≡◌, ◌≢◌, ◌<◌, ◌≤◌, ◌+◌, ◌++◌, ◌∷◌, ◌↔◌, ℕ, List, Some, [], length, map, IfOk, IfErr, IsTrue, MatchOption};
+ghost use Rattle.std.specs.Prelude.{◌≡◌, ◌≢◌, ◌<◌, ◌≤◌, ◌+◌, ◌++◌, ◌∷◌, ◌↔◌, ℕ, List, Some, [], length, map, IfOk, IfErr, IfNone, IfSome, IsTrue};
 ghost use Rattle.pgproto.specs.Line.{Line, line_of};
 ghost use Rattle.pgproto.specs.Reading.{Gives};
 ghost use Rattle.pgproto.specs.Script.{IfBadLine, IsBadAt, IsOneLine, IsScript, IsScriptLine, IsScriptOr, IsSkipped};
@@ -10,8 +10,8 @@ use crate::message::message_of;
 use crate::reader::line;
 use crate::stop::Stop;
 use pg_messages::fits;
-use pool_base::{List, NoMemory};
-use std::alloc::Global;
+use pool_base::List;
+use std::alloc::{AllocFailed, Global};
 
 /// Why a script was not read.
 #[derive(Clone, Copy, Debug, PartialEq, Eq, Drop)]
@@ -22,8 +22,12 @@ pub enum ScriptFault {
     NoMemory,
 }
 
-impl From<NoMemory> for ScriptFault {
-    fn from(_: NoMemory) -> ScriptFault {
+impl<T: Drop> From<AllocFailed<T>> for ScriptFault {
+    ghost use Rattle.pgproto.specs.declared.script.ScriptFault.TheVariants as fault;
+
+    ghost from_gives = { λ _ e. e ≡ fault.NoMemory };
+
+    fn from(_: AllocFailed<T>) -> ScriptFault {
         ScriptFault::NoMemory
     }
 }
@@ -41,4 +45,48 @@ fn script_line(alloc: Global, bytes: &[u8]) -> Result<ScriptLine, Stop>
         }
     }
     Ok(found)
+}
+
+/// The first line and what follows its end, if it has one.
+fn next_line(bytes: &[u8]) -> Option<(&[u8], &[u8])>
+    ensures parts { IfSome result (λ x. bytes.now ≡ x.0.now ++ 10 ∷ x.1.now) }
+    ensures one { IfSome result (λ x. IsOneLine x.0.now) }
+    ensures none { IfNone result (IsOneLine bytes.now) }
+{
+    let end = bytes.iter().position(|byte| *byte == b'\n')?;
+    Some((&bytes[..end], &bytes[end + 1..]))
+}
+
+/// Whether a line says nothing.
+fn is_skipped(line: &[u8]) -> bool
+    ensures { IsTrue result ↔ IsSkipped line.now }
+{
+    matches!(line, [] | [b'#', ..])
+}
+
+/// The lines of a script, without blank lines and comments, which are counted.
+pub fn read_script(alloc: Global, text: &[u8]) -> Result<Script, ScriptFault>
+    requires { length text.now < 4294967295 }
+    ensures found { IfOk result (λ script. IsScript text.now (map line_of script)) }
+    ensures only { (found : List Line) → IsScript text.now found → IsScriptOr result found }
+    ensures bad { IfBadLine result (λ n. IsBadAt text.now n) }
+{
+    let mut found = Vec::new(alloc);
+    let mut rest = text;
+    let mut number = 0;
+    while !rest.is_empty() {
+        let Some((bytes, after)) = next_line(rest) else {
+            return Err(ScriptFault::BadLine(number + 1));
+        };
+        if !is_skipped(bytes) {
+            match script_line(alloc, bytes) {
+                Ok(line) => found.push(line)?,
+                Err(Stop::NotALine) => return Err(ScriptFault::BadLine(number + 1)),
+                Err(Stop::NoMemory) => return Err(ScriptFault::NoMemory),
+            }
+        }
+        rest = after;
+        number += 1;
+    }
+    Ok(List::from_vec(found))
 }
