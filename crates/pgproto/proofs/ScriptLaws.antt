@@ -6,7 +6,7 @@ use Rattle.pgproto.specs.declared.line.ScriptLine.{ScriptLine}
 use Rattle.pgproto.specs.declared.script.ScriptFault.{ScriptFault}
 use Rattle.pgproto.specs.declared.script.ScriptFault.TheVariants as fault
 use Rattle.pgproto.specs.Line.{IsLine, IsSmall, Line, line_of}
-use Rattle.pgproto.specs.Script.{AreLines, IsBad, IsBadAt, IsOneLine, IsScript, IsScriptLine, IsScriptOr, IsSkipped, text_of}
+use Rattle.pgproto.specs.Script.{AreLines, IsBad, IsBadAt, IsNoLine, IsOneLine, IsScript, IsScriptLine, IsScriptOr, IsSkipped, Takes, text_of}
 use Rattle.pgproto.specs.Reading.{◌>>=◌, number_at, session_at}
 use Rattle.pgproto.specs.LineReading.{line_at, numbered_at}
 use Rattle.pgproto.proofs.TextLaws.{some_is}
@@ -68,6 +68,12 @@ keeps text rest line after found n l g parts one is = record {
   count = length-append g.lines (line ∷ []) ∙ ap (λ (k : ℕ). k + 1) g.count;
 }
 
+pub goes_on : (text rest line after : List ℕ) (found new : List Line) (n : ℕ) → Going text rest found n → rest ≡ line ++ 10 ∷ after → IsOneLine line → Takes found new line → Going text after new (n + 1)
+goes_on text rest line after found new n g parts one (inl (skip, same)) =
+    subst (λ (xs : List Line). Going text after xs (n + 1)) (sym same) (skips text rest line after found n g parts one skip)
+goes_on text rest line after found new n g parts one (inr (l, is, same)) =
+    subst (λ (xs : List Line). Going text after xs (n + 1)) (sym same) (keeps text rest line after found n l g parts one is)
+
 pub is_done : (text rest : List ℕ) (found : List Line) (n : ℕ) → Going text rest found n → rest ≡ [] → IsScript text found
 is_done text rest found n g end = record {
   lines = g.lines;
@@ -76,8 +82,8 @@ is_done text rest found n g end = record {
   are = g.are;
 }
 
-pub bad_line : (text rest line after : List ℕ) (found : List Line) (n : ℕ) → Going text rest found n → rest ≡ line ++ 10 ∷ after → IsOneLine line → (IsSkipped line → ⊥) → ((l : Line) → IsScriptLine l line → ⊥) → IsBadAt text (n + 1)
-bad_line text rest line after found n g parts one no_skip no_line = record {
+pub bad_line : (text rest line after : List ℕ) (found : List Line) (n : ℕ) → Going text rest found n → rest ≡ line ++ 10 ∷ after → IsOneLine line → IsNoLine line → IsBadAt text (n + 1)
+bad_line text rest line after found n g parts one none = record {
   before = g.lines;
   found = found;
   bad = line;
@@ -87,7 +93,7 @@ bad_line text rest line after found n g parts one no_skip no_line = record {
   are = g.are;
   text_is = g.parts ∙ ap (λ (xs : List ℕ). text_of g.lines ++ xs) parts;
   number = ap (λ (k : ℕ). k + 1) g.count;
-  is_bad = inl (after, refl, no_skip, no_line);
+  is_bad = inl (after, refl, none);
 }
 
 pub no_end : (text rest : List ℕ) (found : List Line) (n : ℕ) → Going text rest found n → IsOneLine rest → rest ≢ [] → IsBadAt text (n + 1)
@@ -163,16 +169,16 @@ one_script text xs ys p q =
     same_found q.lines xs ys (subst (λ (lines : List (List ℕ)). AreLines lines xs) same p.are) q.are
 
 clash_first : (lines : List (List ℕ)) (bad behind : List ℕ) (found : List Line) → AreOneEach lines → IsOneLine bad → bad ++ behind ≡ text_of lines → AreLines lines found → IsBad bad behind → ⊥
-clash_first [] bad behind found each one e are (inl (rest, is, no_skip, no_line)) = never_empty bad rest (ap (λ (xs : List ℕ). bad ++ xs) (sym is) ∙ e)
+clash_first [] bad behind found each one e are (inl (rest, is, none)) = never_empty bad rest (ap (λ (xs : List ℕ). bad ++ xs) (sym is) ∙ e)
 clash_first [] bad behind found each one e are (inr (is, some)) = some (sym (append-nil bad) ∙ ap (λ (xs : List ℕ). bad ++ xs) (sym is) ∙ e)
 clash_first (line ∷ lines) bad behind found each one e are (inr (is, some)) =
     no_lf line (text_of lines) (subst IsOneLine (sym (append-nil bad) ∙ ap (λ (xs : List ℕ). bad ++ xs) (sym is) ∙ e ∙ text_cons line lines) one)
-clash_first (line ∷ lines) bad behind found each one e (inl (skip, are)) (inl (rest, is, no_skip, no_line)) =
+clash_first (line ∷ lines) bad behind found each one e (inl (skip, are)) (inl (rest, is, none)) =
     let r = one_split bad line rest (text_of lines) one each.0 (ap (λ (xs : List ℕ). bad ++ xs) (sym is) ∙ e ∙ text_cons line lines) in
-    no_skip (subst IsSkipped (sym r.0) skip)
-clash_first (line ∷ lines) bad behind found each one e (inr (l, more, has, parts, are)) (inl (rest, is, no_skip, no_line)) =
+    none.0 (subst IsSkipped (sym r.0) skip)
+clash_first (line ∷ lines) bad behind found each one e (inr (l, more, has, parts, are)) (inl (rest, is, none)) =
     let r = one_split bad line rest (text_of lines) one each.0 (ap (λ (xs : List ℕ). bad ++ xs) (sym is) ∙ e ∙ text_cons line lines) in
-    no_line l (subst (IsScriptLine l) (sym r.0) has)
+    none.1 l (subst (IsScriptLine l) (sym r.0) has)
 
 fewer : (line : List ℕ) (lines : List (List ℕ)) (found : List Line) → AreLines (line ∷ lines) found → (more : List Line) × AreLines lines more
 fewer line lines found (inl (skip, are)) = (found, are)
@@ -189,3 +195,7 @@ clash (b ∷ before) (line ∷ lines) bad behind found p q one e are is =
 
 pub bad_is_no_script : (text : List ℕ) (n : ℕ) (found : List Line) → IsBadAt text n → IsScript text found → ⊥
 bad_is_no_script text n found b s = clash b.before s.lines b.bad b.behind found b.one_each s.one_each b.one (sym b.text_is ∙ s.text_is) s.are b.is_bad
+
+pub empty_of : (xs : List ℕ) → length xs ≡ 0 → xs ≡ []
+empty_of [] e = refl
+empty_of (x ∷ xs) e = absurd (omega arith)

@@ -67,10 +67,18 @@ pub record IsScript (text : List ℕ) (found : List Line) : Type 0 where
   pub text_is : text ≡ text_of lines
   pub are : AreLines lines found
 
+-- the bytes are not skipped, and are no line of a script
+abbrev pub IsNoLine : List ℕ → Type 0
+IsNoLine bytes = (IsSkipped bytes → ⊥) × ((l : Line) → IsScriptLine l bytes → ⊥)
+
+-- the line is skipped, or kept behind the others
+abbrev pub Takes : List Line → List Line → List ℕ → Type 0
+Takes old new bytes = (IsSkipped bytes × (new ≡ old)) ⊎ ((l : Line) × IsScriptLine l bytes × (new ≡ old ++ l ∷ []))
+
 -- a line that is no line of a script, or one at the end that has no end
 abbrev pub IsBad : List ℕ → List ℕ → Type 0
 IsBad bad behind =
-    ((rest : List ℕ) × (behind ≡ 10 ∷ rest) × (IsSkipped bad → ⊥) × ((l : Line) → IsScriptLine l bad → ⊥))
+    ((rest : List ℕ) × (behind ≡ 10 ∷ rest) × IsNoLine bad)
     ⊎ ((behind ≡ []) × (bad ≢ []))
 
 -- the first bad line of the text has this number, counted from 1

@@ -1,8 +1,8 @@
 //! The reader of a whole script.
-ghost use Rattle.std.specs.Prelude.{◌≡◌, ◌≢◌, ◌<◌, ◌≤◌, ◌+◌, ◌++◌, ◌∷◌, ◌↔◌, ℕ, List, Some, [], length, map, IfOk, IfErr, IfNone, IfSome, IsTrue};
+ghost use Rattle.std.specs.Prelude.{◌≡◌, ◌≢◌, ◌<◌, ◌≤◌, ◌+◌, ◌++◌, ◌∷◌, ◌↔◌, ℕ, List, Some, [], length, map, IfOk, IfErr, IfNone, IfSome, IsTrue, OnOk};
 ghost use Rattle.pgproto.specs.Line.{Line, line_of};
 ghost use Rattle.pgproto.specs.Reading.{Gives};
-ghost use Rattle.pgproto.specs.Script.{IfBadLine, IsBadAt, IsOneLine, IsScript, IsScriptLine, IsScriptOr, IsSkipped};
+ghost use Rattle.pgproto.specs.Script.{IfBadLine, IsBadAt, IsNoLine, IsOneLine, IsScript, IsScriptLine, IsScriptOr, IsSkipped, Takes};
 ghost use Rattle.pgproto.specs.declared.stop.Stop.TheVariants.{NotALine};
 
 use crate::line::{Script, ScriptLine};
@@ -11,7 +11,7 @@ use crate::reader::line;
 use crate::stop::Stop;
 use pg_messages::fits;
 use pool_base::List;
-use std::alloc::{AllocFailed, Global};
+use std::alloc::Global;
 
 /// Why a script was not read.
 #[derive(Clone, Copy, Debug, PartialEq, Eq, Drop)]
@@ -20,16 +20,6 @@ pub enum ScriptFault {
     BadLine(u32),
     /// Memory was refused.
     NoMemory,
-}
-
-impl<T: Drop> From<AllocFailed<T>> for ScriptFault {
-    ghost use Rattle.pgproto.specs.declared.script.ScriptFault.TheVariants as fault;
-
-    ghost from_gives = { λ _ e. e ≡ fault.NoMemory };
-
-    fn from(_: AllocFailed<T>) -> ScriptFault {
-        ScriptFault::NoMemory
-    }
 }
 
 /// One line whose message can be written.
@@ -64,6 +54,19 @@ fn is_skipped(line: &[u8]) -> bool
     matches!(line, [] | [b'#', ..])
 }
 
+/// Puts a line behind the others, unless it says nothing.
+fn take_line(alloc: Global, found: &mut Vec<ScriptLine>, bytes: &[u8]) -> Result<(), Stop>
+    ensures ok { OnOk result (Takes (map line_of found.old.items) (map line_of found.new.items) bytes.now) }
+    ensures bad { IfErr result (λ stop. stop ≡ NotALine → IsNoLine bytes.now) }
+{
+    if is_skipped(bytes) {
+        return Ok(());
+    }
+    let line = script_line(alloc, bytes)?;
+    found.push(line)?;
+    Ok(())
+}
+
 /// The lines of a script, without blank lines and comments, which are counted.
 pub fn read_script(alloc: Global, text: &[u8]) -> Result<Script, ScriptFault>
     requires { length text.now < 4294967295 }
@@ -78,14 +81,11 @@ pub fn read_script(alloc: Global, text: &[u8]) -> Result<Script, ScriptFault>
         let Some((bytes, after)) = next_line(rest) else {
             return Err(ScriptFault::BadLine(number + 1));
         };
-        if !is_skipped(bytes) {
-            match script_line(alloc, bytes) {
-                Ok(line) => found.push(line)?,
-                Err(Stop::NotALine) => return Err(ScriptFault::BadLine(number + 1)),
-                Err(Stop::NoMemory) => return Err(ScriptFault::NoMemory),
-            }
+        match take_line(alloc, &mut found, bytes) {
+            Ok(()) => rest = after,
+            Err(Stop::NotALine) => return Err(ScriptFault::BadLine(number + 1)),
+            Err(Stop::NoMemory) => return Err(ScriptFault::NoMemory),
         }
-        rest = after;
         number += 1;
     }
     Ok(List::from_vec(found))
