@@ -9,3 +9,4 @@ pub mod LineLaws
 pub mod LineAgain
 pub mod ReaderLaws
 pub mod ScriptLaws
+pub mod SpellingLaws

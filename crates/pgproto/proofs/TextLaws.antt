@@ -69,7 +69,7 @@ gave byte bytes = Some (byte, bytes)
 abbrev pub StringByte : ℕ → List ℕ → List ℕ → Type 0
 StringByte b bytes after = (is_shown b ≡ true) × (bytes ≡ escaped b ++ after)
 
-plain_escaped : (b : ℕ) → (b == 34) ≡ false → (b == 92) ≡ false → (b == 10) ≡ false → escaped b ≡ b ∷ []
+pub plain_escaped : (b : ℕ) → (b == 34) ≡ false → (b == 92) ≡ false → (b == 10) ≡ false → escaped b ≡ b ∷ []
 plain_escaped b p q r =
     ap (λ (t : Bool). if t then 92 ∷ 34 ∷ [] else if b == 92 then 92 ∷ 92 ∷ [] else if b == 10 then 92 ∷ 110 ∷ [] else b ∷ []) p
     ∙ ap (λ (t : Bool). if t then 92 ∷ 92 ∷ [] else if b == 10 then 92 ∷ 110 ∷ [] else b ∷ []) q

@@ -3,3 +3,5 @@ pub mod Line
 pub mod Script
 pub mod Reading
 pub mod LineReading
+pub mod Spelling
+pub mod Rendering

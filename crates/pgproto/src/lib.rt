@@ -6,11 +6,17 @@ mod lists;
 mod message;
 mod messages;
 mod parts;
+mod pieces;
+mod print;
 mod reader;
+mod rendering;
 mod script;
+mod spelling;
 mod stop;
 mod words;
 
 pub use line::{Mark, Script, ScriptLine, ScriptValue};
 pub use message::message_of;
+pub use print::{echo, print_line};
+pub use rendering::render;
 pub use script::{ScriptFault, read_script};
