@@ -127,6 +127,7 @@ letter_found (a ∷ b ∷ c ∷ bytes) x e = go (a == 39) (c == 39) refl refl e
   where
     read : Option (ℕ × List ℕ)
     read = Some (b, bytes)
+
     go : (p q : Bool) → (a == 39) ≡ p → (c == 39) ≡ q → (if p then (if q then read else None) else None) ≡ Some x → a ∷ b ∷ c ∷ bytes ≡ 39 ∷ x.0 ∷ 39 ∷ x.1
     go true true p= q= e =
         let is : ◌≡◌ {A = ℕ × List ℕ} (b, bytes) x = some_is _ _ e in
@@ -142,8 +143,10 @@ target_found bytes y x parts e = go (y.0 == 80) (y.0 == 83) refl refl e
   where
     portal : Option (Bool × List ℕ)
     portal = Some (true, y.1)
+
     statement : Option (Bool × List ℕ)
     statement = Some (false, y.1)
+
     go : (p q : Bool) → (y.0 == 80) ≡ p → (y.0 == 83) ≡ q → (if p then portal else if q then statement else None) ≡ Some x → TargetOf x.0 bytes x.1
     go true q p= q= e =
         let is : ◌≡◌ {A = Bool × List ℕ} (true, y.1) x = some_is _ _ e in
@@ -233,10 +236,10 @@ pub place_found : (bytes : List ℕ) (p : Place) → place_at bytes ≡ Some p �
 unfolding place_at
 place_found bytes p e =
     either (Fine bytes p) (front bytes == 111) (only_word (codes "order") order bytes) _ (word_fine bytes p (codes "order") order (λ w. w))
-        (either (Fine bytes p) (front bytes == 115) (only_word (codes "snapshot") snapshot bytes) _ (word_fine bytes p (codes "snapshot") snapshot (λ w. w))
-        (either (Fine bytes p) (front bytes == 99) (only_word (codes "commit") commit bytes) _ (word_fine bytes p (codes "commit") commit (λ w. w))
-        (either (Fine bytes p) (front bytes == 112) (post_at bytes) _ (post_found bytes p)
-        (either (Fine bytes p) (front bytes == 97) (answer_at bytes) _ (answer_found bytes p) (word_fine bytes p (codes "reply") reply (λ w. w)))))) e
+    (either (Fine bytes p) (front bytes == 115) (only_word (codes "snapshot") snapshot bytes) _ (word_fine bytes p (codes "snapshot") snapshot (λ w. w))
+    (either (Fine bytes p) (front bytes == 99) (only_word (codes "commit") commit bytes) _ (word_fine bytes p (codes "commit") commit (λ w. w))
+    (either (Fine bytes p) (front bytes == 112) (post_at bytes) _ (post_found bytes p)
+    (either (Fine bytes p) (front bytes == 97) (answer_at bytes) _ (answer_found bytes p) (word_fine bytes p (codes "reply") reply (λ w. w)))))) e
 
 pub place_again : (p : Place) (bytes : List ℕ) → PlaceOf p bytes [] → place_at bytes ≡ Some p
 unfolding place_at

@@ -129,9 +129,18 @@ module _ (s : ℕ) (bytes a b : List ℕ) (number : SessionOf s bytes a) (space 
         let kinds = bind_some (counted_at (number_at 4294967295) (text.0).1) (λ kinds. ended (parse s (name.0).0 (text.0).0 kinds.0) kinds.1) l text.2 in
         let f = ended_found (parse s (name.0).0 (text.0).0 (kinds.0).0) l (kinds.0).1 kinds.2 in
         let g = (good_counted (good_number 4294967295)).found (text.0).1 kinds.0 kinds.1 in
-        subst (Fine bytes) f.1
-          ((rest, (name.0).1, (text.0).1, at_letter 80 is, (good_text.found rest name.0 name.1).0, (good_text.found (name.0).1 text.0 text.1).0,
-            subst (λ (xs : List ℕ). CountedOf NumberOf (kinds.0).0 (text.0).1 xs) f.0 g.0), g.1)
+        subst (Fine bytes) f.1 (
+          (
+            rest,
+            (name.0).1,
+            (text.0).1,
+            at_letter 80 is,
+            (good_text.found rest name.0 name.1).0,
+            (good_text.found (name.0).1 text.0 text.1).0,
+            subst (λ (xs : List ℕ). CountedOf NumberOf (kinds.0).0 (text.0).1 xs) f.0 g.0,
+          ),
+          g.1,
+        )
 
     describe_found : letter ≡ 68 → describe_at s rest ≡ Some l → Fine bytes l
     unfolding describe_at
@@ -159,7 +168,7 @@ module _ (s : ℕ) (bytes a b : List ℕ) (number : SessionOf s bytes a) (space 
         let f = ended_found (execute s (portal.0).0 (limit.0).0) l (limit.0).1 limit.2 in
         let g = ((good_spaced good_limit).found (portal.0).1 limit.0 limit.1).0 in
         subst (Fine bytes) f.1
-          ((rest, (portal.0).1, at_letter 69 is, (good_text.found rest portal.0 portal.1).0, subst (λ (xs : List ℕ). Spaced LimitOf (limit.0).0 (portal.0).1 xs) f.0 g), tt)
+        ((rest, (portal.0).1, at_letter 69 is, (good_text.found rest portal.0 portal.1).0, subst (λ (xs : List ℕ). Spaced LimitOf (limit.0).0 (portal.0).1 xs) f.0 g), tt)
 
     bind_found : letter ≡ 66 → bind_at s rest ≡ Some l → Fine bytes l
     unfolding bind_at
@@ -173,9 +182,22 @@ module _ (s : ℕ) (bytes a b : List ℕ) (number : SessionOf s bytes a) (space 
         let g = (good_counted (good_number 65535)).found (name.0).1 formats.0 formats.1 in
         let v = (good_counted good_value).found (formats.0).1 values.0 values.1 in
         let h = (good_counted (good_number 65535)).found (values.0).1 results.0 results.1 in
-        subst (Fine bytes) f.1
-          ((rest, (portal.0).1, (name.0).1, (formats.0).1, (values.0).1, at_letter 66 is, (good_text.found rest portal.0 portal.1).0, (good_text.found (portal.0).1 name.0 name.1).0,
-            g.0, v.0, subst (λ (xs : List ℕ). CountedOf NumberOf (results.0).0 (values.0).1 xs) f.0 h.0), (g.1, (v.1).0, h.1))
+        subst (Fine bytes) f.1 (
+          (
+            rest,
+            (portal.0).1,
+            (name.0).1,
+            (formats.0).1,
+            (values.0).1,
+            at_letter 66 is,
+            (good_text.found rest portal.0 portal.1).0,
+            (good_text.found (portal.0).1 name.0 name.1).0,
+            g.0,
+            v.0,
+            subst (λ (xs : List ℕ). CountedOf NumberOf (results.0).0 (values.0).1 xs) f.0 h.0,
+          ),
+          (g.1, (v.1).0, h.1),
+        )
 
     by_letter : Founds bytes l (message_of_letter s letter rest)
     unfolding message_of_letter

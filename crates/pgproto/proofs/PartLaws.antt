@@ -64,6 +64,7 @@ good_session = record { found = found; again = again }
         let n = is_not (r.0).0 0 p.0 in
         let same : (r.0).0 ≡ x.0 = ap (λ (y : ℕ × List ℕ). y.0) p.1 in
         ((omega (arith, n), f.0, f.1), tt)
+
     again : (s : ℕ) (bytes rest : List ℕ) → SessionOf s bytes rest → Unit {0} → Stops rest → (number_at 64 bytes >>= λ x. if x.0 == 0 then None else Some x) ≡ Some (s, rest)
     again s bytes rest (low, high, form) small stops =
         ap (λ (w : Option (ℕ × List ℕ)). w >>= λ x. if x.0 == 0 then None else Some x) (number_again 64 s bytes rest form high stops)
@@ -109,7 +110,7 @@ module _ {A : Type 0} {form : A → List ℕ → List ℕ → Type 0} {at : List
       let m = items_fronted (r.0).0 (items_at at n (r.0).1) x r.2 in
       let l = items_found n (r.0).1 m.0 m.1 in
       subst (λ (y : List A × List ℕ). Listed form Small (suc n) y.0 bytes y.1) {x = ((r.0).0 ∷ (m.0).0, (m.0).1)} (sym m.2)
-        (record { texts = ((r.0).1, f.0, l.texts); small = (f.1, l.small); count = ap suc l.count })
+      (record { texts = ((r.0).1, f.0, l.texts); small = (f.1, l.small); count = ap suc l.count })
 
   items_again : (xs : List A) (bytes rest : List ℕ) → ListOf form xs bytes rest → AllByRecursion Small xs → Stops rest → items_at at (length xs) bytes ≡ Some (xs, rest)
   unfolding items_at

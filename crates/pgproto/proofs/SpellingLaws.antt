@@ -75,7 +75,7 @@ each_two_plain (b ∷ bytes) p = plain-append (two_digits b) (flat_map two_digit
 hexed_plain : (bytes : List ℕ) → AllByRecursion (λ b. b < 256) bytes → IsPlain (hexed bytes)
 hexed_plain bytes p = ((omega arith, omega arith), plain-append (flat_map two_digits bytes) (34 ∷ []) (each_two_plain bytes p) ((omega arith, omega arith), tt))
 
-hex_small : (digits found : List ℕ) → AreHexOf digits found → AllByRecursion (λ b. b < 256) found
+pub hex_small : (digits found : List ℕ) → AreHexOf digits found → AllByRecursion (λ b. b < 256) found
 hex_small [] [] h = tt
 hex_small [] (b ∷ found) h = absurd h
 hex_small (h ∷ []) found p = absurd p
@@ -89,7 +89,7 @@ high_same [] h = refl
 high_same (b ∷ bytes) h =
     let high : 128 ≤ b = h 0 (omega arith) in
     ap₂ (λ (xs ys : List ℕ). xs ++ ys) (plain_escaped b (not_at b 34 (λ e. omega arith)) (not_at b 92 (λ e. omega arith)) (not_at b 10 (λ e. omega arith)))
-      (high_same bytes (λ k l. h (suc k) (omega arith)))
+    (high_same bytes (λ k l. h (suc k) (omega arith)))
 
 high_bytes : (c : ℕ) → 128 ≤ c → (k : ℕ) → k < length (encode_utf8 c) → 128 ≤ get_or (encode_utf8 c) k 0
 high_bytes c high k less = go (nat_lt (get_or (encode_utf8 c) k 0) 128) refl
@@ -129,7 +129,7 @@ chars_utf8 [] e = ([], (refl, refl))
 chars_utf8 (c ∷ cs) e =
     let t = both_true _ _ e in
     subst IsUtf8 (sym (flat_map-append escaped (encode_utf8 c) (encode_utf8_all cs)))
-      (IsUtf8-append (flat_map escaped (encode_utf8 c)) (flat_map escaped (encode_utf8_all cs)) (char_utf8 c (ap (λ (b : Bool). b && true) t.0)) (chars_utf8 cs t.1))
+    (IsUtf8-append (flat_map escaped (encode_utf8 c)) (flat_map escaped (encode_utf8_all cs)) (char_utf8 c (ap (λ (b : Bool). b && true) t.0)) (chars_utf8 cs t.1))
 
 quoted_utf8 : (text : List ℕ) → IsString text → IsUtf8 (quoted text)
 quoted_utf8 text is =
@@ -163,7 +163,7 @@ quoted_one text is = (λ e. omega arith, one-append (flat_map escaped text) (34 
 
 -- ---- whole lines
 
-values_of_form : {A : Type 0} (form : A → List ℕ → List ℕ → Type 0) (Q : A → Type 0) → ((x : A) (bytes rest : List ℕ) → form x bytes rest → Q x) → (xs : List A) (bytes rest : List ℕ) → ListOf form xs bytes rest → AllByRecursion Q xs
+pub values_of_form : {A : Type 0} (form : A → List ℕ → List ℕ → Type 0) (Q : A → Type 0) → ((x : A) (bytes rest : List ℕ) → form x bytes rest → Q x) → (xs : List A) (bytes rest : List ℕ) → ListOf form xs bytes rest → AllByRecursion Q xs
 values_of_form form Q f [] bytes rest h = tt
 values_of_form form Q f (x ∷ xs) bytes rest (after, (start, space, is), more) = (f x start after is, values_of_form form Q f xs after rest more)
 
@@ -239,17 +239,17 @@ module _ (P : List ℕ → Type 0) (both : (xs ys : List ℕ) → P xs → P ys 
   words_piece (query s text) bytes (a, n, t) small = both (codes "'Q' ") (quoted text) (closed (codes "'Q' ") refl) (text_piece text a [] t)
   words_piece (parse s name text kinds) bytes (a, b, c, n, p, q, k) small =
       both (codes "'P' ") (quoted name ++ (32 ∷ (quoted text ++ counted_spelled decimal kinds))) (closed (codes "'P' ") refl)
-        (both (quoted name) (32 ∷ (quoted text ++ counted_spelled decimal kinds)) (text_piece name a b p)
-          (space (quoted text ++ counted_spelled decimal kinds) (both (quoted text) (counted_spelled decimal kinds) (text_piece text b c q) (kinds_piece kinds small.0 small.1))))
+      (both (quoted name) (32 ∷ (quoted text ++ counted_spelled decimal kinds)) (text_piece name a b p)
+      (space (quoted text ++ counted_spelled decimal kinds) (both (quoted text) (counted_spelled decimal kinds) (text_piece text b c q) (kinds_piece kinds small.0 small.1))))
   words_piece (describe s portal name) bytes (a, b, n, t, q) small =
       both (codes "'D' ") (target_spelled portal ++ (32 ∷ quoted name)) (closed (codes "'D' ") refl) (both (target_spelled portal) (32 ∷ quoted name) (target_piece portal) (space (quoted name) (text_piece name b [] q)))
   words_piece (bind s portal name formats values results) bytes (a, b, c, d, e, n, p, q, f, v, r) small =
       both (codes "'B' ") (quoted portal ++ (32 ∷ (quoted name ++ (counted_spelled decimal formats ++ (counted_spelled value_spelled values ++ counted_spelled decimal results))))) (closed (codes "'B' ") refl)
-        (both (quoted portal) (32 ∷ (quoted name ++ (counted_spelled decimal formats ++ (counted_spelled value_spelled values ++ counted_spelled decimal results)))) (text_piece portal a b p)
-          (space (quoted name ++ (counted_spelled decimal formats ++ (counted_spelled value_spelled values ++ counted_spelled decimal results)))
-            (both (quoted name) (counted_spelled decimal formats ++ (counted_spelled value_spelled values ++ counted_spelled decimal results)) (text_piece name b c q)
-              (both (counted_spelled decimal formats) (counted_spelled value_spelled values ++ counted_spelled decimal results) (formats_piece formats small.0.0 small.0.1)
-                (both (counted_spelled value_spelled values) (counted_spelled decimal results) (values_piece values d e small.1 v) (formats_piece results small.2.0 small.2.1))))))
+      (both (quoted portal) (32 ∷ (quoted name ++ (counted_spelled decimal formats ++ (counted_spelled value_spelled values ++ counted_spelled decimal results)))) (text_piece portal a b p)
+      (space (quoted name ++ (counted_spelled decimal formats ++ (counted_spelled value_spelled values ++ counted_spelled decimal results)))
+      (both (quoted name) (counted_spelled decimal formats ++ (counted_spelled value_spelled values ++ counted_spelled decimal results)) (text_piece name b c q)
+      (both (counted_spelled decimal formats) (counted_spelled value_spelled values ++ counted_spelled decimal results) (formats_piece formats small.0.0 small.0.1)
+      (both (counted_spelled value_spelled values) (counted_spelled decimal results) (values_piece values d e small.1 v) (formats_piece results small.2.0 small.2.1))))))
   words_piece (execute s portal limit) bytes (a, b, n, p, z) small =
       both (codes "'E' ") (quoted portal ++ (32 ∷ signed_decimal limit)) (closed (codes "'E' ") refl) (both (quoted portal) (32 ∷ signed_decimal limit) (text_piece portal a b p) (space (signed_decimal limit) (limit_piece limit z.0 [] z.2)))
   words_piece (close s portal name) bytes (a, b, n, t, q) small =
@@ -259,9 +259,10 @@ module _ (P : List ℕ → Type 0) (both : (xs ys : List ℕ) → P xs → P ys 
   words_piece (terminate s) bytes h small = closed (codes "'X'") refl
 
   fronts : (s : ℕ) → s ≤ 64 → P (script_front (Some s)) × P (echo_front (Some s))
-  fronts s high =
-      (both (decimal s) (codes " ") (number s (omega arith)) (closed (codes " ") refl),
-       both (decimal s) (codes " FE=> ") (number s (omega arith)) (closed (codes " FE=> ") refl))
+  fronts s high = (
+    both (decimal s) (codes " ") (number s (omega arith)) (closed (codes " ") refl),
+    both (decimal s) (codes " FE=> ") (number s (omega arith)) (closed (codes " FE=> ") refl),
+  )
 
   no_front : P (script_front None) × P (echo_front None)
   no_front = (closed [] refl, closed (codes "== ") refl)

@@ -137,9 +137,10 @@ string_byte_found (c ∷ bytes) b after e = go (c == 34) (c == 92) (is_shown c &
         (f.0, ap (λ (k : ℕ). k ∷ bytes) (is_at c 92 q=) ∙ f.1)
     go false false true p= q= r= e =
         let s = some_byte b c bytes after e in
-        let n = not_both (is_shown c) (c == 10) r= in
-        (subst (λ (k : ℕ). is_shown k ≡ true) s.0 n.0,
-         ap₂ (λ (k : ℕ) (xs : List ℕ). k ∷ xs) s.0 s.1 ∙ ap (λ (xs : List ℕ). xs ++ after) (sym (plain_escaped b (subst (λ (k : ℕ). (k == 34) ≡ false) s.0 p=) (subst (λ (k : ℕ). (k == 92) ≡ false) s.0 q=) (subst (λ (k : ℕ). (k == 10) ≡ false) s.0 n.1))))
+        let n = not_both (is_shown c) (c == 10) r= in (
+          subst (λ (k : ℕ). is_shown k ≡ true) s.0 n.0,
+          ap₂ (λ (k : ℕ) (xs : List ℕ). k ∷ xs) s.0 s.1 ∙ ap (λ (xs : List ℕ). xs ++ after) (sym (plain_escaped b (subst (λ (k : ℕ). (k == 34) ≡ false) s.0 p=) (subst (λ (k : ℕ). (k == 92) ≡ false) s.0 q=) (subst (λ (k : ℕ). (k == 10) ≡ false) s.0 n.1))),
+        )
     go false false false p= q= r= e = absurd (cc)
 
 escape_never_ends : (bytes after : List ℕ) → escape_at bytes ≡ Some (None, after) → ⊥
@@ -208,9 +209,10 @@ string_found bytes x e =
     let s = bind_some (bytes_at string_byte (suc (length r.0)) r.0) (λ y. if is_utf8 y.0 then Some y else None) x r.2 in
     let c = chosen (is_utf8 (s.0).0) s.0 x s.2 in
     let run = string_from_run (s.0).0 r.0 (34 ∷ (s.0).1) (run_found string_reads (suc (length r.0)) r.0 s.0 s.1) in
-    subst (λ (y : List ℕ × List ℕ). StringOf y.0 bytes y.1) {x = s.0} c.1
-      (record { utf8 = IsUtf8-from_is_utf8 (s.0).0 c.0; shown = run.0 },
-       word_found (34 ∷ []) bytes r.0 r.1 ∙ ap (λ (xs : List ℕ). 34 ∷ xs) (run.1 ∙ sym (append_assoc (flat_map escaped (s.0).0) (34 ∷ []) (s.0).1)))
+    subst (λ (y : List ℕ × List ℕ). StringOf y.0 bytes y.1) {x = s.0} c.1 (
+      record { utf8 = IsUtf8-from_is_utf8 (s.0).0 c.0; shown = run.0 },
+      word_found (34 ∷ []) bytes r.0 r.1 ∙ ap (λ (xs : List ℕ). 34 ∷ xs) (run.1 ∙ sym (append_assoc (flat_map escaped (s.0).0) (34 ∷ []) (s.0).1)),
+    )
 
 pub string_again : (text bytes rest : List ℕ) → StringOf text bytes rest → string_at bytes ≡ Some (text, rest)
 unfolding string_at

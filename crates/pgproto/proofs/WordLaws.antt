@@ -63,7 +63,7 @@ number_found most bytes x e =
     let s = split_digits 0 bytes in
     let small : (digits_at 0 bytes).0 ≤ most = grind (arith, nat_tests, t.1) in
     subst (λ (y : ℕ × List ℕ). (y.0 ≤ most) × NumberOf y.0 bytes y.1) c.1
-      (small, (s.digits, record { some = some_digits bytes s.digits (digits_at 0 bytes).1 s.parts (digits_took bytes t.0); digits_are = s.digits_are; number = s.number }, s.parts))
+    (small, (s.digits, record { some = some_digits bytes s.digits (digits_at 0 bytes).1 s.parts (digits_took bytes t.0); digits_are = s.digits_are; number = s.number }, s.parts))
 
 -- the first of some digits is one
 has_digit_of : (ds rest : List ℕ) → 0 < length ds → Digits ds → has_digit (ds ++ rest) ≡ true

@@ -17,7 +17,10 @@ pub fn message_of(alloc: Global, line: &ScriptLine) -> Result<Option<ClientMessa
             text: bytes_of(alloc, text)?,
         },
         ScriptLine::Parse {
-            name, text, kinds, ..
+            name,
+            text,
+            kinds,
+            ..
         } => ClientMessage::Parse {
             name: bytes_of(alloc, name)?,
             text: bytes_of(alloc, text)?,

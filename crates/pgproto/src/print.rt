@@ -7,9 +7,7 @@ ghost use Rattle.pgproto.specs.Spelling.{IsOfGrammar, echo_front, echoed, script
 
 use crate::line::ScriptLine;
 use crate::pieces::{push_hex, push_number, push_signed, text};
-use crate::spelling::{
-    push_formats, push_kinds, push_mark, push_string, push_target, push_values,
-};
+use crate::spelling::{push_formats, push_kinds, push_mark, push_string, push_target, push_values};
 use pool_base::{List, NoMemory, SessionId, Text};
 use std::alloc::Global;
 
@@ -94,12 +92,7 @@ fn push_echo_front(
 }
 
 /// A number, and a word behind it.
-fn push_behind(
-    alloc: Global,
-    number: u32,
-    word: &[u8],
-    onto: &mut List<u8>,
-) -> Result<(), NoMemory>
+fn push_behind(alloc: Global, number: u32, word: &[u8], onto: &mut List<u8>) -> Result<(), NoMemory>
     ensures { OnOk result (onto.new ≡ onto.old ++ (decimal number ++ word.now)) }
 {
     push_number(alloc, u64::from(number), onto)?;
@@ -107,12 +100,7 @@ fn push_behind(
 }
 
 /// A word, and a number behind it.
-fn push_before(
-    alloc: Global,
-    word: &[u8],
-    number: u32,
-    onto: &mut List<u8>,
-) -> Result<(), NoMemory>
+fn push_before(alloc: Global, word: &[u8], number: u32, onto: &mut List<u8>) -> Result<(), NoMemory>
     ensures { OnOk result (onto.new ≡ onto.old ++ (word.now ++ decimal number)) }
 {
     onto.extend_from_slice(word)?;
@@ -149,7 +137,10 @@ fn push_words(alloc: Global, line: &ScriptLine, onto: &mut List<u8>) -> Result<(
         }
         ScriptLine::Query(_, text) => push_text(b"'Q' ", text, onto),
         ScriptLine::Parse {
-            name, text, kinds, ..
+            name,
+            text,
+            kinds,
+            ..
         } => push_parse(alloc, name, text, kinds.as_slice(), onto),
         ScriptLine::Describe { portal, name, .. } => {
             onto.extend_from_slice(b"'D' ")?;

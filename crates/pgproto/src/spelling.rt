@@ -64,11 +64,7 @@ pub(crate) fn push_values(
 }
 
 /// The count of the numbers, and then the numbers.
-pub(crate) fn push_kinds(
-    alloc: Global,
-    kinds: &[u32],
-    onto: &mut List<u8>,
-) -> Result<(), NoMemory>
+pub(crate) fn push_kinds(alloc: Global, kinds: &[u32], onto: &mut List<u8>) -> Result<(), NoMemory>
     ensures { OnOk result (onto.new ≡ onto.old ++ counted_spelled decimal kinds.now) }
 {
     onto.push(b' ')?;
@@ -117,11 +113,7 @@ pub(crate) fn push_mark(alloc: Global, mark: Mark, onto: &mut List<u8>) -> Resul
 }
 
 /// `'P'` of a portal, `'S'` of a statement, and its name.
-pub(crate) fn push_target(
-    portal: bool,
-    name: &Text,
-    onto: &mut List<u8>,
-) -> Result<(), NoMemory>
+pub(crate) fn push_target(portal: bool, name: &Text, onto: &mut List<u8>) -> Result<(), NoMemory>
     ensures { OnOk result (onto.new ≡ onto.old ++ (target_spelled portal ++ (32 ∷ quoted name.now))) }
 {
     let target = if portal { b"'P'" } else { b"'S'" };

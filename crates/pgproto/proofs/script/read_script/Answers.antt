@@ -8,12 +8,12 @@ use Rattle.pgproto.proofs.script.read_script.Goals as goal
 pub returns-in_default-clause-bad : goal.returns-in_default-clause-bad
 returns-in_default-clause-bad c =
     no_end c.args.text.now c.loop-rest.rest.now (map line_of c.loop-rest.found.items) c.loop-rest.number c.loop-rest.invariant.going c.in_default.ensures.none
-      (λ e. let h : length c.loop-rest.rest.now ≡ 0 = ap length e in grind arith)
+    (λ e. let h : length c.loop-rest.rest.now ≡ 0 = ap length e in grind arith)
 
 pub returns-in_default-clause-only : goal.returns-in_default-clause-only
 returns-in_default-clause-only c = λ found s. bad_is_no_script c.args.text.now (c.loop-rest.number + 1) found
     (no_end c.args.text.now c.loop-rest.rest.now (map line_of c.loop-rest.found.items) c.loop-rest.number c.loop-rest.invariant.going c.in_default.ensures.none
-      (λ e. let h : length c.loop-rest.rest.now ≡ 0 = ap length e in grind arith)) s
+    (λ e. let h : length c.loop-rest.rest.now ≡ 0 = ap length e in grind arith)) s
 
 pub returns-in-Err-NotALine-clause-only : goal.returns-in-Err-NotALine-clause-only
 returns-in-Err-NotALine-clause-only c = λ found s. bad_is_no_script c.args.text.now (c.loop-rest.number + 1) found
@@ -28,5 +28,5 @@ loop-rest-preserved c = record {
 pub returns-clause-only : goal.returns-clause-only
 returns-clause-only c = λ found s.
     one_script c.args.text.now (map line_of c.from_vec.result) found
-      (subst (λ xs. IsScript c.args.text.now (map line_of xs)) (sym c.from_vec.ensures)
-        (is_done c.args.text.now c.loop-rest.rest.now (map line_of c.loop-rest.found.items) c.loop-rest.number c.loop-rest.invariant.going (empty_of c.loop-rest.rest.now (grind arith)))) s
+    (subst (λ xs. IsScript c.args.text.now (map line_of xs)) (sym c.from_vec.ensures)
+    (is_done c.args.text.now c.loop-rest.rest.now (map line_of c.loop-rest.found.items) c.loop-rest.number c.loop-rest.invariant.going (empty_of c.loop-rest.rest.now (grind arith)))) s
