@@ -10,3 +10,4 @@ pub mod LineAgain
 pub mod ReaderLaws
 pub mod ScriptLaws
 pub mod SpellingLaws
+pub mod SpelledAgain

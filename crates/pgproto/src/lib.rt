@@ -1,6 +1,7 @@
 //! Scripts that are played, and the lines of their transcripts.
 #![tactic(auto)]
 
+mod laws;
 mod line;
 mod lists;
 mod message;
@@ -15,6 +16,7 @@ mod spelling;
 mod stop;
 mod words;
 
+pub use laws::{lines_of_grammar, printed_again};
 pub use line::{Mark, Script, ScriptLine, ScriptValue};
 pub use message::message_of;
 pub use print::{echo, print_line};
