@@ -1,0 +1,13 @@
+pub mod Digits
+pub mod Items
+pub mod Loop
+pub mod WordLaws
+pub mod TextLaws
+pub mod PartLaws
+pub mod FieldLaws
+pub mod LineLaws
+pub mod LineAgain
+pub mod ReaderLaws
+pub mod ScriptLaws
+pub mod SpellingLaws
+pub mod SpelledAgain
