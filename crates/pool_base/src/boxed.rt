@@ -26,6 +26,7 @@ impl<T> Boxed<T> {
         &self.inner
     }
 
+    /// Where the value takes its memory.
     pub fn allocator(&self) -> Global {
         *Box::allocator(&self.inner)
     }

@@ -49,6 +49,7 @@ impl<T> List<T> {
         items
     }
 
+    /// Where the list takes its memory.
     pub fn allocator(&self) -> Global {
         *self.items.allocator()
     }
@@ -90,7 +91,8 @@ impl<T> List<T> {
 
     /// Takes the last item off.
     pub fn pop(&mut self) -> Option<T>
-        ensures { MatchOption result ((self.old ≡ []) × (self.new ≡ [])) (λ last. self.old ≡ self.new ++ last ∷ []) }
+        ensures { MatchOption result ((self.old ≡ []) × (self.new ≡ []))
+            (λ last. self.old ≡ self.new ++ last ∷ []) }
     {
         self.items.pop()
     }
