@@ -375,3 +375,14 @@ written_says config ok =
 pub says_if : {E : Type 0} (config : Config) (r : Result (List ℕ) E) → IsAllowed config → IfOk r (λ text. text ≡ text_of config) → IfOk r (λ text. IsConfiguration text config)
 says_if config (Ok text) ok e = subst (λ (t : List ℕ). IsConfiguration t config) (sym e) (written_says config ok)
 says_if config (Err f) ok e = tt
+
+-- ---- the names of one backend's parameters are known
+
+pub host_known : (b : BackendId) → parameter_named (numbered (codes "backend_hostname") b) ≡ Some (Hostname b)
+host_known b = (host_name b).known
+
+pub port_known : (b : BackendId) → parameter_named (numbered (codes "backend_port") b) ≡ Some (BackendPort b)
+port_known b = (port_name b).known
+
+pub weight_known : (b : BackendId) → parameter_named (numbered (codes "backend_weight") b) ≡ Some (Weight b)
+weight_known b = (weight_name b).known
