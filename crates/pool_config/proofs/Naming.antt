@@ -75,6 +75,7 @@ digit_is name stem digit p parts e = go (nat_lt digit 48) refl e
         let number : b.number ≡ digit - 48 = number_at (digit - 48) b is in
         let same : digit ≡ 48 + b.number = grind (arith, nat_tests) in
         stem_is name stem b p (sym parts ∙ ap (λ (d : ℕ). stem ++ d ∷ []) same) k
+
     go : (t : Bool) → nat_lt digit 48 ≡ t → (if t then None else of_backend stem (slice_get all_backends (digit - 48))) ≡ Some p → name ≡ name_of p
     go true low k = absurd (cc)
     go false low k = at (slice_get all_backends (digit - 48)) refl low k
