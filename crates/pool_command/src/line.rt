@@ -25,8 +25,8 @@ pub(crate) fn read_play<'a>(
     alloc: Global,
     words: &'a [&'a str],
 ) -> Result<Option<Line<'a>>, NoMemory>
-    ensures { IfOk result (λ line. option_map given_by line ≡ play_line (map
-        (λ word. word.now) words.entry.now)) }
+    ensures { IfOk result (λ line. option_map given_by line
+        ≡ play_line (map (λ word. word.now) words.entry.now)) }
 {
     match parse_play(alloc, words) {
         Ok(matches) => Ok(Some(line_of(&matches))),
@@ -40,8 +40,8 @@ pub(crate) fn read_serve<'a>(
     alloc: Global,
     words: &'a [&'a str],
 ) -> Result<Option<Line<'a>>, NoMemory>
-    ensures { IfOk result (λ line. option_map given_by line ≡ serve_line (map
-        (λ word. word.now) words.entry.now)) }
+    ensures { IfOk result (λ line. option_map given_by line
+        ≡ serve_line (map (λ word. word.now) words.entry.now)) }
 {
     match parse_serve(alloc, words) {
         Ok(matches) => Ok(Some(line_of_files(&matches))),
@@ -50,10 +50,10 @@ pub(crate) fn read_serve<'a>(
 }
 
 fn parse_play<'a>(alloc: Global, words: &'a [&'a str]) -> Result<ArgMatches<'a>, Error>
-    ensures rows { IfOk result (λ m. rows_of (found_of m) ≡ matches_of play_app (map
-        (λ word. word.now) words.entry.now)) }
-    ensures faultless { IfOk result (λ m. fault_of play_app (map
-        (λ word. word.now) words.entry.now) ≡ []) }
+    ensures rows { IfOk result (λ m. rows_of (found_of m)
+        ≡ matches_of play_app (map (λ word. word.now) words.entry.now)) }
+    ensures faultless { IfOk result (λ m.
+        fault_of play_app (map (λ word. word.now) words.entry.now) ≡ []) }
     ensures faulty { IfErr result (λ e. (kind_of e ≡ ErrorKind.OutOfMemory)
         ⊎ ¬ (fault_of play_app (map (λ word. word.now) words.entry.now) ≡ [])) }
 {
@@ -66,10 +66,10 @@ fn parse_play<'a>(alloc: Global, words: &'a [&'a str]) -> Result<ArgMatches<'a>,
 }
 
 fn parse_serve<'a>(alloc: Global, words: &'a [&'a str]) -> Result<ArgMatches<'a>, Error>
-    ensures rows { IfOk result (λ m. rows_of (found_of m) ≡ matches_of serve_app (map
-        (λ word. word.now) words.entry.now)) }
-    ensures faultless { IfOk result (λ m. fault_of serve_app (map
-        (λ word. word.now) words.entry.now) ≡ []) }
+    ensures rows { IfOk result (λ m. rows_of (found_of m)
+        ≡ matches_of serve_app (map (λ word. word.now) words.entry.now)) }
+    ensures faultless { IfOk result (λ m.
+        fault_of serve_app (map (λ word. word.now) words.entry.now) ≡ []) }
     ensures faulty { IfErr result (λ e. (kind_of e ≡ ErrorKind.OutOfMemory)
         ⊎ ¬ (fault_of serve_app (map (λ word. word.now) words.entry.now) ≡ [])) }
 {
@@ -89,8 +89,8 @@ fn with_files<'a>(alloc: Global, name: &'a str) -> Result<Command<'a>, AllocErro
 /// The command with one more argument.
 fn add<'a>(command: Command<'a>, arg: Arg<'a>) -> Result<Command<'a>, AllocError>
     requires { arg.global ≡ false }
-    ensures { IfOk result
-        (λ made. app_of made ≡ with_rule (app_of command.entry) (rule_of arg.entry)) }
+    ensures { IfOk result (λ made. app_of made
+        ≡ with_rule (app_of command.entry) (rule_of arg.entry)) }
 {
     command.arg(arg)
 }

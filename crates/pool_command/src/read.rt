@@ -25,8 +25,8 @@ pub fn read_words(alloc: Global, words: &[&str]) -> Result<Option<Command>, NoMe
 
 /// The command that words are that begin so.
 fn read_by(alloc: Global, first: &str, words: &[&str]) -> Result<Option<Command>, NoMemory>
-    ensures { IfOk result (λ command. command ≡ command_by first.now (map
-        (λ word. word.now) words.now)) }
+    ensures { IfOk result (λ command. command
+        ≡ command_by first.now (map (λ word. word.now) words.now)) }
 {
     if first == "play" {
         read_as_play(alloc, words)
@@ -39,8 +39,8 @@ fn read_by(alloc: Global, first: &str, words: &[&str]) -> Result<Option<Command>
 
 /// The command of words that begin with `play`.
 fn read_as_play(alloc: Global, words: &[&str]) -> Result<Option<Command>, NoMemory>
-    ensures { IfOk result (λ command. command ≡ play_of (play_line (map
-        (λ word. word.now) words.now))) }
+    ensures { IfOk result (λ command. command
+        ≡ play_of (play_line (map (λ word. word.now) words.now))) }
 {
     match read_play(alloc, words)? {
         Some(line) => play(alloc, line),
@@ -50,8 +50,8 @@ fn read_as_play(alloc: Global, words: &[&str]) -> Result<Option<Command>, NoMemo
 
 /// The command of words that begin with `serve`.
 fn read_as_serve(alloc: Global, words: &[&str]) -> Result<Option<Command>, NoMemory>
-    ensures { IfOk result (λ command. command ≡ serve_of (serve_line (map
-        (λ word. word.now) words.now))) }
+    ensures { IfOk result (λ command. command
+        ≡ serve_of (serve_line (map (λ word. word.now) words.now))) }
 {
     match read_serve(alloc, words)? {
         Some(line) => serve(alloc, line),
@@ -91,9 +91,8 @@ fn generate(
     number: &str,
     size: &str,
 ) -> Result<Option<Command>, NoMemory>
-    ensures { IfOk result
-        (λ command. command ≡ generated config.now schema.now (number_of number.now) (size_of
-        size.now)) }
+    ensures { IfOk result (λ command. command
+        ≡ generated config.now schema.now (number_of number.now) (size_of size.now)) }
 {
     match (read_number(number), read_size(size)) {
         (Some(number), Some(size)) => Ok(Some(Command::Generate {

@@ -1,20 +1,20 @@
 -- What a text says is in the ranges of the table.
-use Rattle.std.proofs.Common.{◌≡◌, ◌≤◌, ◌<◌, ◌+◌, ◌==◌, ◌||◌, ◌&&◌, ◌⊎◌, inl, inr, ℕ, zero, suc, Bool, true, false, not, List, [], ◌∷◌, ◌++◌, Option, Some, None, Result, Ok, Err, IfOk, refl, ap, sym, ◌∙◌, subst, length, codes, cond, find, map, take, max, option_map, is_some, if◌then◌else◌, arith, nat_le, bytes_eq}
+use Rattle.std.proofs.Common.{◌≡◌, ◌≤◌, ◌==◌, ◌||◌, inl, inr, ℕ, zero, suc, Bool, true, false, not, List, [], ◌∷◌, ◌++◌, Option, Some, None, Result, Ok, Err, IfOk, refl, ap, sym, ◌∙◌, subst, length, codes, cond, find, map, take, option_map, is_some, if◌then◌else◌, arith, bytes_eq}
 use Rattle.std.proofs.lemmas.Bool.Decides.{nat_tests}
 use Rattle.std.specs.Str.{is_utf8, chars}
 use Rattle.std.specs.Char.{encode_utf8}
 use Rattle.pool_base.specs.declared.backend_id.BackendId.{BackendId}
 use Rattle.pool_config.specs.Bytes.{has, AllOf, lines, onto}
 use Rattle.pool_config.specs.Form.{Spelling, quoted, bare, spelled, IsSpelling}
-use Rattle.pool_config.specs.Value.{value_of, word_value, number_of}
-use Rattle.pool_config.specs.Table.{all_backends, kind_of, takes, place_of, backends_of}
+use Rattle.pool_config.specs.Value.{value_of, number_of}
+use Rattle.pool_config.specs.Table.{all_backends, kind_of, takes, place_of}
 use Rattle.pool_config.specs.Settings.{Sets, Say}
-use Rattle.pool_config.specs.Configuration.{standing, said_by, later, text_in, number_in, value_for, count_of, backends_in, node_of, lacks, missing_of, config_of, IsConfiguration, IsString, AreAllowedNodes, IsAllowed}
+use Rattle.pool_config.specs.Configuration.{standing, said_by, later, text_in, number_in, count_of, backends_in, node_of, lacks, missing_of, config_of, IsConfiguration, IsString, AreAllowedNodes, IsAllowed}
 use Rattle.pool_config.specs.Reader.{Gives, answer_of}
 use Rattle.pool_config.specs.declared.line.Class.{Class}
-use Rattle.pool_config.specs.declared.line.Class.TheVariants.{Inner, InLine}
+use Rattle.pool_config.specs.declared.line.Class.TheVariants.{InLine}
 use Rattle.pool_config.specs.declared.parameter.Parameter.{Parameter}
-use Rattle.pool_config.specs.declared.parameter.Parameter.TheVariants.{ClusteringMode, Hostname, BackendPort, Weight, ListenAddresses, Port, Children, LoadBalance, StatementBalance, InsertLock, StopOnMismatch, FailoverOnMismatch}
+use Rattle.pool_config.specs.declared.parameter.Parameter.TheVariants.{ClusteringMode, Hostname, BackendPort, Weight, ListenAddresses, Port, Children}
 use Rattle.pool_config.specs.declared.parameter.Kind.{Kind}
 use Rattle.pool_config.specs.declared.parameter.Kind.TheVariants as kind
 use Rattle.pool_config.specs.declared.value.Value.{Value}
@@ -22,7 +22,6 @@ use Rattle.pool_config.specs.declared.value.Value.TheVariants.{Text, Number, Tru
 use Rattle.pool_config.specs.declared.assemble.Setting.{Setting}
 use Rattle.pool_config.specs.declared.config.Config.{Config}
 use Rattle.pool_config.specs.declared.fault.ConfigFault.{ConfigFault}
-use Rattle.pool_config.specs.declared.fault.ConfigFault.TheVariants.{BadLine, UnknownName, WrongMode, Missing, NoMemory}
 use Rattle.pool_config.proofs.Lists.{find-append}
 use Rattle.pool_config.proofs.Ranges.{same_kind, counts_one}
 use Rattle.pool_config.proofs.Laws.{given_means}

@@ -1,5 +1,5 @@
 -- A backend is its number.
-use Rattle.std.proofs.Common.{◌-◌, ◌==◌, Bool, true, false, take, drop, length, slice_index, nat_lt, if◌then◌else◌, arith, zero, suc, Option, Some, None, slice_get, sym, subst, ◌≡◌, ◌<◌, ◌≤◌, ℕ, List, [], ◌∷◌, refl, ap, ◌∙◌}
+use Rattle.std.proofs.Common.{◌-◌, ◌==◌, Bool, false, take, drop, length, slice_index, nat_lt, if◌then◌else◌, arith, zero, suc, Some, None, slice_get, sym, subst, ◌≡◌, ◌<◌, ◌≤◌, ℕ, List, [], ◌∷◌, refl, ap, ◌∙◌}
 use mathlib.Core.HLevel.{is_prop→PathP}
 use Rattle.std.proofs.lemmas.Bool.Decides.{nat_tests}
 use Rattle.pool_config.specs.Names.{of_stem, of_backend, by_digit, numbered_named}

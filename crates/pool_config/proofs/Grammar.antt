@@ -1,11 +1,11 @@
 -- What reads a line by its runs finds just the forms of the grammar.
-use Rattle.std.proofs.Common.{◌≡◌, ◌≢◌, ◌==◌, ◌||◌, ◌⊎◌, inl, inr, ℕ, Bool, true, false, not, List, [], ◌∷◌, ◌++◌, Option, Some, None, refl, ap, sym, ◌∙◌, subst, if◌then◌else◌, append_assoc, append-nil, arith, nat_eq}
+use Rattle.std.proofs.Common.{◌≡◌, ◌≢◌, ◌==◌, ◌||◌, ℕ, Bool, true, false, not, List, [], ◌∷◌, ◌++◌, Option, Some, None, refl, ap, sym, ◌∙◌, subst, if◌then◌else◌, append_assoc, arith}
 use Rattle.std.proofs.lemmas.Bool.Decides.{nat_tests}
-use Rattle.pool_config.specs.Bytes.{is_blank, ends_word, has, AllOf, front, behind}
+use Rattle.pool_config.specs.Bytes.{is_blank, has, AllOf, front, behind}
 use Rattle.pool_config.specs.Form.{Spelling, quoted, bare, spelled, IsSpelling, IsComment, IsEnd, IsAssignment}
-use Rattle.pool_config.specs.Reader.{starts_comment, is_end, closed_at, word_at, quoted_at, bare_at, spelling_at, ended, value_part, spelled_in, named, assignment_at, Form, empty, assignment, other, formed, form_at}
+use Rattle.pool_config.specs.Reader.{starts_comment, is_end, closed_at, word_at, quoted_at, bare_at, spelling_at, ended, value_part, spelled_in, named, assignment_at, empty, assignment, formed, form_at}
 use Rattle.pool_config.specs.declared.line.Class.{Class}
-use Rattle.pool_config.specs.declared.line.Class.TheVariants.{Blank, Name, Word, Inner, InLine}
+use Rattle.pool_config.specs.declared.line.Class.TheVariants.{Blank, Name, Word, Inner}
 use Rattle.pool_config.proofs.Runs.{run_parts, run_all}
 
 -- a run of the class ends here

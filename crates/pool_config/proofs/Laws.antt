@@ -1,13 +1,13 @@
 -- Reading finds just what the grammar says: of a line, of lines, of a text.
-use Rattle.std.proofs.Common.{◌≡◌, ◌⊎◌, inl, inr, ◌+◌, ℕ, Bool, true, false, List, [], ◌∷◌, Option, Some, None, Result, Ok, Err, refl, ap, sym, ◌∙◌, subst, if◌then◌else◌, codes, option_map}
+use Rattle.std.proofs.Common.{◌≡◌, ◌⊎◌, inl, inr, ◌+◌, ℕ, Bool, true, false, List, [], ◌∷◌, Option, Some, None, Result, Ok, Err, refl, ap, sym, ◌∙◌, subst, if◌then◌else◌, option_map}
 use Rattle.pool_config.specs.Bytes.{lines}
 use Rattle.pool_config.specs.Form.{Spelling, IsEnd, IsAssignment}
 use Rattle.pool_config.specs.Value.{value_of}
 use Rattle.pool_config.specs.Table.{kind_of, takes, name_of}
 use Rattle.pool_config.specs.Names.{parameter_named}
 use Rattle.pool_config.specs.Settings.{Sets, HasUnknownName, AsksOtherMode, IsBad, HasFault, Say, FirstFault}
-use Rattle.pool_config.specs.Configuration.{config_of, missing_of, IsConfiguration, Lacks, IsFault, Says, IsAnswer}
-use Rattle.pool_config.specs.Reader.{Form, empty, assignment, other, form_at, refused, set_by, set_of, assigned, setting_in, setting_at, joined, read_lines, unless_missing, assembled, answer_of, Gives, FailsBy}
+use Rattle.pool_config.specs.Configuration.{missing_of, IsConfiguration, IsFault, Says, IsAnswer}
+use Rattle.pool_config.specs.Reader.{Form, empty, assignment, other, form_at, refused, set_by, set_of, assigned, setting_in, setting_at, joined, read_lines, unless_missing, assembled, answer_of, Gives}
 use Rattle.pool_config.specs.declared.parameter.Parameter.{Parameter}
 use Rattle.pool_config.specs.declared.parameter.Parameter.TheVariants.{ClusteringMode, Hostname, BackendPort, Weight, ListenAddresses, Port, Children, LoadBalance, StatementBalance, InsertLock, StopOnMismatch, FailoverOnMismatch}
 use Rattle.pool_config.specs.declared.value.Value.{Value}

@@ -10,3 +10,4 @@ pub mod Grammar
 pub mod Laws
 pub mod Printing
 pub mod Allowing
+pub mod Naming

@@ -1,5 +1,5 @@
 -- The first of two lists that passes a test.
-use Rattle.std.proofs.Common.{◌≡◌, Bool, true, false, List, [], ◌∷◌, ◌++◌, Option, Some, None, refl, ap, sym, ◌∙◌, map, find, cond}
+use Rattle.std.proofs.Common.{◌≡◌, Bool, true, false, List, [], ◌∷◌, ◌++◌, Some, refl, ap, sym, ◌∙◌, map, find, cond}
 use Rattle.pool_config.specs.Configuration.{later, lacks, missing_of, backends_in}
 use Rattle.pool_base.specs.declared.backend_id.BackendId.{BackendId}
 use Rattle.pool_config.specs.declared.assemble.Setting.{Setting}

@@ -1,5 +1,5 @@
 -- The text of the backends, one after another.
-use Rattle.std.proofs.Common.{◌≡◌, ◌≤◌, ◌+◌, ◌-◌, ℕ, List, [], ◌∷◌, ◌++◌, length, take, drop, refl, ap, sym, ◌∙◌, arith, append_assoc, append-nil, slice_index_or}
+use Rattle.std.proofs.Common.{◌≡◌, ◌≤◌, ◌+◌, ◌-◌, ℕ, List, [], ◌∷◌, ◌++◌, length, take, drop, ap, sym, ◌∙◌, arith, append_assoc, append-nil, slice_index_or}
 use Rattle.std.proofs.Math.Seq.{take-length}
 use Rattle.pool_config.specs.Printed.{node_text, nodes_text}
 use Rattle.pool_config.specs.declared.config.Node.{Node}

@@ -1,5 +1,5 @@
 -- The number of up to ten digits stays small.
-use Rattle.std.proofs.Common.{Bool, true, List, [], ◌∷◌, None, length, take, drop, slice_index, if◌then◌else◌, ◌≡◌, ◌<◌, ◌≤◌, ◌+◌, ◌-◌, ◌*◌, ◌^◌, ℕ, suc, refl, ap, sym, subst, ◌∙◌, arith}
+use Rattle.std.proofs.Common.{Bool, true, List, [], ◌∷◌, None, length, take, drop, slice_index, if◌then◌else◌, ◌≡◌, ◌<◌, ◌≤◌, ◌+◌, ◌-◌, ◌*◌, ◌^◌, ℕ, suc, ap, sym, subst, ◌∙◌, arith}
 use Rattle.std.specs.Char.{is_ascii_digit}
 use Rattle.pool_config.specs.Value.{number_after}
 use Rattle.pool_config.proofs.Runs.{tail_is}

@@ -1,5 +1,5 @@
 -- The written text says the configuration that was written.
-use Rattle.std.proofs.Common.{◌≡◌, ◌≢◌, ◌==◌, ◌≤◌, ◌<◌, ◌+◌, ◌-◌, ◌*◌, ◌^◌, ◌&&◌, ◌||◌, ◌⊎◌, inl, inr, ℕ, Bool, true, false, not, List, [], ◌∷◌, ◌++◌, Option, Some, None, refl, ap, sym, ◌∙◌, subst, length, codes, if◌then◌else◌, append_assoc, append-nil, arith, nat_eq, nat_lt, nat_le, bytes_eq, option_map, Result, Ok, Err, IfOk}
+use Rattle.std.proofs.Common.{◌≡◌, ◌≢◌, ◌==◌, ◌≤◌, ◌<◌, ◌+◌, ◌-◌, ◌*◌, ◌^◌, ◌&&◌, ◌||◌, inr, ℕ, Bool, true, false, not, List, [], ◌∷◌, ◌++◌, Option, Some, None, refl, ap, sym, ◌∙◌, subst, length, codes, if◌then◌else◌, append_assoc, append-nil, arith, nat_lt, nat_le, bytes_eq, option_map, Result, Ok, Err, IfOk}
 use lib.Dec.{lit<}
 use Rattle.std.proofs.lemmas.Bool.Decides.{nat_tests}
 use Rattle.std.proofs.lemmas.Fmt.{digits_decimal, digits_value-decimal, length-decimal-le, decimal_nonempty, decimal_digit}
@@ -10,13 +10,13 @@ use Rattle.std.specs.Str.{all_ascii_digits, is_utf8, chars}
 use Rattle.std.specs.Char.{encode_utf8}
 use Rattle.pool_base.specs.declared.backend_id.BackendId.{BackendId}
 use Rattle.pool_config.specs.Bytes.{has, AllOf, lines, onto}
-use Rattle.pool_config.specs.Form.{Spelling, quoted, bare, spelled, IsSpelling, IsEnd, IsAssignment}
+use Rattle.pool_config.specs.Form.{Spelling, quoted, bare, spelled, IsSpelling}
 use Rattle.pool_config.specs.Value.{value_of, word_value, number_of, number_after}
 use Rattle.pool_config.specs.Table.{all_backends, numbered, kind_of, takes}
 use Rattle.pool_config.specs.Names.{parameter_named}
 use Rattle.pool_config.specs.Settings.{Sets, Say}
 use Rattle.pool_config.specs.Configuration.{config_of, missing_of, IsConfiguration, IsString, IsAllowedNode, AreAllowedNodes, IsAllowed}
-use Rattle.pool_config.specs.Printed.{line_of, string_line, number_line, truth_line, truth_word, node_text, nodes_text, rest_text, text_of}
+use Rattle.pool_config.specs.Printed.{line_of, string_line, number_line, truth_line, node_text, nodes_text, rest_text, text_of}
 use Rattle.pool_config.specs.declared.line.Class.{Class}
 use Rattle.pool_config.specs.declared.line.Class.TheVariants.{Name, Word, Inner, InLine}
 use Rattle.pool_config.specs.declared.parameter.Parameter.{Parameter}
@@ -375,3 +375,14 @@ written_says config ok =
 pub says_if : {E : Type 0} (config : Config) (r : Result (List ℕ) E) → IsAllowed config → IfOk r (λ text. text ≡ text_of config) → IfOk r (λ text. IsConfiguration text config)
 says_if config (Ok text) ok e = subst (λ (t : List ℕ). IsConfiguration t config) (sym e) (written_says config ok)
 says_if config (Err f) ok e = tt
+
+-- ---- the names of one backend's parameters are known
+
+pub host_known : (b : BackendId) → parameter_named (numbered (codes "backend_hostname") b) ≡ Some (Hostname b)
+host_known b = (host_name b).known
+
+pub port_known : (b : BackendId) → parameter_named (numbered (codes "backend_port") b) ≡ Some (BackendPort b)
+port_known b = (port_name b).known
+
+pub weight_known : (b : BackendId) → parameter_named (numbered (codes "backend_weight") b) ≡ Some (Weight b)
+weight_known b = (weight_name b).known

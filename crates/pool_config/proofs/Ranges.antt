@@ -1,8 +1,8 @@
 -- A number that stands for a parameter is in the parameter's range.
-use Rattle.std.proofs.Common.{◌≡◌, ◌<◌, ◌≤◌, ◌==◌, ◌^◌, ◌+◌, ◌&&◌, ℕ, Bool, true, false, List, [], ◌∷◌, Option, Some, None, refl, ap, sym, ◌∙◌, subst, if◌then◌else◌, nat_lt, nat_le, nat_eq, arith, max}
+use Rattle.std.proofs.Common.{◌≡◌, ◌<◌, ◌≤◌, ◌==◌, ◌^◌, ◌+◌, ℕ, Bool, true, false, List, [], ◌∷◌, Option, Some, None, refl, ap, sym, ◌∙◌, subst, if◌then◌else◌, nat_lt, arith, max}
 use Rattle.std.proofs.lemmas.Bool.Decides.{nat_tests}
 use Rattle.pool_base.specs.declared.backend_id.BackendId.{BackendId}
-use Rattle.pool_config.specs.Table.{kind_of, takes, place_of, backends_of}
+use Rattle.pool_config.specs.Table.{kind_of, takes, place_of}
 use Rattle.pool_config.specs.Taken.{AllTaken}
 use Rattle.pool_config.specs.Configuration.{standing, said_by, later, number_in, count_of}
 use Rattle.pool_config.specs.declared.parameter.Parameter.{Parameter}

@@ -1,17 +1,16 @@
 -- From the lines of a text to its answer.
-use Rattle.std.proofs.Common.{◌≡◌, ◌+◌, ℕ, Bool, true, false, List, [], ◌∷◌, Option, Some, None, Result, Ok, Err, refl, ap, sym, ◌∙◌, subst, if◌then◌else◌}
+use Rattle.std.proofs.Common.{◌≡◌, ◌+◌, ℕ, Bool, true, false, List, [], ◌∷◌, Option, Some, None, Result, Ok, Err, refl, ap, sym, subst, if◌then◌else◌}
 use Rattle.pool_config.specs.Bytes.{lines}
 use Rattle.pool_config.specs.Form.{Spelling}
 use Rattle.pool_config.specs.Value.{value_of}
 use Rattle.pool_config.specs.Table.{kind_of, takes}
 use Rattle.pool_config.specs.Names.{parameter_named}
 use Rattle.pool_config.specs.Taken.{AllTaken}
-use Rattle.pool_config.specs.Configuration.{config_of, missing_of}
+use Rattle.pool_config.specs.Configuration.{missing_of}
 use Rattle.pool_config.specs.Reader.{Gives, FailsBy, Form, empty, assignment, other, form_at, refused, set_by, set_of, assigned, setting_in, setting_at, joined, read_lines, unless_missing, assembled, answer_of}
 use Rattle.pool_config.specs.declared.parameter.Parameter.{Parameter}
 use Rattle.pool_config.specs.declared.value.Value.{Value}
 use Rattle.pool_config.specs.declared.assemble.Setting.{Setting}
-use Rattle.pool_config.specs.declared.config.Config.{Config}
 use Rattle.pool_config.specs.declared.fault.ConfigFault.{ConfigFault}
 use Rattle.pool_config.specs.declared.fault.ConfigFault.TheVariants.{BadLine, UnknownName, WrongMode, Missing, NoMemory}
 

@@ -1,7 +1,6 @@
 -- The run of a class at the front of a text and what stands behind it are the text.
-use Rattle.std.proofs.Common.{◌≡◌, ◌≤◌, ◌<◌, ◌-◌, ◌+◌, ◌==◌, ℕ, Bool, true, false, not, List, [], ◌∷◌, ◌++◌, Option, Some, None, length, take, drop, refl, ap, sym, ◌∙◌, subst, if◌then◌else◌, length-append, arith, nat_eq}
+use Rattle.std.proofs.Common.{◌≡◌, ◌≤◌, ◌<◌, ◌-◌, ◌+◌, ◌==◌, ℕ, Bool, true, false, not, List, [], ◌∷◌, ◌++◌, Option, Some, None, length, take, drop, refl, ap, sym, ◌∙◌, if◌then◌else◌, length-append, arith}
 use Rattle.std.proofs.Math.Seq.{take-length, take-append_seam, drop-append_seam}
-use Rattle.std.proofs.lemmas.Bool.Decides.{nat_tests}
 use Rattle.pool_config.specs.Bytes.{has, AllOf, front, behind, lines, lines_behind, onto}
 use Rattle.pool_config.specs.declared.line.Class.{Class}
 use Rattle.pool_config.specs.declared.line.Class.TheVariants.{InLine}

@@ -1,10 +1,9 @@
 -- A string is the text between its quotes, if that is UTF-8.
-use Rattle.std.proofs.Common.{◌≡◌, Bool, true, false, ℕ, List, Option, Some, None, refl, ap, if◌then◌else◌}
+use Rattle.std.proofs.Common.{◌≡◌, Bool, true, false, ℕ, List, Some, None, refl, ap, if◌then◌else◌}
 use Rattle.std.specs.Str.{IsUtf8, is_utf8}
 use Rattle.std.proofs.lemmas.Str.{IsUtf8-from_is_utf8, is_utf8-from_IsUtf8}
 use Rattle.pool_config.specs.Form.{quoted}
 use Rattle.pool_config.specs.Value.{value_of}
-use Rattle.pool_config.specs.declared.value.Value.{Value}
 use Rattle.pool_config.specs.declared.value.Value.TheVariants.{Text}
 
 pub string_good : (inner : List ℕ) → IsUtf8 inner → value_of (quoted inner) ≡ Some (Text inner)

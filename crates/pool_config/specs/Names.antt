@@ -1,5 +1,5 @@
 -- Which parameter has a name, if one has.
-use Rattle.std.specs.Prelude.{◌==◌, ◌-◌, ℕ, Bool, true, false, List, [], ◌∷◌, drop, take, length, nat_lt}
+use Rattle.std.specs.Prelude.{◌==◌, ◌-◌, ℕ, List, drop, take, length, nat_lt}
 use Rattle.std.specs.Prelude.{Option, Some, None, if◌then◌else◌, codes, slice_index, slice_get, bytes_eq}
 use Rattle.pool_base.specs.declared.backend_id.BackendId.{BackendId}
 use Rattle.pool_config.specs.Table.{all_backends}

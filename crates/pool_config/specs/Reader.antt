@@ -1,8 +1,7 @@
 -- Reading as functions on lists, one for each function of the reader. The relations of Form,
 -- Settings and Configuration say what they give.
-use Rattle.std.specs.Prelude.{◌≡◌, ◌==◌, ◌-◌, ◌+◌, ◌||◌, ℕ, Bool, true, false, List, [], ◌∷◌, ◌++◌, drop, take, length, nat_lt, nat_le}
-use Rattle.std.specs.Prelude.{Option, Some, None, Result, Ok, Err, if◌then◌else◌, codes, slice_index, slice_get, bytes_eq}
-use Rattle.pool_base.specs.declared.backend_id.BackendId.{BackendId}
+use Rattle.std.specs.Prelude.{◌≡◌, ◌==◌, ◌+◌, ℕ, Bool, true, List, [], ◌∷◌, ◌++◌}
+use Rattle.std.specs.Prelude.{Option, Some, None, Result, Ok, Err, if◌then◌else◌}
 use Rattle.pool_config.specs.Bytes.{front, behind, lines}
 use Rattle.pool_config.specs.Form.{Spelling, quoted, bare, spelling_of}
 use Rattle.pool_config.specs.Value.{value_of}
@@ -13,9 +12,9 @@ use Rattle.pool_config.specs.declared.line.Class.TheVariants.{Blank, Name, Word,
 use Rattle.pool_config.specs.declared.line.Line.{Line}
 use Rattle.pool_config.specs.declared.line.Line.TheVariants.{Empty, Assignment, Other}
 use Rattle.pool_config.specs.declared.parameter.Parameter.{Parameter}
-use Rattle.pool_config.specs.declared.parameter.Parameter.TheVariants.{ClusteringMode, Hostname, BackendPort, Weight, ListenAddresses, Port, Children, LoadBalance, StatementBalance, InsertLock, StopOnMismatch, FailoverOnMismatch}
+use Rattle.pool_config.specs.declared.parameter.Parameter.TheVariants.{ClusteringMode}
 use Rattle.pool_config.specs.declared.value.Value.{Value}
-use Rattle.pool_config.specs.declared.value.Value.TheVariants.{Text, Number, Truth}
+use Rattle.pool_config.specs.declared.value.Value.TheVariants.{Text}
 use Rattle.pool_config.specs.declared.assemble.Setting.{Setting}
 use Rattle.pool_config.specs.declared.config.Config.{Config}
 use Rattle.pool_config.specs.declared.fault.ConfigFault.{ConfigFault}

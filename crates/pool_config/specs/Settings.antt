@@ -1,5 +1,5 @@
 -- What a line sets, which fault it has, and what the lines of a text say together.
-use Rattle.std.specs.Prelude.{◌≡◌, ◌+◌, ◌⊎◌, ℕ, true, false, bytes_eq, List, [], ◌∷◌, Option, Some, None, codes}
+use Rattle.std.specs.Prelude.{◌≡◌, ◌+◌, ◌⊎◌, ℕ, true, false, bytes_eq, List, [], ◌∷◌, Some, None, codes}
 use Rattle.pool_config.specs.Form.{Spelling, IsAssignment, IsEnd}
 use Rattle.pool_config.specs.Value.{value_of}
 use Rattle.pool_config.specs.Table.{kind_of, takes}

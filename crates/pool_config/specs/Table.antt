@@ -1,5 +1,5 @@
 -- The table of parameters: the name of each, what it takes, and its default.
-use Rattle.std.specs.Prelude.{◌+◌, ◌<◌, ◌&&◌, ℕ, Bool, true, false, not, List, [], ◌∷◌, ◌++◌, Option, Some, None, nat_le, codes}
+use Rattle.std.specs.Prelude.{◌+◌, ◌&&◌, ℕ, Bool, true, false, not, List, [], ◌∷◌, ◌++◌, Option, Some, None, nat_le, codes}
 use Rattle.std.specs.Str.{bytes_eq}
 use lib.Dec.{lit<}
 use Rattle.pool_base.specs.declared.backend_id.BackendId.{BackendId}

@@ -1,5 +1,5 @@
 -- What a spelling is: a string, a number of one to ten digits, or a truth value.
-use Rattle.std.specs.Prelude.{◌+◌, ◌-◌, ◌*◌, ◌||◌, ◌&&◌, ℕ, Bool, true, false, List, [], ◌∷◌, length, nat_lt, nat_le}
+use Rattle.std.specs.Prelude.{◌+◌, ◌-◌, ◌*◌, ◌||◌, ◌&&◌, ℕ, true, false, List, [], ◌∷◌, length, nat_lt, nat_le}
 use Rattle.std.specs.Prelude.{Option, Some, None, option_map, if◌then◌else◌, codes}
 use Rattle.std.specs.Char.{is_ascii_digit}
 use Rattle.std.specs.Str.{bytes_eq, is_utf8}

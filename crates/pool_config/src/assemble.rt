@@ -184,7 +184,8 @@ fn node_of(alloc: Global, settings: &[Setting], backend: BackendId) -> Result<No
 }
 
 fn text_or(alloc: Global, value: Option<&Value>, default: &str) -> Result<Text, NoMemory>
-    ensures { IfOk result (λ text. text ≡ text_in (later (option_map (λ v. v.now) value.entry) (Some (Value.Text default.now)))) }
+    ensures { IfOk result (λ text. text
+        ≡ text_in (later (option_map (λ v. v.now) value.entry) (Some (Value.Text default.now)))) }
 {
     match value {
         Some(Value::Text(text)) => Ok(text.clone()?),
@@ -195,7 +196,8 @@ fn text_or(alloc: Global, value: Option<&Value>, default: &str) -> Result<Text, 
 
 fn number_or(value: Option<&Value>, default: u32) -> u32
     requires { number_in (option_map (λ v. v.now) value) < 2 ^ 32 }
-    ensures { result ≡ number_in (later (option_map (λ v. v.now) value.entry) (Some (Value.Number default))) }
+    ensures { result
+        ≡ number_in (later (option_map (λ v. v.now) value.entry) (Some (Value.Number default))) }
 {
     match value {
         Some(Value::Number(number)) => *number as u32,
@@ -206,7 +208,8 @@ fn number_or(value: Option<&Value>, default: u32) -> u32
 
 fn port_or(value: Option<&Value>, default: u16) -> u16
     requires { number_in (option_map (λ v. v.now) value) < 2 ^ 16 }
-    ensures { result ≡ number_in (later (option_map (λ v. v.now) value.entry) (Some (Value.Number default))) }
+    ensures { result
+        ≡ number_in (later (option_map (λ v. v.now) value.entry) (Some (Value.Number default))) }
 {
     match value {
         Some(Value::Number(number)) => *number as u16,
@@ -216,7 +219,8 @@ fn port_or(value: Option<&Value>, default: u16) -> u16
 }
 
 fn truth_or(value: Option<&Value>, default: bool) -> bool
-    ensures { result ≡ truth_in (later (option_map (λ v. v.now) value.entry) (Some (Value.Truth default))) }
+    ensures { result
+        ≡ truth_in (later (option_map (λ v. v.now) value.entry) (Some (Value.Truth default))) }
 {
     match value {
         Some(Value::Truth(on)) => *on,

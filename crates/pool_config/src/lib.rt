@@ -1,5 +1,5 @@
-//! The configuration of the pool: its grammar, its one table of parameters, and its one printed form.
-//! What is read is what the text says, and a text that says nothing valid is refused with its first fault.
+//! The configuration of the pool: its grammar, its table of parameters, and its one printed form.
+//! What is read is what the text says; a text that says nothing is refused by its first fault.
 #![tactic(auto)]
 
 mod assemble;

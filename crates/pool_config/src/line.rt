@@ -93,7 +93,8 @@ fn split_run(class: Class, bytes: &[u8]) -> (&[u8], &[u8])
 
 /// The first line, and what stands behind its line feed.
 pub(crate) fn cut_line(bytes: &[u8]) -> (&[u8], Option<&[u8]>)
-    ensures lines { lines bytes.now ≡ result.0.now ∷ (lines_behind (option_map (λ rest. rest.now) result.1)) }
+    ensures lines { lines bytes.now
+        ≡ result.0.now ∷ (lines_behind (option_map (λ rest. rest.now) result.1)) }
     ensures shorter { IfSome result.1 (λ rest. length rest.now < length bytes.now) }
 {
     let (line, rest) = split_run(Class::InLine, bytes);

@@ -1,5 +1,8 @@
 //! Texts and the answers that an operator sees.
-use crate::{Config, ConfigFault, parse_config};
+ghost use Rattle.std.specs.Prelude.{IfOk};
+ghost use Rattle.pool_config.specs.Configuration.{IsAllowed};
+
+use crate::{Config, ConfigFault, parse_config, write_config};
 use std::alloc::Global;
 use std::test::Fail;
 
@@ -10,7 +13,9 @@ backend_port0 = 5432
 ";
 
 /// The answer to a short text.
-fn read(alloc: Global, text: &str) -> Result<Config, ConfigFault> {
+fn read(alloc: Global, text: &str) -> Result<Config, ConfigFault>
+    ensures { IfOk result (λ config. IsAllowed config) }
+{
     if text.len() > 65536 {
         return Err(ConfigFault::BadLine(0));
     }
@@ -99,5 +104,61 @@ fn the_empty_text_lacks_the_mode(rt: HostRuntime) -> Result<(), Fail> {
         given.as_str(),
         "configuration: backend_clustering_mode is missing"
     );
+    Ok(())
+}
+
+/// Three backends with weights.
+const THREE: &str = "backend_clustering_mode = 'snapshot_isolation'
+backend_hostname0 = 'a'
+backend_port0 = 5432
+backend_hostname1 = 'b'
+backend_port1 = 5433
+backend_hostname2 = 'c'
+backend_port2 = 5434
+backend_weight0 = 0
+backend_weight2 = 1000
+";
+
+/// Every parameter of the table, in another order and with other values than the defaults.
+const ALL: &str = "port = 1 # ours
+num_init_children = 64
+failover_if_affected_tuples_mismatch = true
+replication_stop_on_mismatch = on
+insert_lock = on
+statement_level_load_balance = true
+load_balance_mode = off
+listen_addresses = '# \u{e9} a'
+backend_weight7 = 7
+backend_port7 = 65535
+backend_hostname7 = 'h'
+backend_hostname0 = 'a'
+backend_port0 = 1
+backend_hostname1 = 'b'
+backend_port1 = 1
+backend_hostname2 = 'c'
+backend_port2 = 1
+backend_hostname3 = 'd'
+backend_port3 = 1
+backend_hostname4 = 'e'
+backend_port4 = 1
+backend_hostname5 = 'f'
+backend_port5 = 1
+backend_hostname6 = 'g'
+backend_port6 = 1
+backend_clustering_mode = 'snapshot_isolation'
+";
+
+#[test]
+fn what_is_written_is_read_again(rt: HostRuntime) -> Result<(), Fail> {
+    for text in [GOOD, THREE, ALL] {
+        let Ok(config) = read(rt.alloc(), text) else {
+            return Err(Fail::from("not read"));
+        };
+        let written = write_config(rt.alloc(), &config)?;
+        let Ok(again) = read(rt.alloc(), written.as_str()) else {
+            return Err(Fail::from("not read again"));
+        };
+        assert!(rt; config == again, "{text}");
+    }
     Ok(())
 }

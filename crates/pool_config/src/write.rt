@@ -34,7 +34,8 @@ fn written(alloc: Global, config: &Config) -> Result<Text, NoMemory>
 /// The lines of the backends.
 fn write_nodes(text: &mut String, nodes: &[Node]) -> Result<(), AllocError>
     requires { length nodes.now < 9 }
-    ensures { OnOk result (string_bytes text.new ≡ string_bytes text.old ++ nodes_text 0 nodes.now) }
+    ensures { OnOk result (string_bytes text.new
+        ≡ string_bytes text.old ++ nodes_text 0 nodes.now) }
 {
     let mut number: u32 = 0;
     let mut left = nodes;
@@ -48,7 +49,8 @@ fn write_nodes(text: &mut String, nodes: &[Node]) -> Result<(), AllocError>
 
 /// The lines of one backend.
 fn write_node(text: &mut String, number: u32, node: &Node) -> Result<(), AllocError>
-    ensures { OnOk result (string_bytes text.new ≡ string_bytes text.old ++ node_text number node.now) }
+    ensures { OnOk result (string_bytes text.new
+        ≡ string_bytes text.old ++ node_text number node.now) }
 {
     let host = node.host.as_str();
     let port = node.port;

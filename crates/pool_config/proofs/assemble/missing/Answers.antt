@@ -1,4 +1,4 @@
-use Rattle.std.proofs.Common.{◌≡◌, ◌∙◌, ap, sym, find, map}
+use Rattle.std.proofs.Common.{◌∙◌, ap, sym, find, map}
 use Rattle.pool_config.specs.Configuration.{lacks, later}
 use Rattle.pool_config.specs.declared.parameter.Parameter.TheVariants.{BackendPort}
 use Rattle.pool_config.proofs.Lists.{missing_is}

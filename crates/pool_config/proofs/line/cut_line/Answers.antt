@@ -1,4 +1,4 @@
-use Rattle.std.proofs.Common.{◌≤◌, length, arith}
+use Rattle.std.proofs.Common.{arith}
 use Rattle.pool_config.proofs.Runs.{cut_last, cut_first, next_shorter}
 use Rattle.pool_config.proofs.line.cut_line.Goals as goal
 

@@ -1,4 +1,4 @@
-use Rattle.std.proofs.Common.{◌≡◌, ◌≤◌, ◌-◌, ℕ, length, take, drop, arith, ap, sym, ◌∙◌}
+use Rattle.std.proofs.Common.{◌≤◌, ◌-◌, length, take, drop, arith, ap, ◌∙◌}
 use Rattle.pool_config.specs.Bytes.{behind}
 use Rattle.pool_config.proofs.Runs.{behind_short, front_taken, behind_dropped}
 use Rattle.pool_config.proofs.line.split_run.Goals as goal

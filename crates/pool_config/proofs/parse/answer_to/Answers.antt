@@ -1,7 +1,7 @@
-use Rattle.std.proofs.Common.{rules, ◌≡◌, List, sym, subst, ◌∙◌, ap, Ok, Err}
+use Rattle.std.proofs.Common.{rules, List, sym, subst, ◌∙◌, ap}
 use Rattle.pool_config.specs.Taken.{AllTaken}
 use Rattle.pool_config.specs.Configuration.{missing_of}
-use Rattle.pool_config.specs.Reader.{Gives, answer_of, unless_missing}
+use Rattle.pool_config.specs.Reader.{Gives, unless_missing}
 use Rattle.pool_config.specs.declared.assemble.Setting.{Setting}
 use Rattle.pool_config.proofs.Reading.{answer_fails, answer_is, read_taken, fails_again}
 use Rattle.pool_config.proofs.parse.answer_to.Goals as goal

@@ -1,4 +1,4 @@
-use Rattle.std.proofs.Common.{◌≤◌, ◌+◌, ◌-◌, ◌<◌, ◌≡◌, ◌∙◌, length, take, drop, slice_index, arith, rules}
+use Rattle.std.proofs.Common.{◌+◌, ◌-◌, ◌≡◌, ◌∙◌, length, take, drop, slice_index, arith, rules}
 use Rattle.pool_config.proofs.Numbers.{one_more, number_step, digit_small}
 use Rattle.pool_config.proofs.Runs.{tail_length}
 use Rattle.pool_config.proofs.value.read_number.Goals as goal
