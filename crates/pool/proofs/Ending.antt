@@ -1,11 +1,10 @@
 -- What each stage says of the end of the run.
-use Rattle.std.proofs.Common.{◌≡◌, ◌≢◌, ℕ, ◌≤◌, length, true, List, [], ◌∷◌, ◌++◌, refl, sym, ap, ◌∙◌, subst}
+use Rattle.std.proofs.Common.{◌≡◌, ◌≢◌, ℕ, ◌≤◌, length, true, List, [], ◌∷◌, refl, sym, ◌∙◌, subst}
 use Rattle.std.specs.Prelude.{Option, Some, None, Result, Ok, Err, IfOk, MatchOption}
 use Rattle.std.specs.FinMap as fin
-use Rattle.pool_base.specs.Outside.{Appends, AppendsFront, Rose}
+use Rattle.pool_base.specs.Outside.{Appends}
 use Rattle.pool_base.proofs.Sinking.{rose_after}
 use Rattle.backend_trait.specs.Rows.{Rows, no_rows}
-use Rattle.backend_trait.specs.declared.row.Row.{Row}
 use Rattle.backend_trait.specs.Keys.{place_order}
 use Rattle.play.specs.declared.script.ScriptLine.{ScriptLine}
 use Rattle.play.specs.declared.script.ScriptLine.TheVariants.{Session, Query, Terminate}
@@ -21,10 +20,10 @@ use Rattle.pool_config.specs.declared.fault.ConfigFault.{ConfigFault}
 use Rattle.pool_config.specs.declared.fault.ConfigFault.TheVariants as faults
 use Rattle.pool_config.specs.Configuration.{IsConfiguration, IsAnswer}
 use Rattle.pool_config.specs.Configuration as configuration
-use Rattle.pool.specs.Texts.{IsBuilt, IsRead, IsScriptRead, config_name, schema_name, is_plain, built_schema}
+use Rattle.pool.specs.Texts.{IsBuilt, IsRead, config_name, is_plain, built_schema}
 use Rattle.pool.specs.Reading.{IsFault}
 use Rattle.pool.specs.Ends.{Outside, outside, Says, NoCommandEnds, RefusedEnds, UnbuiltEnds, UnreadEnds, no_command, not_built, fault_line}
-use Rattle.pool.specs.Ends.{TextsEnds, RestEnds, unread_rest, read_rest, ConfigEnds, configured, faulty, unparsed, CommandEnds, unread, read, WordsEnd}
+use Rattle.pool.specs.Ends.{RestEnds, unread_rest, read_rest, ConfigEnds, configured, faulty, unparsed, CommandEnds, unread, read, WordsEnd}
 
 pub said : (s : Status) (bytes : List ℕ) (a b : Option (List ℕ)) (n m : ℕ) → s ≢ SinkFailed → Appends a b bytes → Says s s bytes a b n m
 said Done bytes a b n m other p = (refl, p)

@@ -1,11 +1,8 @@
 -- What each number says.
-use Rattle.std.proofs.Common.{◌≡◌, ◌⊎◌, ◌<◌, ◌≤◌, ℕ, Bool, List, length, ◌++◌, refl, sym, subst, ap, ◌∙◌, inl, inr, arith}
+use Rattle.std.proofs.Common.{◌≡◌, ◌⊎◌, ◌≤◌, ℕ, Bool, List, length, refl, sym, subst, ap, ◌∙◌, inl, inr, arith}
 use Rattle.std.specs.Prelude.{Option, Some, None}
-use Rattle.pool_base.specs.Outside.{Appends, Rose, Told, content, IsTold, IsLonger}
-use Rattle.backend_trait.specs.Rows.{Rows}
-use Rattle.play.specs.declared.script.ScriptLine.{ScriptLine}
+use Rattle.pool_base.specs.Outside.{Rose, Told, content, IsTold, IsLonger}
 use Rattle.play.specs.Script.{IsScript}
-use Rattle.play.specs.Transcript.{transcript_of, final_rows}
 use Rattle.pool_command.specs.Command.{command_of}
 use Rattle.pool_command.specs.declared.command.Command.{Command}
 use Rattle.pool_command.specs.declared.command.Command.TheVariants.{Play}
@@ -14,9 +11,9 @@ use Rattle.pool_config.specs.Configuration.{IsConfiguration}
 use Rattle.pool.specs.Status.{code_of}
 use Rattle.pool.specs.declared.status.Status.{Status}
 use Rattle.pool.specs.declared.status.Status.TheVariants.{Done, NoCommand, Refused, FilesFailed, SinkFailed, NoMemory, NotBuilt}
-use Rattle.pool.specs.Texts.{IsRead, IsBuilt, config_name}
+use Rattle.pool.specs.Texts.{IsRead, config_name}
 use Rattle.pool.specs.Ends.{Outside, NoCommandEnds, RefusedEnds, UnreadEnds, UnbuiltEnds, ScriptEnds, TextsEnds, built, unbuilt, unchecked, RestEnds, unread_rest, read_rest, SaysNone}
-use Rattle.pool.specs.Ends.{ConfigEnds, configured, faulty, unparsed, CommandEnds, unread, long, read, WordsEnd, Ends, Returns, Played}
+use Rattle.pool.specs.Ends.{ConfigEnds, configured, faulty, unparsed, CommandEnds, unread, long, read, WordsEnd, Returns, Played}
 use Rattle.pool.specs.Ends.{IsRefusedText, Cause, too_long, has_fault, ConfigRefused, config_too_long, fault_line}
 
 -- the numbers are different

@@ -1,5 +1,5 @@
 -- How a run may end: for each case, each status with what was written, or that it never comes.
-use Rattle.std.specs.Prelude.{◌≡◌, ◌<◌, ◌⊎◌, ℕ, length, List, [], ◌∷◌, ◌++◌, Option, Some, None, codes}
+use Rattle.std.specs.Prelude.{◌≡◌, ◌<◌, ◌⊎◌, ℕ, length, List, ◌++◌, Option, Some, None, codes}
 use Rattle.pool_base.specs.Outside.{Rose, Appends, AppendsFront, Told, IsTold, IsLonger}
 use Rattle.backend_trait.specs.Rows.{Rows}
 use Rattle.play.specs.declared.script.ScriptLine.{ScriptLine}

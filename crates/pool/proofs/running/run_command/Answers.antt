@@ -1,7 +1,7 @@
-use Rattle.std.proofs.Common.{List, ℕ, sym, ap, subst}
+use Rattle.std.proofs.Common.{List, ℕ, sym, subst}
 use Rattle.std.specs.Prelude.{Option, Some}
 use Rattle.pool.specs.Texts.{IsRead, config_name}
-use Rattle.pool.specs.Ends.{ConfigEnds, outside}
+use Rattle.pool.specs.Ends.{outside}
 use Rattle.pool.proofs.Ending.{config_read}
 use Rattle.pool.proofs.running.run_command.Goals as goal
 

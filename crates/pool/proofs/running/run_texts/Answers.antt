@@ -2,8 +2,6 @@ use Rattle.std.proofs.Common.{List, refl, sym, subst}
 use Rattle.play.specs.declared.script.ScriptLine.{ScriptLine}
 use Rattle.play.specs.Script.{IsOneSession}
 use Rattle.pool.specs.Ends.{built, unbuilt, unchecked, ScriptEnds, outside}
-use Rattle.std.specs.Prelude.{Option, Some, None, MatchOption}
-use Rattle.pool.specs.Texts.{IsBuilt}
 use Rattle.pool.proofs.Ending.{said_unbuilt, built_at, unbuilt_at}
 use Rattle.pool.proofs.running.run_texts.Goals as goal
 

@@ -1,4 +1,4 @@
-use Rattle.std.proofs.Common.{List, ℕ, subst, sym, ◌∙◌}
+use Rattle.std.proofs.Common.{subst, sym, ◌∙◌}
 use Rattle.std.specs.Prelude.{Option}
 use Rattle.pool_command.specs.declared.command.Command.{Command}
 use Rattle.pool.specs.Ends.{WordsEnd, outside}
