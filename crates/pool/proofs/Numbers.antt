@@ -1,21 +1,26 @@
 -- What each number says.
-use Rattle.std.proofs.Common.{◌≡◌, ◌⊎◌, ℕ, List, ◌++◌, refl, sym, subst, ap, ◌∙◌, inl, inr}
+use Rattle.std.proofs.Common.{◌≡◌, ◌⊎◌, ◌≤◌, ℕ, Bool, List, length, refl, sym, subst, ap, ◌∙◌, inl, inr, arith}
 use Rattle.std.specs.Prelude.{Option, Some, None}
-use Rattle.pool_base.specs.Outside.{Appends, Rose, Told, content, IsTold}
-use Rattle.backend_trait.specs.Rows.{Rows}
-use Rattle.play.specs.declared.script.ScriptLine.{ScriptLine}
+use Rattle.pool_base.specs.Outside.{Rose, Told, content, IsTold, IsLonger}
 use Rattle.play.specs.Script.{IsScript}
-use Rattle.play.specs.Transcript.{transcript_of, final_rows}
+use Rattle.pool_command.specs.Command.{command_of}
+use Rattle.pool_command.specs.declared.command.Command.{Command}
+use Rattle.pool_command.specs.declared.command.Command.TheVariants.{Play}
+use Rattle.pool_config.specs.declared.config.Config.{Config}
+use Rattle.pool_config.specs.Configuration.{IsConfiguration}
 use Rattle.pool.specs.Status.{code_of}
 use Rattle.pool.specs.declared.status.Status.{Status}
-use Rattle.pool.specs.declared.status.Status.TheVariants.{Done, NoCommand, FilesFailed, SinkFailed, NoMemory, NotBuilt}
-use Rattle.pool.specs.Texts.{command_of, IsRead, IsBuilt}
-use Rattle.pool.specs.Ends.{Outside, NoCommandEnds, UnreadEnds, UnbuiltEnds, ScriptEnds, TextsEnds, built, unbuilt, unchecked, CommandEnds, unread, read, WordsEnd, Ends, Returns, Played}
+use Rattle.pool.specs.declared.status.Status.TheVariants.{Done, NoCommand, Refused, FilesFailed, SinkFailed, NoMemory, NotBuilt}
+use Rattle.pool.specs.Texts.{IsRead, config_name}
+use Rattle.pool.specs.Ends.{Outside, NoCommandEnds, RefusedEnds, UnreadEnds, UnbuiltEnds, ScriptEnds, TextsEnds, built, unbuilt, unchecked, RestEnds, unread_rest, read_rest, SaysNone}
+use Rattle.pool.specs.Ends.{ConfigEnds, configured, faulty, unparsed, CommandEnds, unread, long, read, WordsEnd, Returns, Played}
+use Rattle.pool.specs.Ends.{IsRefusedText, Cause, too_long, has_fault, ConfigRefused, config_too_long, fault_line}
 
 -- the numbers are different
 pub is_done : (s : Status) → code_of s ≡ 0 → s ≡ Done
 is_done Done h = refl
 is_done NoCommand h = cc
+is_done Refused h = cc
 is_done FilesFailed h = cc
 is_done SinkFailed h = cc
 is_done NoMemory h = cc
@@ -24,15 +29,26 @@ is_done NotBuilt h = cc
 pub is_no_command : (s : Status) → code_of s ≡ 1 → s ≡ NoCommand
 is_no_command NoCommand h = refl
 is_no_command Done h = cc
+is_no_command Refused h = cc
 is_no_command FilesFailed h = cc
 is_no_command SinkFailed h = cc
 is_no_command NoMemory h = cc
 is_no_command NotBuilt h = cc
 
+pub is_refused : (s : Status) → code_of s ≡ 2 → s ≡ Refused
+is_refused Refused h = refl
+is_refused Done h = cc
+is_refused NoCommand h = cc
+is_refused FilesFailed h = cc
+is_refused SinkFailed h = cc
+is_refused NoMemory h = cc
+is_refused NotBuilt h = cc
+
 pub is_files : (s : Status) → code_of s ≡ 4 → s ≡ FilesFailed
 is_files FilesFailed h = refl
 is_files Done h = cc
 is_files NoCommand h = cc
+is_files Refused h = cc
 is_files SinkFailed h = cc
 is_files NoMemory h = cc
 is_files NotBuilt h = cc
@@ -41,90 +57,234 @@ pub is_sink : (s : Status) → code_of s ≡ 5 → s ≡ SinkFailed
 is_sink SinkFailed h = refl
 is_sink Done h = cc
 is_sink NoCommand h = cc
+is_sink Refused h = cc
 is_sink FilesFailed h = cc
 is_sink NoMemory h = cc
 is_sink NotBuilt h = cc
 
 -- status 4
-files_command : (contents : List ℕ → Told) (x y : ℕ) (names : List ℕ × List ℕ × List ℕ) (s : Status) (o : Outside) → s ≡ FilesFailed → CommandEnds contents x y names s o → Rose x y
-files_command contents x y names s o is (unread e) = (subst (λ s. UnreadEnds x y s o) is e).0
-files_command contents x y names s o is (read config schema script c d e (built lines b f)) = absurd (subst (λ s. ScriptEnds lines s o) is f)
-files_command contents x y names s o is (read config schema script c d e (unbuilt none f)) = absurd (subst (λ s. UnbuiltEnds s o) is f)
-files_command contents x y names s o is (read config schema script c d e (unchecked memory same)) = let never : FilesFailed ≡ NoMemory = sym is ∙ memory in absurd (cc)
+files_texts : (command : Command) (config : Config) (schema script : Option (List ℕ)) (s : Status) (o : Outside) → s ≡ FilesFailed → TextsEnds command config schema script s o → ⊥
+files_texts command config schema script s o is (built lines b f) = subst (λ s. ScriptEnds lines s o) is f
+files_texts command config schema script s o is (unbuilt none f) = subst (λ s. UnbuiltEnds s o) is f
+files_texts command config schema script s o is (unchecked memory same) = let never : FilesFailed ≡ NoMemory = sym is ∙ memory in absurd (cc)
 
-files_words : (names : Option (List ℕ × List ℕ × List ℕ)) (contents : List ℕ → Told) (x y : ℕ) (s : Status) (o : Outside) → s ≡ FilesFailed → WordsEnd names contents x y s o → Rose x y
+files_rest : (contents : List ℕ → Told) (x y : ℕ) (command : Command) (config : Config) (s : Status) (o : Outside) → s ≡ FilesFailed → RestEnds contents x y command config s o → Rose x y
+files_rest contents x y command config s o is (unread_rest e) = (subst (λ s. UnreadEnds x y s o) is e).0
+files_rest contents x y command config s o is (read_rest schema script d e f) = absurd (files_texts command config schema script s o is f)
+
+files_config : (contents : List ℕ → Told) (x y : ℕ) (command : Command) (text : List ℕ) (s : Status) (o : Outside) → s ≡ FilesFailed → ConfigEnds contents x y command text s o → Rose x y
+files_config contents x y command text s o is (configured config c e) = files_rest contents x y command config s o is e
+files_config contents x y command text s o is (faulty fault c none rows e) = absurd (subst (λ s. RefusedEnds (fault_line fault) s o) is e)
+files_config contents x y command text s o is (unparsed memory same) = let never : FilesFailed ≡ NoMemory = sym is ∙ memory in absurd (cc)
+
+files_command : (contents : List ℕ → Told) (x y : ℕ) (command : Command) (s : Status) (o : Outside) → s ≡ FilesFailed → CommandEnds contents x y command s o → Rose x y
+files_command contents x y command s o is (unread e) = (subst (λ s. UnreadEnds x y s o) is e).0
+files_command contents x y command s o is (long c rows e) = absurd (subst (λ s. RefusedEnds config_too_long s o) is e)
+files_command contents x y command s o is (read text c e) = files_config contents x y command text s o is e
+
+files_words : (command : Option Command) (contents : List ℕ → Told) (x y : ℕ) (s : Status) (o : Outside) → s ≡ FilesFailed → WordsEnd command contents x y s o → Rose x y
 files_words None contents x y s o is e = absurd (subst (λ s. NoCommandEnds s o) is e)
-files_words (Some names) contents x y s o is e = files_command contents x y names s o is e
+files_words (Some command) contents x y s o is e = files_command contents x y command s o is e
 
 pub files_rose : (words : List (List ℕ)) (contents : List ℕ → Told) (x y number : ℕ) (o : Outside) → Returns words contents x y number o → number ≡ 4 → Rose x y
 files_rose words contents x y number o r four = files_words (command_of words) contents x y r.status o (is_files r.status (sym r.is ∙ four)) r.ends
 
 -- status 5
-sink_command : (contents : List ℕ → Told) (x y : ℕ) (names : List ℕ × List ℕ × List ℕ) (s : Status) (o : Outside) → s ≡ SinkFailed → CommandEnds contents x y names s o → Rose o.faults_before o.faults_after
-sink_command contents x y names s o is (unread e) = absurd (subst (λ s. UnreadEnds x y s o) is e)
-sink_command contents x y names s o is (read config schema script c d e (built lines b f)) = (subst (λ s. ScriptEnds lines s o) is f).0
-sink_command contents x y names s o is (read config schema script c d e (unbuilt none f)) = (subst (λ s. UnbuiltEnds s o) is f).0
-sink_command contents x y names s o is (read config schema script c d e (unchecked memory same)) = let never : SinkFailed ≡ NoMemory = sym is ∙ memory in absurd (cc)
+sink_texts : (command : Command) (config : Config) (schema script : Option (List ℕ)) (s : Status) (o : Outside) → s ≡ SinkFailed → TextsEnds command config schema script s o → Rose o.faults_before o.faults_after
+sink_texts command config schema script s o is (built lines b f) = (subst (λ s. ScriptEnds lines s o) is f).0
+sink_texts command config schema script s o is (unbuilt none f) = (subst (λ s. UnbuiltEnds s o) is f).0
+sink_texts command config schema script s o is (unchecked memory same) = let never : SinkFailed ≡ NoMemory = sym is ∙ memory in absurd (cc)
 
-sink_words : (names : Option (List ℕ × List ℕ × List ℕ)) (contents : List ℕ → Told) (x y : ℕ) (s : Status) (o : Outside) → s ≡ SinkFailed → WordsEnd names contents x y s o → Rose o.faults_before o.faults_after
+sink_rest : (contents : List ℕ → Told) (x y : ℕ) (command : Command) (config : Config) (s : Status) (o : Outside) → s ≡ SinkFailed → RestEnds contents x y command config s o → Rose o.faults_before o.faults_after
+sink_rest contents x y command config s o is (unread_rest e) = absurd (subst (λ s. UnreadEnds x y s o) is e)
+sink_rest contents x y command config s o is (read_rest schema script d e f) = sink_texts command config schema script s o is f
+
+sink_config : (contents : List ℕ → Told) (x y : ℕ) (command : Command) (text : List ℕ) (s : Status) (o : Outside) → s ≡ SinkFailed → ConfigEnds contents x y command text s o → Rose o.faults_before o.faults_after
+sink_config contents x y command text s o is (configured config c e) = sink_rest contents x y command config s o is e
+sink_config contents x y command text s o is (faulty fault c none rows e) = (subst (λ s. RefusedEnds (fault_line fault) s o) is e).0
+sink_config contents x y command text s o is (unparsed memory same) = let never : SinkFailed ≡ NoMemory = sym is ∙ memory in absurd (cc)
+
+sink_command : (contents : List ℕ → Told) (x y : ℕ) (command : Command) (s : Status) (o : Outside) → s ≡ SinkFailed → CommandEnds contents x y command s o → Rose o.faults_before o.faults_after
+sink_command contents x y command s o is (unread e) = absurd (subst (λ s. UnreadEnds x y s o) is e)
+sink_command contents x y command s o is (long c rows e) = (subst (λ s. RefusedEnds config_too_long s o) is e).0
+sink_command contents x y command s o is (read text c e) = sink_config contents x y command text s o is e
+
+sink_words : (command : Option Command) (contents : List ℕ → Told) (x y : ℕ) (s : Status) (o : Outside) → s ≡ SinkFailed → WordsEnd command contents x y s o → Rose o.faults_before o.faults_after
 sink_words None contents x y s o is e = (subst (λ s. NoCommandEnds s o) is e).0
-sink_words (Some names) contents x y s o is e = sink_command contents x y names s o is e
+sink_words (Some command) contents x y s o is e = sink_command contents x y command s o is e
 
 pub sink_rose : (words : List (List ℕ)) (contents : List ℕ → Told) (x y number : ℕ) (o : Outside) → Returns words contents x y number o → number ≡ 5 → Rose o.faults_before o.faults_after
 sink_rose words contents x y number o r five = sink_words (command_of words) contents x y r.status o (is_sink r.status (sym r.is ∙ five)) r.ends
 
 -- status 1
-none_command : (contents : List ℕ → Told) (x y : ℕ) (names : List ℕ × List ℕ × List ℕ) (s : Status) (o : Outside) → s ≡ NoCommand → CommandEnds contents x y names s o → ⊥
-none_command contents x y names s o is (unread e) = subst (λ s. UnreadEnds x y s o) is e
-none_command contents x y names s o is (read config schema script c d e (built lines b f)) = subst (λ s. ScriptEnds lines s o) is f
-none_command contents x y names s o is (read config schema script c d e (unbuilt none f)) = subst (λ s. UnbuiltEnds s o) is f
-none_command contents x y names s o is (read config schema script c d e (unchecked memory same)) = let never : NoCommand ≡ NoMemory = sym is ∙ memory in absurd (cc)
+none_texts : (command : Command) (config : Config) (schema script : Option (List ℕ)) (s : Status) (o : Outside) → s ≡ NoCommand → TextsEnds command config schema script s o → ⊥
+none_texts command config schema script s o is (built lines b f) = subst (λ s. ScriptEnds lines s o) is f
+none_texts command config schema script s o is (unbuilt none f) = subst (λ s. UnbuiltEnds s o) is f
+none_texts command config schema script s o is (unchecked memory same) = let never : NoCommand ≡ NoMemory = sym is ∙ memory in absurd (cc)
 
-none_words : (names : Option (List ℕ × List ℕ × List ℕ)) (contents : List ℕ → Told) (x y : ℕ) (s : Status) (o : Outside) → s ≡ NoCommand → WordsEnd names contents x y s o → names ≡ None
+none_rest : (contents : List ℕ → Told) (x y : ℕ) (command : Command) (config : Config) (s : Status) (o : Outside) → s ≡ NoCommand → RestEnds contents x y command config s o → ⊥
+none_rest contents x y command config s o is (unread_rest e) = subst (λ s. UnreadEnds x y s o) is e
+none_rest contents x y command config s o is (read_rest schema script d e f) = none_texts command config schema script s o is f
+
+none_config : (contents : List ℕ → Told) (x y : ℕ) (command : Command) (text : List ℕ) (s : Status) (o : Outside) → s ≡ NoCommand → ConfigEnds contents x y command text s o → ⊥
+none_config contents x y command text s o is (configured config c e) = none_rest contents x y command config s o is e
+none_config contents x y command text s o is (faulty fault c none rows e) = subst (λ s. RefusedEnds (fault_line fault) s o) is e
+none_config contents x y command text s o is (unparsed memory same) = let never : NoCommand ≡ NoMemory = sym is ∙ memory in absurd (cc)
+
+none_command : (contents : List ℕ → Told) (x y : ℕ) (command : Command) (s : Status) (o : Outside) → s ≡ NoCommand → CommandEnds contents x y command s o → ⊥
+none_command contents x y command s o is (unread e) = subst (λ s. UnreadEnds x y s o) is e
+none_command contents x y command s o is (long c rows e) = subst (λ s. RefusedEnds config_too_long s o) is e
+none_command contents x y command s o is (read text c e) = none_config contents x y command text s o is e
+
+none_words : (command : Option Command) (contents : List ℕ → Told) (x y : ℕ) (s : Status) (o : Outside) → s ≡ NoCommand → WordsEnd command contents x y s o → command ≡ None
 none_words None contents x y s o is e = refl
-none_words (Some names) contents x y s o is e = absurd (none_command contents x y names s o is e)
+none_words (Some command) contents x y s o is e = absurd (none_command contents x y command s o is e)
 
 pub no_command_is : (words : List (List ℕ)) (contents : List ℕ → Told) (x y number : ℕ) (o : Outside) → Returns words contents x y number o → number ≡ 1 → command_of words ≡ None
 no_command_is words contents x y number o r one = none_words (command_of words) contents x y r.status o (is_no_command r.status (sym r.is ∙ one)) r.ends
 
-no_command_ends : (s : Status) (o : Outside) → NoCommandEnds s o → (code_of s ≡ 1) ⊎ ((code_of s ≡ 5) × Rose o.faults_before o.faults_after)
+no_command_ends : (s : Status) (o : Outside) → NoCommandEnds s o → (code_of s ≡ 1) ⊎ (((code_of s ≡ 5) × Rose o.faults_before o.faults_after) ⊎ (code_of s ≡ 7))
 no_command_ends NoCommand o e = inl refl
-no_command_ends SinkFailed o e = inr (refl, e.0)
+no_command_ends SinkFailed o e = inr (inl (refl, e.0))
+no_command_ends NoMemory o e = inr (inr refl)
 no_command_ends Done o e = absurd e
+no_command_ends Refused o e = absurd e
 no_command_ends FilesFailed o e = absurd e
-no_command_ends NoMemory o e = absurd e
 no_command_ends NotBuilt o e = absurd e
 
 pub no_command_always : (words : List (List ℕ)) (contents : List ℕ → Told) (x y number : ℕ) (o : Outside) → Returns words contents x y number o → command_of words ≡ None
-    → (number ≡ 1) ⊎ ((number ≡ 5) × Rose o.faults_before o.faults_after)
+    → (number ≡ 1) ⊎ (((number ≡ 5) × Rose o.faults_before o.faults_after) ⊎ (number ≡ 7))
 no_command_always words contents x y number o r is =
-    let both : (code_of r.status ≡ 1) ⊎ ((code_of r.status ≡ 5) × Rose o.faults_before o.faults_after) = no_command_ends r.status o (subst (λ c. WordsEnd c contents x y r.status o) is r.ends) in
-    elim both [ inl e ↦ inl (r.is ∙ e) | inr e ↦ inr (r.is ∙ e.0, e.1) ]
+    let all : ℕ → Type 0 = λ n. (n ≡ 1) ⊎ (((n ≡ 5) × Rose o.faults_before o.faults_after) ⊎ (n ≡ 7)) in
+    subst all (sym r.is) (no_command_ends r.status o (subst (λ c. WordsEnd c contents x y r.status o) is r.ends))
+
+-- status 2: the configuration is refused
+refused_texts : (command : Command) (config : Config) (schema script : Option (List ℕ)) (s : Status) (o : Outside) → s ≡ Refused → TextsEnds command config schema script s o → ⊥
+refused_texts command config schema script s o is (built lines b f) = subst (λ s. ScriptEnds lines s o) is f
+refused_texts command config schema script s o is (unbuilt none f) = subst (λ s. UnbuiltEnds s o) is f
+refused_texts command config schema script s o is (unchecked memory same) = let never : Refused ≡ NoMemory = sym is ∙ memory in absurd (cc)
+
+refused_rest : (contents : List ℕ → Told) (x y : ℕ) (command : Command) (config : Config) (s : Status) (o : Outside) → s ≡ Refused → RestEnds contents x y command config s o → ⊥
+refused_rest contents x y command config s o is (unread_rest e) = subst (λ s. UnreadEnds x y s o) is e
+refused_rest contents x y command config s o is (read_rest schema script d e f) = refused_texts command config schema script s o is f
+
+refused_config : (words : List (List ℕ)) (contents : List ℕ → Told) (x y : ℕ) (command : Command) (text : List ℕ) (s : Status) (o : Outside) → command_of words ≡ Some command → s ≡ Refused
+    → IsRead (contents (config_name command)) 65536 (Some text) → ConfigEnds contents x y command text s o → ConfigRefused words contents o
+refused_config words contents x y command text s o named is c (configured config said e) = absurd (refused_rest contents x y command config s o is e)
+refused_config words contents x y command text s o named is c (faulty fault first none rows e) =
+    record { command = command; is = named; bytes = fault_line fault; cause = has_fault text fault c.0 first none refl; wrote = subst (λ s. RefusedEnds (fault_line fault) s o) is e; rows = rows }
+refused_config words contents x y command text s o named is c (unparsed memory same) = let never : Refused ≡ NoMemory = sym is ∙ memory in absurd (cc)
+
+refused_command : (words : List (List ℕ)) (contents : List ℕ → Told) (x y : ℕ) (command : Command) (s : Status) (o : Outside) → command_of words ≡ Some command → s ≡ Refused
+    → CommandEnds contents x y command s o → ConfigRefused words contents o
+refused_command words contents x y command s o named is (unread e) = absurd (subst (λ s. UnreadEnds x y s o) is e)
+refused_command words contents x y command s o named is (long c rows e) =
+    record { command = command; is = named; bytes = config_too_long; cause = too_long c refl; wrote = subst (λ s. RefusedEnds config_too_long s o) is e; rows = rows }
+refused_command words contents x y command s o named is (read text c e) = refused_config words contents x y command text s o named is c e
+
+refused_words : (words : List (List ℕ)) (command : Option Command) (contents : List ℕ → Told) (x y : ℕ) (s : Status) (o : Outside) → command_of words ≡ command → s ≡ Refused
+    → WordsEnd command contents x y s o → ConfigRefused words contents o
+refused_words words None contents x y s o named is e = absurd (subst (λ s. NoCommandEnds s o) is e)
+refused_words words (Some command) contents x y s o named is e = refused_command words contents x y command s o named is e
+
+pub refused_is : (words : List (List ℕ)) (contents : List ℕ → Told) (x y number : ℕ) (o : Outside) → Returns words contents x y number o → number ≡ 2 → ConfigRefused words contents o
+refused_is words contents x y number o r two = refused_words words (command_of words) contents x y r.status o refl (is_refused r.status (sym r.is ∙ two)) r.ends
+
+cause_refuses : (told : Told) (bytes text : List ℕ) → told ≡ content text → Cause told bytes → IsRefusedText text
+cause_refuses told bytes text is (too_long longer line) = inl (subst (λ t. IsLonger t 65536) is longer)
+cause_refuses told bytes text is (has_fault read_text fault tells first none line) =
+    inr (subst SaysNone (subst (λ t. IsTold t read_text) is tells) none)
+
+pub refused_text : (words : List (List ℕ)) (contents : List ℕ → Told) (x y number : ℕ) (o : Outside) → Returns words contents x y number o → number ≡ 2
+    → (command : Command) (text : List ℕ) → command_of words ≡ Some command → contents (config_name command) ≡ content text → IsRefusedText text
+refused_text words contents x y number o r two command text named tells =
+    let why = refused_is words contents x y number o r two in
+    let same : why.command ≡ command = (let e : Some why.command ≡ Some command = sym why.is ∙ named in cc) in
+    cause_refuses (contents (config_name why.command)) why.bytes text (subst (λ c. contents (config_name c) ≡ content text) (sym same) tells) why.cause
+
+-- what a refused configuration comes to
+abbrev pub Refuses : ℕ → ℕ → ℕ → Outside → Type 0
+Refuses x y number o = (number ≡ 2) ⊎ (((number ≡ 4) × Rose x y) ⊎ (((number ≡ 5) × Rose o.faults_before o.faults_after) ⊎ (number ≡ 7)))
+
+unread_refuses : (x y : ℕ) (s : Status) (o : Outside) → UnreadEnds x y s o → Refuses x y (code_of s) o
+unread_refuses x y Done o e = absurd e
+unread_refuses x y NoCommand o e = absurd e
+unread_refuses x y Refused o e = absurd e
+unread_refuses x y FilesFailed o e = inr (inl (refl, e.0))
+unread_refuses x y SinkFailed o e = absurd e
+unread_refuses x y NoMemory o e = inr (inr (inr refl))
+unread_refuses x y NotBuilt o e = absurd e
+
+line_refuses : (x y : ℕ) (bytes : List ℕ) (s : Status) (o : Outside) → RefusedEnds bytes s o → Refuses x y (code_of s) o
+line_refuses x y bytes Done o e = absurd e
+line_refuses x y bytes NoCommand o e = absurd e
+line_refuses x y bytes Refused o e = inl refl
+line_refuses x y bytes FilesFailed o e = absurd e
+line_refuses x y bytes SinkFailed o e = inr (inr (inl (refl, e.0)))
+line_refuses x y bytes NoMemory o e = inr (inr (inr refl))
+line_refuses x y bytes NotBuilt o e = absurd e
+
+-- a text that is refused says no configuration that was read
+none_said : (text : List ℕ) (config : Config) → length text ≤ 65536 → IsConfiguration text config → IsRefusedText text → ⊥
+none_said text config short said (inl longer) = omega (arith, longer, short)
+none_said text config short said (inr none) = none config said
+
+config_refuses : (contents : List ℕ → Told) (x y : ℕ) (command : Command) (text : List ℕ) (s : Status) (o : Outside) → length text ≤ 65536 → IsRefusedText text
+    → ConfigEnds contents x y command text s o → Refuses x y (code_of s) o
+config_refuses contents x y command text s o short refuses (configured config said e) = absurd (none_said text config short said refuses)
+config_refuses contents x y command text s o short refuses (faulty fault first none rows e) = line_refuses x y (fault_line fault) s o e
+config_refuses contents x y command text s o short refuses (unparsed memory same) = inr (inr (inr (ap code_of memory)))
+
+command_refuses : (contents : List ℕ → Told) (x y : ℕ) (command : Command) (text : List ℕ) (s : Status) (o : Outside) → contents (config_name command) ≡ content text → IsRefusedText text
+    → CommandEnds contents x y command s o → Refuses x y (code_of s) o
+command_refuses contents x y command text s o tells refuses (unread e) = unread_refuses x y s o e
+command_refuses contents x y command text s o tells refuses (long c rows e) = line_refuses x y config_too_long s o e
+command_refuses contents x y command text s o tells refuses (read got c e) =
+    config_refuses contents x y command got s o c.1 (subst IsRefusedText (sym (subst (λ t. IsTold t got) tells c.0)) refuses) e
+
+pub refuses : (words : List (List ℕ)) (contents : List ℕ → Told) (x y number : ℕ) (o : Outside) → Returns words contents x y number o
+    → (command : Command) (text : List ℕ) → command_of words ≡ Some command → contents (config_name command) ≡ content text → IsRefusedText text → Refuses x y number o
+refuses words contents x y number o r command text named tells is =
+    subst (λ n. Refuses x y n o) (sym r.is) (command_refuses contents x y command text r.status o tells is (subst (λ c. WordsEnd c contents x y r.status o) named r.ends))
 
 -- status 0
-done_texts : (config schema script : Option (List ℕ)) (text : List ℕ) (s : Status) (o : Outside) → s ≡ Done → script ≡ Some text → TextsEnds config schema script s o → Played text o
-done_texts config schema script text s o is tells (built lines b f) =
+done_texts : (command : Command) (config : Config) (schema script : Option (List ℕ)) (text : List ℕ) (s : Status) (o : Outside) → s ≡ Done → script ≡ Some text → TextsEnds command config schema script s o → Played text o
+done_texts command config schema script text s o is tells (built lines b f) =
     let ends : ScriptEnds lines Done o = subst (λ s. ScriptEnds lines s o) is f in
     let same : b.text ≡ text = (let e : Some b.text ≡ Some text = sym b.script_is ∙ tells in cc) in
     record { lines = lines; spells = subst (λ t. IsScript t lines) same b.spells; wrote = ends.0; rows = ends.1 }
-done_texts config schema script text s o is tells (unbuilt none f) = absurd (subst (λ s. UnbuiltEnds s o) is f)
-done_texts config schema script text s o is tells (unchecked memory same) = let never : Done ≡ NoMemory = sym is ∙ memory in absurd (cc)
+done_texts command config schema script text s o is tells (unbuilt none f) = absurd (subst (λ s. UnbuiltEnds s o) is f)
+done_texts command config schema script text s o is tells (unchecked memory same) = let never : Done ≡ NoMemory = sym is ∙ memory in absurd (cc)
 
 read_some : (told : Told) (limit : ℕ) (got : Option (List ℕ)) (text : List ℕ) → told ≡ content text → (got ≡ None → ⊥) → IsRead told limit got → got ≡ Some text
 read_some told limit None text is some r = absurd (some refl)
-read_some told limit (Some bytes) text is some r = ap Some (subst (λ t. IsTold t bytes) is r)
+read_some told limit (Some bytes) text is some r = ap Some (subst (λ t. IsTold t bytes) is r.0)
 
-some_script : (config schema script : Option (List ℕ)) (s : Status) (o : Outside) → s ≡ Done → TextsEnds config schema script s o → script ≡ None → ⊥
-some_script config schema script s o is (built lines b f) none = let never : None ≡ Some b.text = sym none ∙ b.script_is in absurd (cc)
-some_script config schema script s o is (unbuilt nothing f) none = subst (λ s. UnbuiltEnds s o) is f
-some_script config schema script s o is (unchecked memory same) none = let never : Done ≡ NoMemory = sym is ∙ memory in absurd (cc)
+some_script : (command : Command) (config : Config) (schema script : Option (List ℕ)) (s : Status) (o : Outside) → s ≡ Done → TextsEnds command config schema script s o → script ≡ None → ⊥
+some_script command config schema script s o is (built lines b f) none = let never : None ≡ Some b.text = sym none ∙ b.script_is in absurd (cc)
+some_script command config schema script s o is (unbuilt nothing f) none = subst (λ s. UnbuiltEnds s o) is f
+some_script command config schema script s o is (unchecked memory same) none = let never : Done ≡ NoMemory = sym is ∙ memory in absurd (cc)
 
-done_command : (contents : List ℕ → Told) (x y : ℕ) (names : List ℕ × List ℕ × List ℕ) (text : List ℕ) (s : Status) (o : Outside) → s ≡ Done → contents names.2 ≡ content text → CommandEnds contents x y names s o → Played text o
-done_command contents x y names text s o is tells (unread e) = absurd (subst (λ s. UnreadEnds x y s o) is e)
-done_command contents x y names text s o is tells (read config schema script c d e f) =
-    done_texts config schema script text s o is (read_some (contents names.2) 4194304 script text tells (some_script config schema script s o is f) e) f
+-- the command plays a script of that name
+done_rest : (contents : List ℕ → Told) (x y : ℕ) (a b c : List ℕ) (journal : Bool) (config : Config) (text : List ℕ) (s : Status) (o : Outside) → s ≡ Done → contents c ≡ content text
+    → RestEnds contents x y (Play a b c journal) config s o → Played text o
+done_rest contents x y a b c journal config text s o is tells (unread_rest e) = absurd (subst (λ s. UnreadEnds x y s o) is e)
+done_rest contents x y a b c journal config text s o is tells (read_rest schema script d e f) =
+    done_texts (Play a b c journal) config schema script text s o is (read_some (contents c) 4194304 script text tells (some_script (Play a b c journal) config schema script s o is f) e) f
+
+done_config : (contents : List ℕ → Told) (x y : ℕ) (a b c : List ℕ) (journal : Bool) (got text : List ℕ) (s : Status) (o : Outside) → s ≡ Done → contents c ≡ content text
+    → ConfigEnds contents x y (Play a b c journal) got s o → Played text o
+done_config contents x y a b c journal got text s o is tells (configured config said e) = done_rest contents x y a b c journal config text s o is tells e
+done_config contents x y a b c journal got text s o is tells (faulty fault first none rows e) = absurd (subst (λ s. RefusedEnds (fault_line fault) s o) is e)
+done_config contents x y a b c journal got text s o is tells (unparsed memory same) = let never : Done ≡ NoMemory = sym is ∙ memory in absurd (cc)
+
+done_command : (contents : List ℕ → Told) (x y : ℕ) (a b c : List ℕ) (journal : Bool) (text : List ℕ) (s : Status) (o : Outside) → s ≡ Done → contents c ≡ content text
+    → CommandEnds contents x y (Play a b c journal) s o → Played text o
+done_command contents x y a b c journal text s o is tells (unread e) = absurd (subst (λ s. UnreadEnds x y s o) is e)
+done_command contents x y a b c journal text s o is tells (long d rows e) = absurd (subst (λ s. RefusedEnds config_too_long s o) is e)
+done_command contents x y a b c journal text s o is tells (read got d e) = done_config contents x y a b c journal got text s o is tells e
 
 pub played : (words : List (List ℕ)) (contents : List ℕ → Told) (x y number : ℕ) (o : Outside) → Returns words contents x y number o → number ≡ 0
-    → (config schema script text : List ℕ) → command_of words ≡ Some (config, schema, script) → contents script ≡ content text → Played text o
-played words contents x y number o r zero_is config schema script text is tells =
-    done_command contents x y (config, schema, script) text r.status o (is_done r.status (sym r.is ∙ zero_is)) tells (subst (λ c. WordsEnd c contents x y r.status o) is r.ends)
+    → (config schema script text : List ℕ) (journal : Bool) → command_of words ≡ Some (Play config schema script journal) → contents script ≡ content text → Played text o
+played words contents x y number o r zero_is config schema script text journal is tells =
+    done_command contents x y config schema script journal text r.status o (is_done r.status (sym r.is ∙ zero_is)) tells (subst (λ c. WordsEnd c contents x y r.status o) is r.ends)

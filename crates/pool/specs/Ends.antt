@@ -1,17 +1,29 @@
 -- How a run may end: for each case, each status with what was written, or that it never comes.
-use Rattle.std.specs.Prelude.{◌≡◌, ℕ, List, [], ◌∷◌, ◌++◌, Option, Some, None, codes}
-use Rattle.pool_base.specs.Outside.{Rose, Appends, AppendsFront, Told, content}
+use Rattle.std.specs.Prelude.{◌≡◌, ◌<◌, ◌⊎◌, ℕ, length, List, ◌++◌, Option, Some, None, codes}
+use Rattle.pool_base.specs.Outside.{Rose, Appends, AppendsFront, Told, IsTold, IsLonger}
 use Rattle.backend_trait.specs.Rows.{Rows}
 use Rattle.play.specs.declared.script.ScriptLine.{ScriptLine}
 use Rattle.play.specs.Script.{IsScript}
 use Rattle.play.specs.Transcript.{transcript_of, final_rows}
 use Rattle.pool.specs.declared.status.Status.{Status}
-use Rattle.pool.specs.declared.status.Status.TheVariants.{Done, NoCommand, FilesFailed, SinkFailed, NoMemory, NotBuilt}
+use Rattle.pool_command.specs.declared.command.Command.{Command}
+use Rattle.pool_command.specs.Command.{command_of}
+use Rattle.pool_config.specs.declared.config.Config.{Config}
+use Rattle.pool_config.specs.declared.fault.ConfigFault.{ConfigFault}
+use Rattle.pool_config.specs.Configuration.{IsConfiguration, IsFault}
+use Rattle.pool_config.specs.Printed.{shown}
+use Rattle.pool.specs.declared.status.Status.TheVariants.{Done, NoCommand, Refused, FilesFailed, SinkFailed, NoMemory, NotBuilt}
 use Rattle.pool.specs.Status.{code_of}
-use Rattle.pool.specs.Texts.{command_of, IsRead, IsBuilt, line}
+use Rattle.pool.specs.Texts.{config_name, schema_name, IsRead, IsScriptRead, IsBuilt, line}
 
 abbrev pub no_command : List ℕ
 no_command = line (codes "pool: the words are no command")
+
+abbrev pub config_too_long : List ℕ
+config_too_long = line (codes "pool: configuration is too long")
+
+abbrev pub fault_line : ConfigFault → List ℕ
+fault_line fault = line (codes "pool: " ++ shown fault)
 
 abbrev pub not_built : List ℕ
 not_built = line (codes "pool: not built yet")
@@ -32,19 +44,31 @@ outside n m a b x y = record { faults_before = n; faults_after = m; had = a; has
 abbrev pub Fails : Outside → List ℕ → Type 0
 Fails o bytes = Rose o.faults_before o.faults_after × AppendsFront o.had o.has bytes
 
--- the words are no command
+-- the words are no command; memory may be refused while they are read
 abbrev pub NoCommandEnds : Status → Outside → Type 0
 NoCommandEnds Done o = ⊥
 NoCommandEnds NoCommand o = Appends o.had o.has no_command
+NoCommandEnds Refused o = ⊥
 NoCommandEnds FilesFailed o = ⊥
 NoCommandEnds SinkFailed o = Fails o no_command
-NoCommandEnds NoMemory o = ⊥
+NoCommandEnds NoMemory o = o.has ≡ o.had
 NoCommandEnds NotBuilt o = ⊥
 
--- a text was not read
+-- the configuration read is refused, and this line says why; memory may be refused before it is written
+abbrev pub RefusedEnds : List ℕ → Status → Outside → Type 0
+RefusedEnds bytes Done o = ⊥
+RefusedEnds bytes NoCommand o = ⊥
+RefusedEnds bytes Refused o = Appends o.had o.has bytes
+RefusedEnds bytes FilesFailed o = ⊥
+RefusedEnds bytes SinkFailed o = Fails o bytes
+RefusedEnds bytes NoMemory o = o.has ≡ o.had
+RefusedEnds bytes NotBuilt o = ⊥
+
+-- a text was not read, or memory was refused before
 abbrev pub UnreadEnds : ℕ → ℕ → Status → Outside → Type 0
 UnreadEnds before after Done o = ⊥
 UnreadEnds before after NoCommand o = ⊥
+UnreadEnds before after Refused o = ⊥
 UnreadEnds before after FilesFailed o = Rose before after × (o.has ≡ o.had)
 UnreadEnds before after SinkFailed o = ⊥
 UnreadEnds before after NoMemory o = o.has ≡ o.had
@@ -54,6 +78,7 @@ UnreadEnds before after NotBuilt o = ⊥
 abbrev pub UnbuiltEnds : Status → Outside → Type 0
 UnbuiltEnds Done o = ⊥
 UnbuiltEnds NoCommand o = ⊥
+UnbuiltEnds Refused o = ⊥
 UnbuiltEnds FilesFailed o = ⊥
 UnbuiltEnds SinkFailed o = Fails o not_built
 UnbuiltEnds NoMemory o = ⊥
@@ -63,6 +88,7 @@ UnbuiltEnds NotBuilt o = Appends o.had o.has not_built
 abbrev pub ScriptEnds : List ScriptLine → Status → Outside → Type 0
 ScriptEnds lines Done o = Appends o.had o.has (transcript_of o.rows_before lines) × (o.rows_after ≡ final_rows o.rows_before lines)
 ScriptEnds lines NoCommand o = ⊥
+ScriptEnds lines Refused o = ⊥
 ScriptEnds lines FilesFailed o = ⊥
 ScriptEnds lines SinkFailed o = Fails o (transcript_of o.rows_before lines)
 ScriptEnds lines NoMemory o = AppendsFront o.had o.has (transcript_of o.rows_before lines)
@@ -75,21 +101,37 @@ pub record Played (text : List ℕ) (o : Outside) : Type 0 where
   pub wrote : Appends o.had o.has (transcript_of o.rows_before lines)
   pub rows : o.rows_after ≡ final_rows o.rows_before lines
 
--- the three texts were read
-pub data TextsEnds (config schema script : Option (List ℕ)) (status : Status) (o : Outside) : Type 0 where
-  built : (lines : List ScriptLine) → IsBuilt config schema script lines → ScriptEnds lines status o → TextsEnds config schema script status o
-  unbuilt : ((lines : List ScriptLine) → IsBuilt config schema script lines → ⊥) → UnbuiltEnds status o → TextsEnds config schema script status o
-  unchecked : status ≡ NoMemory → o.has ≡ o.had → TextsEnds config schema script status o
+-- all texts of the command were read
+pub data TextsEnds (command : Command) (config : Config) (schema script : Option (List ℕ)) (status : Status) (o : Outside) : Type 0 where
+  built : (lines : List ScriptLine) → IsBuilt command config schema script lines → ScriptEnds lines status o → TextsEnds command config schema script status o
+  unbuilt : ((lines : List ScriptLine) → IsBuilt command config schema script lines → ⊥) → UnbuiltEnds status o → TextsEnds command config schema script status o
+  unchecked : status ≡ NoMemory → o.has ≡ o.had → TextsEnds command config schema script status o
 
--- the words are a command: the texts of their files were read, or one was not
-pub data CommandEnds (contents : List ℕ → Told) (before after : ℕ) (names : List ℕ × List ℕ × List ℕ) (status : Status) (o : Outside) : Type 0 where
-  unread : UnreadEnds before after status o → CommandEnds contents before after names status o
-  read : (config schema script : Option (List ℕ)) → IsRead (contents names.0) 65536 config → IsRead (contents names.1) 262144 schema → IsRead (contents names.2) 4194304 script
-      → TextsEnds config schema script status o → CommandEnds contents before after names status o
+-- the configuration stands: the other texts of the command were read, or one was not
+pub data RestEnds (contents : List ℕ → Told) (before after : ℕ) (command : Command) (config : Config) (status : Status) (o : Outside) : Type 0 where
+  unread_rest : UnreadEnds before after status o → RestEnds contents before after command config status o
+  read_rest : (schema script : Option (List ℕ)) → IsRead (contents (schema_name command)) 262144 schema → IsScriptRead contents command script
+      → TextsEnds command config schema script status o → RestEnds contents before after command config status o
 
-abbrev pub WordsEnd : Option (List ℕ × List ℕ × List ℕ) → (List ℕ → Told) → ℕ → ℕ → Status → Outside → Type 0
+-- the text says no configuration
+abbrev pub SaysNone : List ℕ → Type 0
+SaysNone text = (config : Config) → IsConfiguration text config → ⊥
+
+-- the text of the configuration was read: it says a configuration, or it has a first fault and nothing else is done
+pub data ConfigEnds (contents : List ℕ → Told) (before after : ℕ) (command : Command) (text : List ℕ) (status : Status) (o : Outside) : Type 0 where
+  configured : (config : Config) → IsConfiguration text config → RestEnds contents before after command config status o → ConfigEnds contents before after command text status o
+  faulty : (fault : ConfigFault) → IsFault text fault → SaysNone text → o.rows_after ≡ o.rows_before → RefusedEnds (fault_line fault) status o → ConfigEnds contents before after command text status o
+  unparsed : status ≡ NoMemory → o.has ≡ o.had → ConfigEnds contents before after command text status o
+
+-- the words are a command: its configuration was not read, is too long, or was read
+pub data CommandEnds (contents : List ℕ → Told) (before after : ℕ) (command : Command) (status : Status) (o : Outside) : Type 0 where
+  unread : UnreadEnds before after status o → CommandEnds contents before after command status o
+  long : IsRead (contents (config_name command)) 65536 None → o.rows_after ≡ o.rows_before → RefusedEnds config_too_long status o → CommandEnds contents before after command status o
+  read : (text : List ℕ) → IsRead (contents (config_name command)) 65536 (Some text) → ConfigEnds contents before after command text status o → CommandEnds contents before after command status o
+
+abbrev pub WordsEnd : Option Command → (List ℕ → Told) → ℕ → ℕ → Status → Outside → Type 0
 WordsEnd None contents before after status o = NoCommandEnds status o
-WordsEnd (Some names) contents before after status o = CommandEnds contents before after names status o
+WordsEnd (Some command) contents before after status o = CommandEnds contents before after command status o
 
 abbrev pub Ends : List (List ℕ) → (List ℕ → Told) → ℕ → ℕ → Status → Outside → Type 0
 Ends words contents before after status o = WordsEnd (command_of words) contents before after status o
@@ -100,11 +142,30 @@ pub record Returns (words : List (List ℕ)) (contents : List ℕ → Told) (bef
   pub is : number ≡ code_of status
   pub ends : Ends words contents before after status o
 
+-- a text that is refused as a configuration: it is too long, or says none
+abbrev pub IsRefusedText : List ℕ → Type 0
+IsRefusedText text = (65536 < length text) ⊎ SaysNone text
+
+-- why the configuration is refused, with the line that says it
+pub data Cause (told : Told) (bytes : List ℕ) : Type 0 where
+  too_long : IsLonger told 65536 → bytes ≡ config_too_long → Cause told bytes
+  has_fault : (text : List ℕ) (fault : ConfigFault) → IsTold told text → IsFault text fault → SaysNone text → bytes ≡ fault_line fault → Cause told bytes
+
+-- the configuration that the command names is refused, its line was written, and nothing else was done
+pub record ConfigRefused (words : List (List ℕ)) (contents : List ℕ → Told) (o : Outside) : Type 0 where
+  pub command : Command
+  pub is : command_of words ≡ Some command
+  pub bytes : List ℕ
+  pub cause : Cause (contents (config_name command)) bytes
+  pub wrote : Appends o.had o.has bytes
+  pub rows : o.rows_after ≡ o.rows_before
+
 -- a line that is to be written, and the status that it comes with
 abbrev pub Says : Status → Status → List ℕ → Option (List ℕ) → Option (List ℕ) → ℕ → ℕ → Type 0
 Says wanted SinkFailed bytes old new before after = Rose before after × AppendsFront old new bytes
 Says wanted Done bytes old new before after = (wanted ≡ Done) × Appends old new bytes
 Says wanted NoCommand bytes old new before after = (wanted ≡ NoCommand) × Appends old new bytes
+Says wanted Refused bytes old new before after = (wanted ≡ Refused) × Appends old new bytes
 Says wanted FilesFailed bytes old new before after = (wanted ≡ FilesFailed) × Appends old new bytes
 Says wanted NoMemory bytes old new before after = (wanted ≡ NoMemory) × Appends old new bytes
 Says wanted NotBuilt bytes old new before after = (wanted ≡ NotBuilt) × Appends old new bytes

@@ -1,37 +1,52 @@
--- The words that are a command, and the three texts that they name.
-use Rattle.std.specs.Prelude.{◌≡◌, ℕ, List, [], ◌∷◌, ◌++◌, Option, Some, None, bytes_eq, if◌then◌else◌, codes}
+-- The texts that a command names, what is read of them, and what is built.
+use Rattle.std.specs.Prelude.{◌≡◌, ◌≤◌, ℕ, Bool, true, false, not, List, [], ◌∷◌, ◌++◌, Option, Some, None, length, codes}
 use Rattle.pool_base.specs.Outside.{Told, IsTold, IsLonger}
 use Rattle.play.specs.declared.script.ScriptLine.{ScriptLine}
 use Rattle.play.specs.Script.{IsScript}
+use Rattle.pool_command.specs.declared.command.Command.{Command}
+use Rattle.pool_command.specs.declared.command.Command.TheVariants.{Play, Generate, Serve}
+use Rattle.pool_config.specs.declared.config.Config.{Config}
 
--- `play`, and the names of the configuration, the schema and the script
-abbrev pub command_of : List (List ℕ) → Option (List ℕ × List ℕ × List ℕ)
-command_of [] = None
-command_of (first ∷ []) = None
-command_of (first ∷ config ∷ []) = None
-command_of (first ∷ config ∷ schema ∷ []) = None
-command_of (first ∷ config ∷ schema ∷ script ∷ []) = if bytes_eq first (codes "play") then Some (config, schema, script) else None
-command_of (first ∷ config ∷ schema ∷ script ∷ other ∷ words) = None
+-- the file of the configuration
+abbrev pub config_name : Command → List ℕ
+config_name (Play config schema script journal) = config
+config_name (Generate config schema number size) = config
+config_name (Serve config schema) = config
+
+-- the file of the schema
+abbrev pub schema_name : Command → List ℕ
+schema_name (Play config schema script journal) = schema
+schema_name (Generate config schema number size) = schema
+schema_name (Serve config schema) = schema
 
 -- the text that was read is the file's, where the file tells; None is a file above the limit
 abbrev pub IsRead : Told → ℕ → Option (List ℕ) → Type 0
 IsRead told limit None = IsLonger told limit
-IsRead told limit (Some text) = IsTold told text
+IsRead told limit (Some text) = IsTold told text × (length text ≤ limit)
+
+-- the script of the command was read so; a command without one has none
+abbrev pub IsScriptRead : (List ℕ → Told) → Command → Option (List ℕ) → Type 0
+IsScriptRead contents (Play config schema script journal) text = IsRead (contents script) 4194304 text
+IsScriptRead contents (Generate config schema number size) text = text ≡ None
+IsScriptRead contents (Serve config schema) text = text ≡ None
 
 abbrev pub line : List ℕ → List ℕ
 line text = text ++ 10 ∷ []
 
--- the configuration of one backend
-unfoldable pub built_config : List ℕ
-built_config = line (codes "backend_clustering_mode = 'snapshot_isolation'") ++ (line (codes "backend_hostname0 = 'a'") ++ line (codes "backend_port0 = 5432"))
+-- to play a script without its journal
+abbrev pub is_plain : Command → Bool
+is_plain (Play config schema script journal) = not journal
+is_plain (Generate config schema number size) = false
+is_plain (Serve config schema) = false
 
 -- the schema of the table t
 unfoldable pub built_schema : List ℕ
 built_schema = line (codes "CREATE TABLE t (id int4 PRIMARY KEY, v int8);")
 
--- the texts ask for what is built: that configuration, that schema, and a script of one session
-pub record IsBuilt (config schema script : Option (List ℕ)) (lines : List ScriptLine) : Type 0 where
-  pub config_is : config ≡ Some built_config
+-- what is built is asked for: a script of one session, over one backend with that schema, without the journal
+pub record IsBuilt (command : Command) (config : Config) (schema script : Option (List ℕ)) (lines : List ScriptLine) : Type 0 where
+  pub plain : is_plain command ≡ true
+  pub one_backend : length config.nodes ≡ 1
   pub schema_is : schema ≡ Some built_schema
   pub text : List ℕ
   pub script_is : script ≡ Some text

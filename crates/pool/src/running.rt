@@ -1,16 +1,21 @@
 //! From the words to the status.
-ghost use Rattle.std.specs.Prelude.{◌≡◌, ◌≢◌, List as Sequence, map, IfOk, MatchOption};
+ghost use Rattle.std.specs.Prelude.{◌≡◌, ◌≢◌, ◌≤◌, length, List as Sequence, map, IfOk, MatchOption};
 ghost use Rattle.play.specs.declared.script.ScriptLine.{ScriptLine};
 ghost use Rattle.play.specs.Replies.{RowsFit};
 ghost use Rattle.play.specs.Script.{IsOneSession};
 ghost use Rattle.pool.specs.Texts.{IsBuilt};
-ghost use Rattle.pool.specs.Ends.{outside, CommandEnds, TextsEnds, ScriptEnds, Ends, Returns, Says};
+ghost use Rattle.pool.specs.Ends.{outside, CommandEnds, ConfigEnds, RefusedEnds, RestEnds, TextsEnds, ScriptEnds, Ends, Returns, Says, fault_line};
+ghost use Rattle.backend_trait.specs.Rows.{Rows};
+ghost use Rattle.pool_config.specs.declared.fault.ConfigFault.TheVariants as faults;
+ghost use Rattle.pool.specs.declared.status.Status.TheVariants as status;
 ghost use Rattle.pool.specs.declared.status.Status.TheVariants.{SinkFailed};
 
 use crate::status::Status;
-use crate::texts::{Command, Texts, are_built, command_of, read_texts};
+use crate::texts::{Texts, are_built, fault_line, read_config, read_texts};
 use play::{Database, PlayFault, ScriptLine, play, read_script};
 use pool_base::{Files, List, NoMemory, Sink, write_all};
+use pool_command::{Command, read_words};
+use pool_config::{Config, ConfigFault, parse_config};
 use std::alloc::Global;
 
 /// Runs the command of the words: its output goes to `out`, and its status is the result.
@@ -41,59 +46,138 @@ fn run_words<F: Files, O: Sink, D: Database>(
     requires { RowsFit (D.rows database.old) }
     ensures { Ends (map
         (λ w. w.now) words.now) (F.contents files.old) (F.fault_count files.old) (F.fault_count
-        files.new) result (outside (O.fault_count out.old) (O.fault_count out.new) (O.taken
-        out.old) (O.taken out.new) (D.rows database.old) (D.rows database.new)) }
+        files.new) result (outside
+        (O.fault_count out.old) (O.fault_count out.new) (O.taken out.old) (O.taken out.new)
+        (D.rows database.old) (D.rows database.new)) }
 {
-    match command_of(words) {
-        None => say(out, b"pool: the words are no command\n", Status::NoCommand),
-        Some(command) => run_command(alloc, &command, files, out, database),
+    match read_words(alloc, words) {
+        Err(_) => Status::NoMemory,
+        Ok(None) => say(out, b"pool: the words are no command\n", Status::NoCommand),
+        Ok(Some(command)) => run_command(alloc, &command, files, out, database),
     }
 }
 
 fn run_command<F: Files, O: Sink, D: Database>(
     alloc: Global,
-    command: &Command<'_>,
+    command: &Command,
     files: &mut F,
     out: &mut O,
     database: &mut D,
 ) -> Status
     requires { RowsFit (D.rows database.old) }
     ensures { CommandEnds (F.contents files.old) (F.fault_count files.old) (F.fault_count
-        files.new) (command.now.config.now, command.now.schema.now, command.now.script.now)
-        result (outside (O.fault_count out.old) (O.fault_count out.new) (O.taken out.old)
-        (O.taken out.new) (D.rows database.old) (D.rows database.new)) }
+        files.new) command.now result (outside
+        (O.fault_count out.old) (O.fault_count out.new) (O.taken out.old) (O.taken out.new)
+        (D.rows database.old) (D.rows database.new)) }
+{
+    match read_config(alloc, command, files) {
+        Err(status) => status,
+        Ok(None) => say(out, b"pool: configuration is too long\n", Status::Refused),
+        Ok(Some(text)) => run_config(alloc, command, text.as_slice(), files, out, database),
+    }
+}
+
+/// Goes on with the text of the configuration.
+fn run_config<F: Files, O: Sink, D: Database>(
+    alloc: Global,
+    command: &Command,
+    text: &[u8],
+    files: &mut F,
+    out: &mut O,
+    database: &mut D,
+) -> Status
+    requires short { length text.now ≤ 65536 }
+    requires fits { RowsFit (D.rows database.old) }
+    ensures { ConfigEnds (F.contents files.old) (F.fault_count files.old) (F.fault_count
+        files.new) command.now text.now result (outside
+        (O.fault_count out.old) (O.fault_count out.new) (O.taken out.old) (O.taken out.new)
+        (D.rows database.old) (D.rows database.new)) }
+{
+    match parse_config(alloc, text) {
+        Err(fault) => run_fault(alloc, &fault, out),
+        Ok(config) => run_rest(alloc, command, &config, files, out, database),
+    }
+}
+
+/// Ends with the fault of the configuration; want of memory is no fault of its text.
+fn run_fault<O: Sink>(alloc: Global, fault: &ConfigFault, out: &mut O) -> Status
+    ensures memory { fault.now ≡ faults.NoMemory → (result ≡ status.NoMemory)
+        × (O.taken out.new ≡ O.taken out.old) }
+    ensures refuses { fault.now ≢ faults.NoMemory → (rows : Rows) → RefusedEnds (fault_line
+        fault.now) result (outside (O.fault_count out.old) (O.fault_count out.new)
+        (O.taken out.old) (O.taken out.new) rows rows) }
+{
+    match fault {
+        ConfigFault::NoMemory => Status::NoMemory,
+        _ => refuse(alloc, fault, out),
+    }
+}
+
+/// Writes the line of a configuration's fault.
+fn refuse<O: Sink>(alloc: Global, fault: &ConfigFault, out: &mut O) -> Status
+    ensures { (rows : Rows) → RefusedEnds (fault_line fault.now) result (outside
+        (O.fault_count out.old) (O.fault_count out.new) (O.taken out.old) (O.taken out.new)
+        rows rows) }
+{
+    match fault_line(alloc, fault) {
+        Err(_) => Status::NoMemory,
+        Ok(line) => say(out, line.as_bytes(), Status::Refused),
+    }
+}
+
+/// Goes on with the configuration.
+fn run_rest<F: Files, O: Sink, D: Database>(
+    alloc: Global,
+    command: &Command,
+    config: &Config,
+    files: &mut F,
+    out: &mut O,
+    database: &mut D,
+) -> Status
+    requires { RowsFit (D.rows database.old) }
+    ensures { RestEnds (F.contents files.old) (F.fault_count files.old) (F.fault_count
+        files.new) command.now config.now result (outside
+        (O.fault_count out.old) (O.fault_count out.new) (O.taken out.old) (O.taken out.new)
+        (D.rows database.old) (D.rows database.new)) }
 {
     match read_texts(alloc, command, files) {
         Err(status) => status,
-        Ok(texts) => run_texts(alloc, &texts, out, database),
+        Ok(texts) => run_texts(alloc, command, config, &texts, out, database),
     }
 }
 
 fn run_texts<O: Sink, D: Database>(
     alloc: Global,
+    command: &Command,
+    config: &Config,
     texts: &Texts,
     out: &mut O,
     database: &mut D,
 ) -> Status
     requires { RowsFit (D.rows database.old) }
-    ensures { TextsEnds texts.now.config texts.now.schema texts.now.script result (outside
+    ensures { TextsEnds command.now config.now texts.now.schema texts.now.script result (outside
         (O.fault_count out.old) (O.fault_count out.new) (O.taken out.old) (O.taken out.new)
         (D.rows database.old) (D.rows database.new)) }
 {
-    match built_script(alloc, texts) {
+    match built_script(alloc, command, config, texts) {
         Err(_) => Status::NoMemory,
         Ok(None) => say(out, b"pool: not built yet\n", Status::NotBuilt),
         Ok(Some(script)) => run_script(alloc, script.as_slice(), out, database),
     }
 }
 
-/// The lines of the script, if all three texts ask for what is built.
-fn built_script(alloc: Global, texts: &Texts) -> Result<Option<List<ScriptLine>>, NoMemory>
+/// The lines of the script, if all that was read asks for what is built.
+fn built_script(
+    alloc: Global,
+    command: &Command,
+    config: &Config,
+    texts: &Texts,
+) -> Result<Option<List<ScriptLine>>, NoMemory>
     ensures { IfOk result (λ found. MatchOption found ((lines : Sequence ScriptLine)
-        → IsBuilt texts.now.config texts.now.schema texts.now.script lines → ⊥)
-        (λ lines. IsBuilt texts.now.config texts.now.schema texts.now.script lines)) }
+        → IsBuilt command.now config.now texts.now.schema texts.now.script lines → ⊥)
+        (λ lines. IsBuilt command.now config.now texts.now.schema texts.now.script lines)) }
 {
-    if !are_built(&texts.config, &texts.schema) {
+    if !are_built(command, config, &texts.schema) {
         return Ok(None);
     }
     match &texts.script {

@@ -9,13 +9,15 @@ pub enum Status {
     Done,
     /// The words are no command.
     NoCommand,
+    /// The configuration is refused.
+    Refused,
     /// A file could not be read.
     FilesFailed,
     /// The output could not be written.
     SinkFailed,
     /// Memory was refused.
     NoMemory,
-    /// The texts ask for what is not built yet.
+    /// The words and the texts ask for what is not built yet.
     NotBuilt,
 }
 
@@ -27,6 +29,7 @@ impl Status {
         match self {
             Status::Done => 0,
             Status::NoCommand => 1,
+            Status::Refused => 2,
             Status::FilesFailed => 4,
             Status::SinkFailed => 5,
             Status::NoMemory => 7,

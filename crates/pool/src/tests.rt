@@ -6,6 +6,8 @@ use std::test::Fail;
 const CONFIG: &str = "backend_clustering_mode = 'snapshot_isolation'\nbackend_hostname0 = 'a'\n\
     backend_port0 = 5432\n";
 
+const PLAY: [&str; 4] = ["play", "config", "schema", "script"];
+
 const SCHEMA: &str = "CREATE TABLE t (id int4 PRIMARY KEY, v int8);\n";
 
 const SCRIPT: &str = "session 1\n1 'Q' \"INSERT INTO t (id, v) VALUES (1, 10)\"\n\
@@ -27,30 +29,48 @@ const TRANSCRIPT: &str = "== session 1\n1 <= BE AuthenticationOk\n\
     1 <= BE CommandComplete (\"SELECT 1\")\n1 <= BE ReadyForQuery (I)\n1 FE=> 'X'\n1 closed\n";
 
 /// The files `config`, `schema` and `script`; the calls of that number fail.
-fn files(rt: &impl AllocGlobal, script: &str, fails: &[u64]) -> Result<MemoryFiles, NoMemory> {
-    let mut names = List::new(rt.alloc());
-    let mut contents = List::new(rt.alloc());
-    for (name, text) in [("config", CONFIG), ("schema", SCHEMA), ("script", script)] {
-        names.push(Text::from_str(rt.alloc(), name)?)?;
-        contents.push(List::from_slice(rt.alloc(), text.as_bytes())?)?;
+fn files(
+    rt: &impl AllocGlobal,
+    config: &str,
+    script: &str,
+    fails: &[u64],
+) -> Result<MemoryFiles, NoMemory> {
+    let alloc = rt.alloc();
+    let mut names = List::new(alloc);
+    for name in ["config", "schema", "script"] {
+        names.push(Text::from_str(alloc, name)?)?;
     }
-    Ok(MemoryFiles::new(names, contents, List::from_slice(rt.alloc(), fails)?))
+    let mut contents = List::new(alloc);
+    contents.push(List::from_slice(alloc, config.as_bytes())?)?;
+    contents.push(List::from_slice(alloc, SCHEMA.as_bytes())?)?;
+    contents.push(List::from_slice(alloc, script.as_bytes())?)?;
+    let fails = List::from_slice(alloc, fails)?;
+    Ok(MemoryFiles::new(names, contents, fails))
 }
 
-/// Plays a script over a store without rows, and gives the status and what was written.
+/// Runs the words over files and a store without rows, and gives the status and what was written.
+fn run(
+    rt: &impl AllocGlobal,
+    words: &[&str],
+    mut files: MemoryFiles,
+    sink_fails: &[u64],
+) -> Result<(u8, List<u8>), NoMemory> {
+    let alloc = rt.alloc();
+    let mut out = MemorySink::new(alloc, List::from_slice(alloc, sink_fails)?);
+    let mut store = MemoryStore::new(alloc);
+    let code = pool_run(alloc, words, &mut files, &mut out, &mut store);
+    Ok((code, List::from_slice(alloc, out.taken_bytes())?))
+}
+
+/// Plays a script over one backend.
 fn played(
     rt: &impl AllocGlobal,
     script: &str,
     file_fails: &[u64],
     sink_fails: &[u64],
 ) -> Result<(u8, List<u8>), NoMemory> {
-    let alloc = rt.alloc();
-    let mut files = files(rt, script, file_fails)?;
-    let mut out = MemorySink::new(alloc, List::from_slice(alloc, sink_fails)?);
-    let mut store = MemoryStore::new(alloc);
-    let words = ["play", "config", "schema", "script"];
-    let code = pool_run(alloc, &words, &mut files, &mut out, &mut store);
-    Ok((code, List::from_slice(alloc, out.taken_bytes())?))
+    let files = files(rt, CONFIG, script, file_fails)?;
+    run(rt, &PLAY, files, sink_fails)
 }
 
 #[test]
@@ -109,15 +129,120 @@ fn other_scripts_are_not_built(rt: HostRuntime) -> Result<(), Fail> {
 
 #[test]
 fn words_that_are_no_command_are_refused(rt: HostRuntime) -> Result<(), Fail> {
-    let alloc = rt.alloc();
-    let mut files = files(&rt, SCRIPT, &[])?;
-    let mut out = MemorySink::new(alloc, List::new(alloc));
-    let mut store = MemoryStore::new(alloc);
-    let code = pool_run(alloc, &["play"], &mut files, &mut out, &mut store);
+    let files = files(&rt, CONFIG, SCRIPT, &[])?;
+    let (code, output) = run(&rt, &["play"], files, &[])?;
     assert_eq!(rt; code, 1);
     assert_eq!(rt;
-        out.taken_bytes(),
+        output.as_slice(),
         b"pool: the words are no command\n".as_slice()
     );
+    Ok(())
+}
+
+#[test]
+fn other_commands_are_not_built(rt: HostRuntime) -> Result<(), Fail> {
+    let serve: &[&str] = &["serve", "config", "schema"];
+    let generate: &[&str] = &[
+        "play",
+        "config",
+        "schema",
+        "--generate",
+        "7",
+        "--size",
+        "20",
+    ];
+    let journal: &[&str] = &["play", "config", "schema", "script", "--journal"];
+    for words in [serve, generate, journal] {
+        let files = files(&rt, CONFIG, SCRIPT, &[])?;
+        let (code, output) = run(&rt, words, files, &[])?;
+        assert_eq!(rt; code, 9);
+        assert_eq!(rt; output.as_slice(), b"pool: not built yet\n".as_slice());
+    }
+    Ok(())
+}
+
+/// Configurations that are refused, and why.
+const REFUSED: [(&str, &str); 5] = [
+    (
+        "backend_clustering_mode = 'snapshot_isolation'\nbackend_color0 = 'red'\n\
+        backend_hostname0 = 'a'\nbackend_port0 = 5432\n",
+        "pool: configuration line 2: unknown name\n",
+    ),
+    (
+        "backend_clustering_mode = 'native_replication'\n",
+        "pool: configuration line 1: wrong mode\n",
+    ),
+    (
+        "",
+        "pool: configuration: backend_clustering_mode is missing\n",
+    ),
+    (
+        "backend_clustering_mode = 'snapshot_isolation'\nbackend_hostname0 = 'a'\n",
+        "pool: configuration: backend_port0 is missing\n",
+    ),
+    (
+        "# one\n\nbackend_port0 = 0\n",
+        "pool: configuration line 3: bad line\n",
+    ),
+];
+
+#[test]
+fn refused_configurations_are_named(rt: HostRuntime) -> Result<(), Fail> {
+    for (config, line) in REFUSED {
+        let files = files(&rt, config, SCRIPT, &[])?;
+        let (code, output) = run(&rt, &PLAY, files, &[])?;
+        assert_eq!(rt; code, 2, "of {config}");
+        assert_eq!(rt; output.as_slice(), line.as_bytes());
+    }
+    Ok(())
+}
+
+#[test]
+fn a_configuration_is_refused_before_the_schema_is_read(rt: HostRuntime) -> Result<(), Fail> {
+    let files = files(&rt, "port\n", SCRIPT, &[3])?;
+    let (code, output) = run(&rt, &PLAY, files, &[])?;
+    assert_eq!(rt; code, 2);
+    assert_eq!(rt;
+        output.as_slice(),
+        b"pool: configuration line 1: bad line\n".as_slice()
+    );
+    Ok(())
+}
+
+#[test]
+fn a_configuration_above_its_limit_is_refused(rt: HostRuntime) -> Result<(), Fail> {
+    let mut config = String::new(rt.alloc());
+    for _ in 0..3200 {
+        config.push_str("# a line of comments\n")?;
+    }
+    let files = files(&rt, config.as_str(), SCRIPT, &[])?;
+    let (code, output) = run(&rt, &PLAY, files, &[])?;
+    assert_eq!(rt; code, 2);
+    assert_eq!(rt;
+        output.as_slice(),
+        b"pool: configuration is too long\n".as_slice()
+    );
+    Ok(())
+}
+
+#[test]
+fn comments_and_a_weight_change_no_transcript(rt: HostRuntime) -> Result<(), Fail> {
+    let config = "# one backend\nbackend_clustering_mode = 'snapshot_isolation' # the mode\n\n\
+        backend_hostname0 = 'db.example'\nbackend_port0 = 5432\nbackend_weight0 = 3\n";
+    let files = files(&rt, config, SCRIPT, &[])?;
+    let (code, output) = run(&rt, &PLAY, files, &[])?;
+    assert_eq!(rt; code, 0);
+    assert_eq!(rt; output.as_slice(), TRANSCRIPT.as_bytes());
+    Ok(())
+}
+
+#[test]
+fn two_backends_are_not_built(rt: HostRuntime) -> Result<(), Fail> {
+    let config = "backend_clustering_mode = 'snapshot_isolation'\nbackend_hostname0 = 'a'\n\
+        backend_port0 = 5432\nbackend_hostname1 = 'b'\nbackend_port1 = 5433\n";
+    let files = files(&rt, config, SCRIPT, &[])?;
+    let (code, output) = run(&rt, &PLAY, files, &[])?;
+    assert_eq!(rt; code, 9);
+    assert_eq!(rt; output.as_slice(), b"pool: not built yet\n".as_slice());
     Ok(())
 }

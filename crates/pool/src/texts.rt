@@ -1,10 +1,13 @@
-//! The configuration, the schema and the script that the words name.
-ghost use Rattle.std.specs.Prelude.{◌≡◌, ◌≤◌, ℕ, List as Sequence, map, option_map, Some, IsTrue, ◌↔◌, IfOk, IfErr};
-ghost use Rattle.pool.specs.Texts.{command_of, IsRead, built_config, built_schema};
+//! The texts that a command names, and what is built.
+ghost use Rattle.std.specs.Prelude.{◌≡◌, ◌≤◌, ℕ, List as Sequence, Some, IsTrue, ◌↔◌, ◌++◌, IfOk, IfErr, length, true, string_bytes};
+ghost use Rattle.pool.specs.Texts.{config_name, schema_name, is_plain, IsRead, IsScriptRead, built_schema};
 ghost use Rattle.pool.specs.Reading.{IsFault};
+ghost use Rattle.pool.specs.Ends.{fault_line};
 
 use crate::status::Status;
-use pool_base::{Files, List, ReadFault, read_whole};
+use pool_base::{Files, List, NoMemory, ReadFault, read_whole};
+use pool_command::Command;
+use pool_config::{Config, ConfigFault};
 use std::alloc::Global;
 
 /// The limits of the texts, in bytes.
@@ -14,71 +17,61 @@ const SCHEMA_LIMIT: usize = 262_144;
 
 const SCRIPT_LIMIT: usize = 4_194_304;
 
-/// The configuration that is built: one backend.
-const CONFIG: &str = "backend_clustering_mode = 'snapshot_isolation'\nbackend_hostname0 = 'a'\n\
-    backend_port0 = 5432\n";
-
 /// The schema that is built: the table t.
 const SCHEMA: &str = "CREATE TABLE t (id int4 PRIMARY KEY, v int8);\n";
 
-/// The names of the three texts.
-#[derive(Clone, Copy, Debug)]
-pub struct Command<'a> {
-    pub config: &'a str,
-    pub schema: &'a str,
-    pub script: &'a str,
-}
-
-/// The three texts; None is a text above its limit.
+/// The texts beside the configuration. None is a text above its limit, or the script of a command
+/// that has none.
 #[derive(Debug, Drop)]
 pub struct Texts {
-    pub config: Option<List<u8>>,
     pub schema: Option<List<u8>>,
     pub script: Option<List<u8>>,
 }
 
-/// The command of these words, if they are one: `play CONFIG SCHEMA SCRIPT`.
-pub fn command_of<'a>(words: &[&'a str]) -> Option<Command<'a>>
-    ensures { option_map
-        (λ c. (c.config.now, c.schema.now, c.script.now)) result ≡ command_of (map
-        (λ w. w.now) words.now) }
+/// Reads the configuration's text.
+pub fn read_config<F: Files>(
+    alloc: Global,
+    command: &Command,
+    files: &mut F,
+) -> Result<Option<List<u8>>, Status>
+    ensures read { IfOk result
+        (λ text. IsRead (F.contents files.old (config_name command.now)) 65536 text) }
+    ensures kept { F.contents files.new ≡ F.contents files.old }
+    ensures later { F.fault_count files.old ≤ F.fault_count files.new }
+    ensures fault { IfErr result (IsFault (F.fault_count files.old) (F.fault_count files.new)) }
 {
-    match words {
-        [first, config, schema, script] => {
-            if *first == "play" {
-                Some(Command {
-                    config: *config,
-                    schema: *schema,
-                    script: *script,
-                })
-            } else {
-                None
-            }
-        }
-        _ => None,
-    }
+    read_text(alloc, files, config_name(command), CONFIG_LIMIT)
 }
 
-/// Reads the three texts.
+/// Reads the schema, and the script of a command that has one.
 pub fn read_texts<F: Files>(
     alloc: Global,
-    command: &Command<'_>,
+    command: &Command,
     files: &mut F,
 ) -> Result<Texts, Status>
     ensures read { IfOk result
-        (λ t. IsRead (F.contents files.old command.now.config.now) 65536 t.config
-        × IsRead (F.contents files.old command.now.schema.now) 262144 t.schema
-        × IsRead (F.contents files.old command.now.script.now) 4194304 t.script) }
+        (λ t. IsRead (F.contents files.old (schema_name command.now)) 262144 t.schema
+        × IsScriptRead (F.contents files.old) command.now t.script) }
     ensures fault { IfErr result (IsFault (F.fault_count files.old) (F.fault_count files.new)) }
 {
-    let config = read_text(alloc, files, command.config, CONFIG_LIMIT)?;
-    let schema = read_text(alloc, files, command.schema, SCHEMA_LIMIT)?;
-    let script = read_text(alloc, files, command.script, SCRIPT_LIMIT)?;
-    Ok(Texts {
-        config,
-        schema,
-        script,
-    })
+    let schema = read_text(alloc, files, schema_name(command), SCHEMA_LIMIT)?;
+    let script = read_script_text(alloc, command, files)?;
+    Ok(Texts { schema, script })
+}
+
+/// Reads the script, if the command has one.
+fn read_script_text<F: Files>(
+    alloc: Global,
+    command: &Command,
+    files: &mut F,
+) -> Result<Option<List<u8>>, Status>
+    ensures read { IfOk result (IsScriptRead (F.contents files.old) command.now) }
+    ensures fault { IfErr result (IsFault (F.fault_count files.old) (F.fault_count files.new)) }
+{
+    match command {
+        Command::Play { script, .. } => read_text(alloc, files, script.as_str(), SCRIPT_LIMIT),
+        Command::Generate { .. } | Command::Serve { .. } => Ok(None),
+    }
 }
 
 /// Reads a text of at most so many bytes.
@@ -101,13 +94,50 @@ fn read_text<F: Files>(
     }
 }
 
-/// Whether the configuration and the schema are those that are built.
-#[tactic(auto, unfolding(crate::specs::Texts::built_config, crate::specs::Texts::built_schema))]
-pub fn are_built(config: &Option<List<u8>>, schema: &Option<List<u8>>) -> bool
-    ensures { IsTrue result ↔ ((config.now ≡ Some built_config)
-        × (schema.now ≡ Some built_schema)) }
+fn config_name(command: &Command) -> &str
+    ensures { result.now ≡ config_name command.now }
 {
-    is_text(config, CONFIG.as_bytes()) && is_text(schema, SCHEMA.as_bytes())
+    match command {
+        Command::Play { config, .. } => config.as_str(),
+        Command::Generate { config, .. } => config.as_str(),
+        Command::Serve { config, .. } => config.as_str(),
+    }
+}
+
+fn schema_name(command: &Command) -> &str
+    ensures { result.now ≡ schema_name command.now }
+{
+    match command {
+        Command::Play { schema, .. } => schema.as_str(),
+        Command::Generate { schema, .. } => schema.as_str(),
+        Command::Serve { schema, .. } => schema.as_str(),
+    }
+}
+
+/// The line of a configuration's fault.
+pub fn fault_line(alloc: Global, fault: &ConfigFault) -> Result<String, NoMemory>
+    ensures { IfOk result (λ text. string_bytes text ≡ fault_line fault.now) }
+{
+    Ok(format!(in alloc; "pool: {fault}\n")?)
+}
+
+/// Whether the command, the configuration and the schema ask for what is built.
+#[tactic(auto, unfolding(crate::specs::Texts::built_schema))]
+pub fn are_built(command: &Command, config: &Config, schema: &Option<List<u8>>) -> bool
+    ensures { IsTrue result ↔ ((is_plain command.now ≡ true)
+        × ((length config.now.nodes ≡ 1) × (schema.now ≡ Some built_schema))) }
+{
+    is_plain(command) && config.nodes.len() == 1 && is_text(schema, SCHEMA.as_bytes())
+}
+
+/// Whether the command is to play a script without its journal.
+fn is_plain(command: &Command) -> bool
+    ensures { result ≡ is_plain command.now }
+{
+    match command {
+        Command::Play { journal, .. } => !*journal,
+        Command::Generate { .. } | Command::Serve { .. } => false,
+    }
 }
 
 fn is_text(text: &Option<List<u8>>, wanted: &[u8]) -> bool

@@ -1,10 +1,13 @@
 //! The top call.
-ghost use Rattle.std.specs.Prelude.{◌≡◌, ◌⊎◌, ℕ, List as Sequence, Some, None, map};
+ghost use Rattle.std.specs.Prelude.{◌≡◌, ◌⊎◌, ℕ, Bool, List as Sequence, Some, None, map};
 ghost use Rattle.pool_base.specs.Outside.{Rose, content};
 ghost use Rattle.backend_trait.specs.Rows.{no_rows};
 ghost use Rattle.model_store.specs.Committed.{committed_rows};
-ghost use Rattle.pool.specs.Texts.{command_of};
-ghost use Rattle.pool.specs.Ends.{outside, Returns, Played};
+ghost use Rattle.pool_command.specs.Command.{command_of};
+ghost use Rattle.pool_command.specs.declared.command.Command.{Command};
+ghost use Rattle.pool_command.specs.declared.command.Command.TheVariants.{Play};
+ghost use Rattle.pool.specs.Texts.{config_name};
+ghost use Rattle.pool.specs.Ends.{outside, Returns, Played, ConfigRefused, IsRefusedText};
 
 use crate::memory::InMemory;
 use crate::running::run;
@@ -29,16 +32,32 @@ pub fn pool_run<F: Files, O: Sink>(
         (O.taken out.new) (committed_rows store.old) (committed_rows store.new)) }
 
     // Status 0: the transcript of the script that the file contains, and the rows that it leaves.
-    ensures played { result ≡ 0 → (config schema script text : Sequence ℕ) → command_of (map
-        (λ w. w.now) words.now) ≡ Some (config, schema, script)
+    ensures played { result ≡ 0 → (config schema script text : Sequence ℕ) (journal : Bool)
+        → command_of (map (λ w. w.now) words.now) ≡ Some (Play config schema script journal)
         → F.contents files.old script ≡ content text
         → Played text (outside (O.fault_count out.old) (O.fault_count out.new)
         (O.taken out.old) (O.taken out.new) (committed_rows store.old)
         (committed_rows store.new)) }
-    // Status 1: exactly where the words are no command, unless its line could not be written.
+    // Status 1: exactly where the words are no command, unless its line could not be written or
+    // memory was refused while they were read.
     ensures no_command { result ≡ 1 → command_of (map (λ w. w.now) words.now) ≡ None }
-    ensures always { command_of (map (λ w. w.now) words.now) ≡ None → (result ≡ 1) ⊎ ((result ≡ 5)
-        × Rose (O.fault_count out.old) (O.fault_count out.new)) }
+    ensures always { command_of (map (λ w. w.now) words.now) ≡ None → (result ≡ 1) ⊎ (((result ≡ 5)
+        × Rose (O.fault_count out.old) (O.fault_count out.new)) ⊎ (result ≡ 7)) }
+    // Status 2: exactly where the configuration that the command names is refused, unless it was
+    // not read, its line could not be written, or memory was refused.
+    ensures refused { result ≡ 2 → ConfigRefused (map (λ w. w.now) words.now)
+        (F.contents files.old) (outside (O.fault_count out.old) (O.fault_count out.new)
+        (O.taken out.old) (O.taken out.new) (committed_rows store.old)
+        (committed_rows store.new)) }
+    ensures accepted { result ≡ 2 → (command : Command) (text : Sequence ℕ)
+        → command_of (map (λ w. w.now) words.now) ≡ Some command
+        → F.contents files.old (config_name command) ≡ content text → IsRefusedText text }
+    ensures refuses { (command : Command) (text : Sequence ℕ)
+        → command_of (map (λ w. w.now) words.now) ≡ Some command
+        → F.contents files.old (config_name command) ≡ content text → IsRefusedText text
+        → (result ≡ 2) ⊎ (((result ≡ 4) × Rose (F.fault_count files.old) (F.fault_count files.new))
+        ⊎ (((result ≡ 5) × Rose (O.fault_count out.old) (O.fault_count out.new))
+        ⊎ (result ≡ 7))) }
     // Status 4 and 5: only where the count rose.
     ensures files { result ≡ 4 → Rose (F.fault_count files.old) (F.fault_count files.new) }
     ensures sink { result ≡ 5 → Rose (O.fault_count out.old) (O.fault_count out.new) }

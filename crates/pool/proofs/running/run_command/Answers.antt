@@ -1,12 +1,18 @@
-use Rattle.pool.specs.Ends.{read, unread}
-use Rattle.pool.proofs.Ending.{fault_unread}
+use Rattle.std.proofs.Common.{List, ℕ, sym, subst}
+use Rattle.std.specs.Prelude.{Option, Some}
+use Rattle.pool.specs.Texts.{IsRead, config_name}
+use Rattle.pool.specs.Ends.{outside}
+use Rattle.pool.proofs.Ending.{config_read}
 use Rattle.pool.proofs.running.run_command.Goals as goal
 
-pub returns-in-Err : goal.returns-in-Err
-returns-in-Err g c =
-    let count = g.O.Sink.fault_count c.args.out.now in
-    let rows = g.D.Database.rows c.args.database.now in
-    unread (fault_unread c.in-Err.status (g.F.Files.fault_count c.args.files.now) (g.F.Files.fault_count c.read_texts.new.files) count count (g.O.Sink.taken c.args.out.now) rows rows c.in-Err.ensures.fault)
-
-pub returns-in-Ok : goal.returns-in-Ok
-returns-in-Ok g c = read c.in-Ok.texts.config c.in-Ok.texts.schema c.in-Ok.texts.script c.in-Ok.ensures.read.0 c.in-Ok.ensures.read.1 c.in-Ok.ensures.read.2 c.run_texts.ensures
+pub returns-in-Ok-Some : goal.returns-in-Ok-Some
+returns-in-Ok-Some g c =
+    let taken = g.O.Sink.taken in
+    let count = g.O.Sink.fault_count in
+    let contents = g.F.Files.contents in
+    let faults = g.F.Files.fault_count in
+    let is : List ℕ → Type 0 = λ text. IsRead (contents c.args.files.now (config_name c.args.command.now)) 65536 (Some text) in
+    let kept : Option (List ℕ) → Type 0 = λ text. IsRead (contents c.args.files.now (config_name c.args.command.now)) 65536 text in
+    config_read (contents c.args.files.now) (contents c.read_config.new.files) (faults c.args.files.now) (faults c.read_config.new.files) (faults c.run_config.new.files) c.args.command.now c.as_slice.result.now c.run_config.result
+    (outside (count c.args.out.now) (count c.run_config.new.out) (taken c.args.out.now) (taken c.run_config.new.out) (g.D.Database.rows c.args.database.now) (g.D.Database.rows c.run_config.new.database))
+    c.in-Ok-Some.ensures.kept c.in-Ok-Some.ensures.later (subst is (sym c.as_slice.ensures) (subst kept c.in-Ok-Some.field-0-is c.in-Ok-Some.ensures.read)) c.run_config.ensures

@@ -1,7 +1,7 @@
 use Rattle.std.proofs.Common.{map}
 use Rattle.model_store.specs.Committed.{committed_rows}
 use Rattle.pool.specs.Ends.{outside}
-use Rattle.pool.proofs.Numbers.{played, no_command_is, no_command_always, files_rose, sink_rose}
+use Rattle.pool.proofs.Numbers.{played, no_command_is, no_command_always, refused_is, refused_text, refuses, files_rose, sink_rose}
 use Rattle.pool.proofs.top.pool_run.Goals as goal
 
 pub returns-clause-played : goal.returns-clause-played
@@ -12,6 +12,15 @@ returns-clause-no_command g c = no_command_is (map (λ w. w.now) c.args.words.no
 
 pub returns-clause-always : goal.returns-clause-always
 returns-clause-always g c = no_command_always (map (λ w. w.now) c.args.words.now) (g.F.Files.contents c.args.files.now) (g.F.Files.fault_count c.args.files.now) (g.F.Files.fault_count c.run_in_memory.new.files) c.run_in_memory.result (outside (g.O.Sink.fault_count c.args.out.now) (g.O.Sink.fault_count c.run_in_memory.new.out) (g.O.Sink.taken c.args.out.now) (g.O.Sink.taken c.run_in_memory.new.out) (committed_rows c.args.store.now) (committed_rows c.run_in_memory.new.store)) c.run_in_memory.ensures
+
+pub returns-clause-refused : goal.returns-clause-refused
+returns-clause-refused g c = refused_is (map (λ w. w.now) c.args.words.now) (g.F.Files.contents c.args.files.now) (g.F.Files.fault_count c.args.files.now) (g.F.Files.fault_count c.run_in_memory.new.files) c.run_in_memory.result (outside (g.O.Sink.fault_count c.args.out.now) (g.O.Sink.fault_count c.run_in_memory.new.out) (g.O.Sink.taken c.args.out.now) (g.O.Sink.taken c.run_in_memory.new.out) (committed_rows c.args.store.now) (committed_rows c.run_in_memory.new.store)) c.run_in_memory.ensures
+
+pub returns-clause-accepted : goal.returns-clause-accepted
+returns-clause-accepted g c = refused_text (map (λ w. w.now) c.args.words.now) (g.F.Files.contents c.args.files.now) (g.F.Files.fault_count c.args.files.now) (g.F.Files.fault_count c.run_in_memory.new.files) c.run_in_memory.result (outside (g.O.Sink.fault_count c.args.out.now) (g.O.Sink.fault_count c.run_in_memory.new.out) (g.O.Sink.taken c.args.out.now) (g.O.Sink.taken c.run_in_memory.new.out) (committed_rows c.args.store.now) (committed_rows c.run_in_memory.new.store)) c.run_in_memory.ensures
+
+pub returns-clause-refuses : goal.returns-clause-refuses
+returns-clause-refuses g c = refuses (map (λ w. w.now) c.args.words.now) (g.F.Files.contents c.args.files.now) (g.F.Files.fault_count c.args.files.now) (g.F.Files.fault_count c.run_in_memory.new.files) c.run_in_memory.result (outside (g.O.Sink.fault_count c.args.out.now) (g.O.Sink.fault_count c.run_in_memory.new.out) (g.O.Sink.taken c.args.out.now) (g.O.Sink.taken c.run_in_memory.new.out) (committed_rows c.args.store.now) (committed_rows c.run_in_memory.new.store)) c.run_in_memory.ensures
 
 pub returns-clause-files : goal.returns-clause-files
 returns-clause-files g c = files_rose (map (λ w. w.now) c.args.words.now) (g.F.Files.contents c.args.files.now) (g.F.Files.fault_count c.args.files.now) (g.F.Files.fault_count c.run_in_memory.new.files) c.run_in_memory.result (outside (g.O.Sink.fault_count c.args.out.now) (g.O.Sink.fault_count c.run_in_memory.new.out) (g.O.Sink.taken c.args.out.now) (g.O.Sink.taken c.run_in_memory.new.out) (committed_rows c.args.store.now) (committed_rows c.run_in_memory.new.store)) c.run_in_memory.ensures

@@ -1,4 +1,4 @@
-use Rattle.std.proofs.Common.{◌≡◌, map, sym, ap, ◌∙◌, subst}
+use Rattle.std.proofs.Common.{map, sym, ap, ◌∙◌, subst}
 use Rattle.model_store.specs.declared.store.MemoryStore.{MemoryStore}
 use Rattle.model_store.specs.Committed.{committed_rows}
 use Rattle.play.specs.Replies.{RowsFit}
