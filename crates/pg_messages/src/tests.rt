@@ -178,21 +178,40 @@ fn answers_to_server_and_start_bytes(rt: HostRuntime) -> Result<(), Fail> {
     Ok(())
 }
 
-// What psycopg2 and the JDBC driver send when they connect, behind their request for TLS.
+// What clients send when they connect, behind their request for TLS. The first two were taken from
+// psql and pgbench of PostgreSQL 15, the others are those of psycopg2 and of the JDBC driver.
 #[test]
 fn start_messages_of_drivers(rt: HostRuntime) -> Result<(), Fail> {
-    let starts: [(&[u8], usize); 2] = [
+    let starts: [(&[u8], usize, &[u8], &[u8]); 4] = [
+        (
+            b"\x00\x00\x00\x36\x00\x03\x00\x00user\x00ann\x00database\x00shop\x00\
+application_name\x00psql\x00\x00",
+            3,
+            b"application_name",
+            b"psql",
+        ),
+        (
+            b"\x00\x00\x00\x39\x00\x03\x00\x00user\x00ann\x00database\x00shop\x00\
+application_name\x00pgbench\x00\x00",
+            3,
+            b"application_name",
+            b"pgbench",
+        ),
         (
             b"\x00\x00\x00\x20\x00\x03\x00\x00user\x00ann\x00database\x00shop\x00\x00",
             2,
+            b"database",
+            b"shop",
         ),
         (
             b"\x00\x00\x00\x65\x00\x03\x00\x00user\x00ann\x00database\x00shop\x00\
 client_encoding\x00UTF8\x00DateStyle\x00ISO\x00TimeZone\x00UTC\x00extra_float_digits\x002\x00\x00",
             6,
+            b"extra_float_digits",
+            b"2",
         ),
     ];
-    for (bytes, count) in starts.iter() {
+    for (bytes, count, last_name, last_value) in starts.iter() {
         let read = read_start(rt.alloc(), bytes).ok().ok_or("memory")?;
         let Read::Whole { message, length } = read else {
             return Err("a start message is whole".into());
@@ -210,41 +229,127 @@ client_encoding\x00UTF8\x00DateStyle\x00ISO\x00TimeZone\x00UTC\x00extra_float_di
         let user = options.get(0).ok_or("the first option")?;
         assert_eq!(rt; user.name.as_slice(), b"user".as_slice());
         assert_eq!(rt; user.value.as_slice(), b"ann".as_slice());
+        let last = options.as_slice().last().ok_or("the last option")?;
+        assert_eq!(rt; last.name.as_slice(), *last_name);
+        assert_eq!(rt; last.value.as_slice(), *last_value);
     }
     Ok(())
 }
 
-// `psql` sends a text as a Query; the JDBC driver sends the messages of the extended protocol with
-// an
-// int4 parameter in binary form and a limit of one row; `pgbench -M prepared` names its statement.
+// PostgreSQL 15, Frontend/Backend Protocol, "Message Formats". psql and pgbench send the first.
+#[test]
+fn requests_before_a_start_are_told_apart(rt: HostRuntime) -> Result<(), Fail> {
+    let tls = read_start(rt.alloc(), b"\x00\x00\x00\x08\x04\xd2\x16\x2f");
+    let whole = Read::Whole {
+        message: StartMessage::Ssl,
+        length: 8,
+    };
+    assert_eq!(rt; tls.ok().ok_or("memory")?, whole);
+    let gss = read_start(rt.alloc(), b"\x00\x00\x00\x08\x04\xd2\x16\x30");
+    let whole = Read::Whole {
+        message: StartMessage::Gss,
+        length: 8,
+    };
+    assert_eq!(rt; gss.ok().ok_or("memory")?, whole);
+    let bytes = b"\x00\x00\x00\x10\x04\xd2\x16\x2e\x00\x00\x00\x01\xff\xff\xff\xff";
+    let cancel = read_start(rt.alloc(), bytes);
+    let whole = Read::Whole {
+        message: StartMessage::Cancel {
+            process: 1,
+            secret: -1,
+        },
+        length: 16,
+    };
+    assert_eq!(rt; cancel.ok().ok_or("memory")?, whole);
+    Ok(())
+}
+
+// Whether the bytes are messages of these types, which are written as the same bytes.
+fn reads_and_writes(rt: HostRuntime, bytes: &[u8], tags: &[u8]) -> Result<bool, Fail> {
+    let mut rest = bytes;
+    let mut written = List::new(rt.alloc());
+    for tag in tags.iter() {
+        let Read::Whole { message, length } = client_at(rt, rest)? else {
+            return Err("each message is whole".into());
+        };
+        if rest.first() != Some(tag) || !fits(&message) {
+            return Ok(false);
+        }
+        write_client(&message, &mut written).ok().ok_or("memory")?;
+        rest = rest.get(length..).ok_or("the length is within the bytes")?;
+    }
+    Ok(written.as_slice() == bytes)
+}
+
+// What psql and pgbench of PostgreSQL 15 sent for a SELECT and a block: a Query for each statement;
+// `pgbench -M extended` the messages of the extended protocol, with a parameter as a text;
+// `pgbench -M prepared` a statement with a name, once.
+#[test]
+fn statements_of_psql_and_pgbench_are_read_and_written(rt: HostRuntime) -> Result<(), Fail> {
+    let simple = b"Q\x00\x00\x00\x22SELECT v FROM t WHERE id = 1;\x00\
+Q\x00\x00\x00\x0bBEGIN;\x00Q\x00\x00\x00\x0cCOMMIT;\x00X\x00\x00\x00\x04";
+    assert!(rt; reads_and_writes(rt, simple, b"QQQX")?);
+    let extended = b"P\x00\x00\x00\x26\x00SELECT v FROM t WHERE id = $1;\x00\x00\x00\
+B\x00\x00\x00\x13\x00\x00\x00\x00\x00\x01\x00\x00\x00\x011\x00\x01\x00\x00\
+D\x00\x00\x00\x06P\x00E\x00\x00\x00\x09\x00\x00\x00\x00\x00S\x00\x00\x00\x04X\x00\x00\x00\x04";
+    assert!(rt; reads_and_writes(rt, extended, b"PBDESX")?);
+    let prepared = b"P\x00\x00\x00\x29P_0\x00SELECT v FROM t WHERE id = $1;\x00\x00\x00\
+S\x00\x00\x00\x04B\x00\x00\x00\x16\x00P_0\x00\x00\x00\x00\x01\x00\x00\x00\x011\x00\x01\x00\x00\
+D\x00\x00\x00\x06P\x00E\x00\x00\x00\x09\x00\x00\x00\x00\x00S\x00\x00\x00\x04X\x00\x00\x00\x04";
+    assert!(rt; reads_and_writes(rt, prepared, b"PSBDESX")?);
+    Ok(())
+}
+
+// psycopg2 sends Queries, its own for a block among them. The JDBC driver sends the messages of the
+// extended protocol with a limit of one row; a Close and a Flush follow them here.
 #[test]
 fn statements_of_drivers_are_read_and_written(rt: HostRuntime) -> Result<(), Fail> {
-    let mut bytes: &[u8] = b"Q\x00\x00\x00\x0eSELECT 1;\x00\
-P\x00\x00\x00\x2aS_1\x00SELECT v FROM t WHERE id=$1\x00\x00\x01\x00\x00\x00\x17\
+    let simple = b"Q\x00\x00\x00\x0aBEGIN\x00Q\x00\x00\x00\x21SELECT v FROM t WHERE id = 1\x00\
+Q\x00\x00\x00\x0bCOMMIT\x00Q\x00\x00\x00\x0dROLLBACK\x00X\x00\x00\x00\x04";
+    assert!(rt; reads_and_writes(rt, simple, b"QQQQX")?);
+    let extended =
+        b"P\x00\x00\x00\x2aS_1\x00SELECT v FROM t WHERE id=$1\x00\x00\x01\x00\x00\x00\x17\
 B\x00\x00\x00\x1b\x00S_1\x00\x00\x01\x00\x01\x00\x01\
 \x00\x00\x00\x04\x00\x00\x00\x07\x00\x01\x00\x01\
 D\x00\x00\x00\x06P\x00E\x00\x00\x00\x09\x00\x00\x00\x00\x01S\x00\x00\x00\x04\
-P\x00\x00\x00\x14P_0\x00SELECT 1;\x00\x00\x00\
-C\x00\x00\x00\x09SP_0\x00H\x00\x00\x00\x04X\x00\x00\x00\x04";
-    let all = bytes;
-    let mut written = List::new(rt.alloc());
-    let tags = b"QPBDESPCHX";
-    for tag in tags.iter() {
-        assert_eq!(rt; bytes.first(), Some(tag));
-        let Read::Whole { message, length } = client_at(rt, bytes)? else {
-            return Err("each message is whole".into());
+C\x00\x00\x00\x09SS_1\x00H\x00\x00\x00\x04X\x00\x00\x00\x04";
+    assert!(rt; reads_and_writes(rt, extended, b"PBDESCHX")?);
+    Ok(())
+}
+
+// pgbench sends the parameter 1 as a text, the JDBC driver the parameter 7 as an int4 in binary
+// form.
+#[test]
+fn parameters_are_the_bytes_that_drivers_send(rt: HostRuntime) -> Result<(), Fail> {
+    let binds: [(&[u8], &[u16], &[u8]); 2] = [
+        (
+            b"B\x00\x00\x00\x13\x00\x00\x00\x00\x00\x01\x00\x00\x00\x011\x00\x01\x00\x00",
+            &[],
+            b"1",
+        ),
+        (
+            b"B\x00\x00\x00\x1b\x00S_1\x00\x00\x01\x00\x01\x00\x01\
+\x00\x00\x00\x04\x00\x00\x00\x07\x00\x01\x00\x01",
+            &[1],
+            b"\x00\x00\x00\x07",
+        ),
+    ];
+    for (bytes, forms, want) in binds.iter() {
+        let Read::Whole { message, .. } = client_at(rt, bytes)? else {
+            return Err("the message is whole".into());
         };
-        if let ClientMessage::Bind { values, .. } = &message {
-            let value = list(rt, &[0, 0, 0, 7])?;
-            assert_eq!(rt; values.get(0), Some(&Some(value)));
-        }
-        assert!(rt; fits(&message));
-        if fits(&message) {
-            write_client(&message, &mut written).ok().ok_or("memory")?;
-        }
-        bytes = bytes.get(length..).ok_or("the length is within the bytes")?;
+        let ClientMessage::Bind {
+            formats,
+            values,
+            ..
+        } = &message
+        else {
+            return Err("it binds a statement".into());
+        };
+        assert_eq!(rt; formats.as_slice(), *forms);
+        let value = list(rt, want)?;
+        assert_eq!(rt; values.as_slice(), [Some(value)].as_slice());
     }
-    assert_eq!(rt; written.as_slice(), all);
     Ok(())
 }
 

@@ -223,6 +223,89 @@ fn binary_forms_are_those_of_the_protocol(rt: HostRuntime) -> Result<(), Fail> {
     Ok(())
 }
 
+// Whether a value is written in this binary form, and read from it.
+fn has_form(alloc: Global, kind: ColType, value: &Value, form: &[u8]) -> bool {
+    let written = match binary_of(alloc, value) {
+        Ok(Some(bytes)) => bytes.as_slice() == form,
+        Ok(None) | Err(NoMemory) => false,
+    };
+    written
+        && match from_binary(alloc, kind, form) {
+            Ok(found) => found == *value,
+            Err(_) => false,
+        }
+}
+
+// What `int4send`, `int8send` and `timestamptz_send` of PostgreSQL 15 gave for these values; the
+// moments are the first, the last, those beside 2000-01-01 00:00 UTC and one of a leap day.
+#[test]
+fn boundary_values_have_the_forms_of_postgresql(rt: HostRuntime) {
+    let alloc = rt.alloc();
+    for (number, form) in [
+        (0, [0, 0, 0, 0]),
+        (1, [0, 0, 0, 1]),
+        (-1, [0xFF, 0xFF, 0xFF, 0xFF]),
+        (i32::MAX, [0x7F, 0xFF, 0xFF, 0xFF]),
+        (i32::MIN, [0x80, 0, 0, 0]),
+    ] {
+        assert!(rt;
+            has_form(alloc, ColType::Int4, &Value::Int4(number), &form),
+            "{number}"
+        );
+    }
+    for (number, form) in [
+        (-1, [0xFF, 0xFF, 0xFF, 0xFF, 0xFF, 0xFF, 0xFF, 0xFF]),
+        (i64::MAX, [0x7F, 0xFF, 0xFF, 0xFF, 0xFF, 0xFF, 0xFF, 0xFF]),
+        (i64::MIN, [0x80, 0, 0, 0, 0, 0, 0, 0]),
+    ] {
+        assert!(rt;
+            has_form(alloc, ColType::Int8, &Value::Int8(number), &form),
+            "{number}"
+        );
+    }
+    for (micros, form) in [
+        (
+            -63_082_281_600_000_000,
+            [0xFF, 0x1F, 0xE2, 0xFF, 0xC5, 0x9C, 0x60, 0x00],
+        ),
+        (
+            252_455_615_999_999_999,
+            [0x03, 0x80, 0xE7, 0x0B, 0x91, 0x3B, 0x7F, 0xFF],
+        ),
+        (0, [0, 0, 0, 0, 0, 0, 0, 0]),
+        (-1, [0xFF, 0xFF, 0xFF, 0xFF, 0xFF, 0xFF, 0xFF, 0xFF]),
+        (1, [0, 0, 0, 0, 0, 0, 0, 1]),
+        (
+            762_505_200_000_000,
+            [0x00, 0x02, 0xB5, 0x7E, 0x93, 0x95, 0xDC, 0x00],
+        ),
+    ] {
+        assert!(rt;
+            has_form(alloc, ColType::Moment, &Value::Moment(micros), &form),
+            "{micros}"
+        );
+    }
+}
+
+// What `boolsend` and `textsend` of PostgreSQL 15 gave.
+#[test]
+fn bools_and_texts_have_the_forms_of_postgresql(rt: HostRuntime) -> Result<(), Fail> {
+    let alloc = rt.alloc();
+    assert!(rt; has_form(alloc, ColType::Bool, &Value::Bool(true), &[1]));
+    assert!(rt; has_form(alloc, ColType::Bool, &Value::Bool(false), &[0]));
+    for (text, form) in [
+        ("", [].as_slice()),
+        ("a", [0x61].as_slice()),
+        ("\u{1}", [1].as_slice()),
+        ("\u{e9}", [0xC3, 0xA9].as_slice()),
+        ("\u{10ffff}", [0xF4, 0x8F, 0xBF, 0xBF].as_slice()),
+    ] {
+        let value = Value::Text(Text::from_str(alloc, text).ok().ok_or("memory")?);
+        assert!(rt; has_form(alloc, ColType::Text, &value, form), "{text}");
+    }
+    Ok(())
+}
+
 #[test]
 fn hostile_bytes_are_refused_by_their_codes(rt: HostRuntime) {
     let alloc = rt.alloc();
