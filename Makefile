@@ -20,7 +20,7 @@ index:           ## public items with file and line: make index | grep -i sink
 	@scripts/index
 lint:            ## house rules that the gate does not know
 	@scripts/lint
-bench:           ## measure the program: make bench W="words"
+bench:           ## measure the messages: make bench W=batches
 	@scripts/bench $(W)
 hooks:           ## lay out the staged crates before each commit
 	git config core.hooksPath .githooks
