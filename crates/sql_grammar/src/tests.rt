@@ -11,9 +11,15 @@ fn fault_of(error: ReadError) -> Option<Fault> {
 #[test]
 fn the_first_of_the_tokens_is_refused(rt: HostRuntime) {
     let awaited = Awaited::Operand;
-    assert_eq!(rt; fault_of(unexpected(&[5u8, 6], awaited)), Some(Fault::Syntax { left: 2, awaited }));
+    assert_eq!(rt;
+        fault_of(unexpected(&[5u8, 6], awaited)),
+        Some(Fault::Syntax { left: 2, awaited })
+    );
     let none: [u8; 0] = [];
-    assert_eq!(rt; fault_of(unexpected(&none, awaited)), Some(Fault::Syntax { left: 0, awaited }));
+    assert_eq!(rt;
+        fault_of(unexpected(&none, awaited)),
+        Some(Fault::Syntax { left: 0, awaited })
+    );
 }
 
 #[test]

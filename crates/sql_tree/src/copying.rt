@@ -105,7 +105,7 @@ fn copied_tests(tests: &List<bool>) -> Result<List<bool>, NoMemory>
     List::from_slice(tests.allocator(), tests.as_slice())
 }
 
-fn copied_name(name: &Option<Text>) -> Result<Option<Text>, NoMemory>
+pub(crate) fn copied_name(name: &Option<Text>) -> Result<Option<Text>, NoMemory>
     ensures { IfOk result (λ n. n ≡ name.now) }
 {
     match name {

@@ -2,6 +2,7 @@
 #![tactic(auto)]
 
 mod copying;
+mod copying_statement;
 mod expr;
 mod statement;
 
@@ -9,3 +10,6 @@ pub use expr::{Comparison, Expr, ProductPart, ProductSign, SumPart};
 pub use statement::{
     Cell, Delete, Insert, OrderItem, Select, SelectItem, SelectList, SetItem, Statement, Update,
 };
+
+#[cfg(test)]
+mod tests;
