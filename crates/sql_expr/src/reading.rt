@@ -60,7 +60,8 @@ fn named<'a>(
     first: &Name,
     tokens: &'a [Token],
 ) -> Result<(Expr, &'a [Token]), ReadError>
-    ensures gives { Gives (λ x. (x.0, x.1.now)) result (named_with (behind depth) first.now tokens.now) }
+    ensures gives { Gives (λ x. (x.0, x.1.now)) result
+        (named_with (behind depth) first.now tokens.now) }
     ensures no_longer { IfOk result (λ x. length x.1.now ≤ length tokens.now) }
 {
     match tokens {
@@ -160,7 +161,8 @@ fn factors(
     depth: u32,
     tokens: &[Token],
 ) -> Result<(List<ProductPart>, &[Token]), ReadError>
-    ensures gives { Gives (λ x. (x.0, x.1.now)) result (tails after_factor_sign product_part (un_with (behind depth)) tokens.now) }
+    ensures gives { Gives (λ x. (x.0, x.1.now)) result
+        (tails after_factor_sign product_part (un_with (behind depth)) tokens.now) }
     ensures no_longer { IfOk result (λ x. length x.1.now ≤ length tokens.now) }
 {
     let mut parts = List::new(alloc);
@@ -195,7 +197,8 @@ fn summands(
     depth: u32,
     tokens: &[Token],
 ) -> Result<(List<SumPart>, &[Token]), ReadError>
-    ensures gives { Gives (λ x. (x.0, x.1.now)) result (tails after_sign sum_part (product_with (behind depth)) tokens.now) }
+    ensures gives { Gives (λ x. (x.0, x.1.now)) result
+        (tails after_sign sum_part (product_with (behind depth)) tokens.now) }
     ensures no_longer { IfOk result (λ x. length x.1.now ≤ length tokens.now) }
 {
     let mut parts = List::new(alloc);
@@ -226,7 +229,8 @@ fn sum(alloc: Global, depth: u32, tokens: &[Token]) -> Result<(Expr, &[Token]), 
 /// The further parts with `||` before them.
 #[cycle(reading)]
 fn joined(alloc: Global, depth: u32, tokens: &[Token]) -> Result<(List<Expr>, &[Token]), ReadError>
-    ensures gives { Gives (λ x. (x.0, x.1.now)) result (tails after_bars part (sum_with (behind depth)) tokens.now) }
+    ensures gives { Gives (λ x. (x.0, x.1.now)) result
+        (tails after_bars part (sum_with (behind depth)) tokens.now) }
     ensures no_longer { IfOk result (λ x. length x.1.now ≤ length tokens.now) }
 {
     let mut parts = List::new(alloc);
@@ -261,7 +265,8 @@ fn further_items(
     depth: u32,
     tokens: &[Token],
 ) -> Result<(List<Expr>, &[Token]), ReadError>
-    ensures gives { Gives (λ x. (x.0, x.1.now)) result (tails after_comma part (behind depth Parenthesis) tokens.now) }
+    ensures gives { Gives (λ x. (x.0, x.1.now)) result
+        (tails after_comma part (behind depth Parenthesis) tokens.now) }
     ensures no_longer { IfOk result (λ x. length x.1.now ≤ length tokens.now) }
 {
     let mut parts = List::new(alloc);
@@ -312,7 +317,8 @@ fn member(
     negated: bool,
     tokens: &[Token],
 ) -> Result<(Expr, &[Token]), ReadError>
-    ensures gives { Gives (λ x. (x.0, x.1.now)) result (member_with (behind depth) of negated tokens.now) }
+    ensures gives { Gives (λ x. (x.0, x.1.now)) result
+        (member_with (behind depth) of negated tokens.now) }
     ensures shorter { IfOk result (λ x. length x.1.now < length tokens.now) }
 {
     let (list, rest) = list(alloc, depth, tokens)?;
@@ -362,7 +368,8 @@ fn compared(
     left: Expr,
     tokens: &[Token],
 ) -> Result<(Expr, &[Token]), ReadError>
-    ensures gives { Gives (λ x. (x.0, x.1.now)) result (compared_with (behind depth) comparison left tokens.now) }
+    ensures gives { Gives (λ x. (x.0, x.1.now)) result
+        (compared_with (behind depth) comparison left tokens.now) }
     ensures shorter { IfOk result (λ x. length x.1.now < length tokens.now) }
 {
     let (right, rest) = membership(alloc, depth, tokens)?;
@@ -478,7 +485,8 @@ fn conjuncts(
     depth: u32,
     tokens: &[Token],
 ) -> Result<(List<Expr>, &[Token]), ReadError>
-    ensures gives { Gives (λ x. (x.0, x.1.now)) result (tails after_and part (not_with (behind depth)) tokens.now) }
+    ensures gives { Gives (λ x. (x.0, x.1.now)) result
+        (tails after_and part (not_with (behind depth)) tokens.now) }
     ensures no_longer { IfOk result (λ x. length x.1.now ≤ length tokens.now) }
 {
     let mut parts = List::new(alloc);
@@ -513,7 +521,8 @@ fn disjuncts(
     depth: u32,
     tokens: &[Token],
 ) -> Result<(List<Expr>, &[Token]), ReadError>
-    ensures gives { Gives (λ x. (x.0, x.1.now)) result (tails after_or part (and_with (behind depth)) tokens.now) }
+    ensures gives { Gives (λ x. (x.0, x.1.now)) result
+        (tails after_or part (and_with (behind depth)) tokens.now) }
     ensures no_longer { IfOk result (λ x. length x.1.now ≤ length tokens.now) }
 {
     let mut parts = List::new(alloc);

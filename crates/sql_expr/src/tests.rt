@@ -11,10 +11,10 @@ fn named(alloc: Global, text: &str, quoted: bool) -> Result<Token, NoMemory> {
 }
 
 /// Each byte is a token: `V` OR, `&` AND, `!` NOT, `I` IN, `S` IS, `N` NULL, `Y` TRUE, `F` FALSE,
-/// `C` CURRENT_TIMESTAMP, `Z` TIMESTAMPTZ, `'` the string `s`, `$` the first parameter, `L` the number
-/// 9223372036854775808, `n` the name now, `t` transaction_timestamp, `q` now in quotes, `|` the mark
-/// `||`, `u` `<>`, `l` `<=`, `g` `>=`; digits and other marks stand for themselves, and `a`, `b` and
-/// `c` are names.
+/// `C` CURRENT_TIMESTAMP, `Z` TIMESTAMPTZ, `'` the string `s`, `$` the first parameter,
+/// `L` the number 9223372036854775808, `n` the name now, `t` transaction_timestamp, `q` now in
+/// quotes, `|` the mark `||`, `u` `<>`, `l` `<=`, `g` `>=`; digits and other marks stand for
+/// themselves, and `a`, `b` and `c` are names.
 fn token(alloc: Global, byte: u8) -> Result<Token, NoMemory> {
     Ok(match byte {
         b'(' => Token::Mark(Mark::Open),
