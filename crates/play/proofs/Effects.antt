@@ -36,7 +36,7 @@ unfolding answer_messages
 messages_are (Fails code) answer (refusal, is, spelled) = ap answer_messages is ∙ ap (λ bytes. error_message bytes ∷ []) spelled
 messages_are (Gives result changes wants) answer is = ap answer_messages is
 
-pub replies_are : (rows : Rows) (statement : Statement) (answer : Answer) → IsEffect (given_on rows statement) answer → answer_messages answer ++ Ready 73 ∷ [] ≡ replies_to rows statement
+pub replies_are : (rows : Rows) (statement : Statement) (answer : Answer) → IsEffect (given_on rows statement) answer → answer_messages answer ++ Ready 73 ∷ [] ≡ replies_to rows (Some statement)
 unfolding replies_to
 replies_are rows statement answer is = ap (λ ms. ms ++ Ready 73 ∷ []) (messages_are (given_on rows statement) answer is)
 

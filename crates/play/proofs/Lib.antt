@@ -1,5 +1,5 @@
 pub mod ScriptLemmas
-pub mod RenderingLemmas
+pub mod Sessions
 pub mod SendingLemmas
 pub mod Effects
 pub mod Asking

@@ -10,9 +10,8 @@ use Rattle.pg_messages.specs.declared.read.Read.{Read}
 use Rattle.pg_messages.specs.declared.read.Read.TheVariants.{Whole}
 use Rattle.pg_messages.specs.Server.{spelling}
 use Rattle.pg_messages.specs.Fronts.{server_front}
-use Rattle.play.specs.Rendering.{line_of}
 use Rattle.play.specs.Replies.{spelled_all, IsReadAgain, AreReadAgain}
-use Rattle.play.specs.Transcript.{lines_of}
+use Rattle.play.specs.Transcript.{reply_line, lines_of}
 
 pub front_nothing : (a : Option (List ℕ)) (x : List ℕ) → AppendsFront a a x
 front_nothing a x = record { front = []; rest = x; parts = refl; has = appends_nothing a }
@@ -34,10 +33,10 @@ shows_none a bytes = λ messages again spells. record { left = messages; again =
 
 -- what a call says of the message at the front
 abbrev pub Puts : Option (List ℕ) → Option (List ℕ) → List ℕ → ℕ → Type 0
-Puts b c rest n = (m : ServerMessage) (k : ℕ) → server_front rest ≡ Whole m k → (n ≡ k) × Appends b c (line_of 1 m)
+Puts b c rest n = (m : ServerMessage) (k : ℕ) → server_front rest ≡ Whole m k → (n ≡ k) × Appends b c (reply_line m)
 
 abbrev pub PutsFront : Option (List ℕ) → Option (List ℕ) → List ℕ → Type 0
-PutsFront b c rest = (m : ServerMessage) (k : ℕ) → server_front rest ≡ Whole m k → AppendsFront b c (line_of 1 m)
+PutsFront b c rest = (m : ServerMessage) (k : ℕ) → server_front rest ≡ Whole m k → AppendsFront b c (reply_line m)
 
 at_front : (rest : List ℕ) (m : ServerMessage) (others : List ServerMessage) → AreReadAgain (m ∷ others) → rest ≡ spelled_all (m ∷ others) → server_front rest ≡ Whole m (length (spelling m))
 at_front rest m others again spells = ap server_front spells ∙ again.0 (spelled_all others)
@@ -46,14 +45,14 @@ step : (a b c : Option (List ℕ)) (rest : List ℕ) (n : ℕ) (messages left : 
     → Puts b c rest n → Left a c (drop n rest) messages
 step a b c rest n messages [] gone some again spells wrote lines puts = absurd (some spells)
 step a b c rest n messages (m ∷ others) gone some again spells wrote lines puts =
-    let put : (n ≡ length (spelling m)) × Appends b c (line_of 1 m) = puts m (length (spelling m)) (at_front rest m others again spells) in
+    let put : (n ≡ length (spelling m)) × Appends b c (reply_line m) = puts m (length (spelling m)) (at_front rest m others again spells) in
     record {
       left = others;
       again = again.1;
       spells = ap (λ k. drop k rest) put.0 ∙ ap (drop (length (spelling m))) spells ∙ drop-append_seam (spelling m) (spelled_all others);
-      gone = gone ++ line_of 1 m;
-      wrote = appends_on a b c gone (line_of 1 m) wrote put.1;
-      lines = lines ∙ sym (append_assoc gone (line_of 1 m) (lines_of others));
+      gone = gone ++ reply_line m;
+      wrote = appends_on a b c gone (reply_line m) wrote put.1;
+      lines = lines ∙ sym (append_assoc gone (reply_line m) (lines_of others));
     }
 
 pub shows_on : (a b c : Option (List ℕ)) (bytes rest : List ℕ) (n : ℕ) → (rest ≡ [] → ⊥) → Shows a b bytes rest → Puts b c rest n → Shows a c bytes (drop n rest)
@@ -75,7 +74,7 @@ all_shown a b bytes rest none shows messages again spells =
 never_at : (b c : Option (List ℕ)) (rest : List ℕ) (n : ℕ) (left : List ServerMessage) → (rest ≡ [] → ⊥) → n ≡ 0 → AreReadAgain left → rest ≡ spelled_all left → Puts b c rest n → ⊥
 never_at b c rest n [] some zero_is again spells puts = some spells
 never_at b c rest n (m ∷ others) some zero_is again spells puts =
-    let put : (n ≡ length (spelling m)) × Appends b c (line_of 1 m) = puts m (length (spelling m)) (at_front rest m others again spells) in
+    let put : (n ≡ length (spelling m)) × Appends b c (reply_line m) = puts m (length (spelling m)) (at_front rest m others again spells) in
     let none : length (spelling m) ≡ 0 = sym put.0 ∙ zero_is in
     absurd (omega arith)
 
@@ -89,7 +88,7 @@ front_at : (a b c : Option (List ℕ)) (rest : List ℕ) (messages left : List S
     → PutsFront b c rest → AppendsFront a c (lines_of messages)
 front_at a b c rest messages [] gone some again spells wrote lines puts = absurd (some spells)
 front_at a b c rest messages (m ∷ others) gone some again spells wrote lines puts =
-    subst (AppendsFront a c) (sym lines) (front_on a b c gone (line_of 1 m ++ lines_of others) wrote (front_of_more b c (line_of 1 m) (lines_of others) (puts m (length (spelling m)) (at_front rest m others again spells))))
+    subst (AppendsFront a c) (sym lines) (front_on a b c gone (reply_line m ++ lines_of others) wrote (front_of_more b c (reply_line m) (lines_of others) (puts m (length (spelling m)) (at_front rest m others again spells))))
 
 pub front_shown : (a b c : Option (List ℕ)) (bytes rest : List ℕ) → (rest ≡ [] → ⊥) → Shows a b bytes rest → PutsFront b c rest → (messages : List ServerMessage) → AreReadAgain messages → bytes ≡ spelled_all messages → AppendsFront a c (lines_of messages)
 front_shown a b c bytes rest some shows puts messages again spells =

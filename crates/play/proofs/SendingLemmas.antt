@@ -14,7 +14,7 @@ use Rattle.std.proofs.lemmas.Fmt.{decimal_by_steps, length-decimal-le}
 use Rattle.std.proofs.lemmas.Bool.{false≢true}
 use borrow.Author.Tests.{ltb-true, leb-true}
 use Rattle.pg_messages.specs.declared.server.ServerMessage.{ServerMessage}
-use Rattle.pg_messages.specs.declared.server.ServerMessage.TheVariants.{ParameterStatus, Complete, RowDescription, Error, Ready}
+use Rattle.pg_messages.specs.declared.server.ServerMessage.TheVariants.{ParameterStatus, Complete, Empty, RowDescription, Error, Ready}
 use Rattle.pg_messages.specs.Fields.{IsString}
 use Rattle.pg_messages.specs.Server.{spelling, Fits}
 use Rattle.pool_base.specs.Codes.{IsCodeByte, IsCode}
@@ -138,6 +138,9 @@ columns_fit = ((lit< tt, two_fields (column (codes "id") 23 (pos 4)) (column (co
 -- the row of a loop's step
 pub row_at : (rows : List Row) (i : ℕ) (row : Row) → All RowFits rows → i < length rows → row ≡ get_or rows i row → RowFits row
 row_at rows i row fits below is = subst RowFits (sym is) (fits i row below)
+
+pub empty_fits : Fits Empty
+empty_fits = (tt, tt, lit≤ tt)
 
 pub ready_fits : Fits (Ready 73)
 ready_fits = (inl refl, tt, lit≤ tt)

@@ -1,5 +1,4 @@
-pub mod Script
-pub mod Rendering
 pub mod Replies
 pub mod Opening
+pub mod Script
 pub mod Transcript

@@ -17,7 +17,7 @@ use Rattle.backend_trait.specs.Alone as alone
 use Rattle.pg_messages.specs.declared.server.Field.{Field}
 use Rattle.pg_messages.specs.declared.server.Part.{Part}
 use Rattle.pg_messages.specs.declared.server.ServerMessage.{ServerMessage}
-use Rattle.pg_messages.specs.declared.server.ServerMessage.TheVariants.{AuthOk, ParameterStatus, BackendKey, Ready, RowDescription, DataRow, Complete, Error}
+use Rattle.pg_messages.specs.declared.server.ServerMessage.TheVariants.{AuthOk, ParameterStatus, BackendKey, Ready, RowDescription, DataRow, Complete, Empty, Error}
 use Rattle.pg_messages.specs.Server.{spelling, Fits}
 use Rattle.pg_messages.specs.Fronts.{server_front}
 use Rattle.pg_messages.specs.declared.read.Read.TheVariants.{Whole}
@@ -94,9 +94,15 @@ abbrev pub messages_given : Given → List ServerMessage
 messages_given (Fails code) = error_message code ∷ []
 messages_given (Gives result changes wants) = answer_messages result
 
--- all that the server sends for a statement
-unfoldable pub replies_to : Rows → Statement → List ServerMessage
-replies_to rows statement = messages_given (given_on rows statement) ++ Ready 73 ∷ []
+-- all that the server sends for a text: for the empty one, and for one that asks for a statement
+unfoldable pub replies_to : Rows → Option Statement → List ServerMessage
+replies_to rows None = Empty ∷ Ready 73 ∷ []
+replies_to rows (Some statement) = messages_given (given_on rows statement) ++ Ready 73 ∷ []
+
+-- the rows afterwards
+unfoldable pub rows_left_by : Rows → Option Statement → Rows
+rows_left_by rows None = rows
+rows_left_by rows (Some statement) = rows_after rows statement
 
 -- a row can be sent
 abbrev pub RowFits : Row → Type 0

@@ -1,54 +1,86 @@
--- The scripts of one session: how their lines are spelled, and which lines may follow which.
-use Rattle.std.specs.Prelude.{◌≡◌, ◌≢◌, ℕ, List, [], ◌∷◌, ◌++◌, All, codes}
+-- The scripts that are played: what each line asks of session 1, and which lines may follow which.
+use Rattle.std.specs.Prelude.{◌≡◌, ℕ, List, [], ◌∷◌, Option, Some, None}
 use Rattle.sql_profile.specs.Grammar.{Spells}
-use Rattle.pg_messages.specs.Client.{Fits}
-use Rattle.pg_messages.specs.declared.client.ClientMessage.TheVariants as messages
 use Rattle.sql_profile.specs.declared.statement.Statement.{Statement}
-use Rattle.play.specs.declared.script.ScriptLine.{ScriptLine}
-use Rattle.play.specs.declared.script.ScriptLine.TheVariants.{Session, Query, Terminate}
+use Rattle.pgproto.specs.Line.{Line, session, query, terminate}
+use Rattle.play.specs.declared.script.Step.{Step}
+use Rattle.play.specs.declared.script.Step.TheVariants.{Connect, Ask, Leave, Other}
 
--- bytes that stand on one line
-abbrev pub IsOneLine : List ℕ → Type 0
-IsOneLine bytes = All (λ byte. byte ≢ 10) bytes
+-- what a client does: it connects, it sends a text that asks for a statement or for nothing, or it leaves
+pub data Deed : Type 0 where
+  connects : Deed
+  asks : (text : List ℕ) → (asked : Option Statement) → Deed
+  leaves : Deed
 
--- what stands before the text of a Query line, and behind it
-abbrev pub before_text : List ℕ
-before_text = codes "1 'Q' \""
+-- the line that has session 1 do so
+abbrev pub line_for : Deed → Line
+line_for connects = session 1
+line_for (asks text asked) = query 1 text
+line_for leaves = terminate 1
 
-abbrev pub behind_text : List ℕ
-behind_text = codes "\""
+-- the empty text asks for nothing, another one for the statement that it spells
+abbrev pub IsAsked : List ℕ → Option Statement → Type 0
+IsAsked text None = text ≡ []
+IsAsked text (Some statement) = Spells text statement
 
-abbrev pub spelled : ScriptLine → List ℕ
-spelled Session = codes "session 1"
-spelled (Query text statement) = before_text ++ (text ++ behind_text)
-spelled Terminate = codes "1 'X'"
+pub record IsAnyAsked (text : List ℕ) : Type 0 where
+  pub asked : Option Statement
+  pub is : IsAsked text asked
 
--- each line ends with LF
-abbrev pub spelling : List ScriptLine → List ℕ
-spelling [] = []
-spelling (line ∷ lines) = spelled line ++ 10 ∷ spelling lines
+abbrev pub IsMeant : Deed → Type 0
+IsMeant connects = Unit {0}
+IsMeant (asks text asked) = IsAsked text asked
+IsMeant leaves = Unit {0}
 
--- a Query's text stands on its line, can be sent, and spells its statement
-pub record IsQuery (text : List ℕ) (statement : Statement) : Type 0 where
-  pub one_line : IsOneLine text
-  pub fits : Fits (messages.Query text)
-  pub spells : Spells text statement
+-- the line has session 1 do this
+abbrev pub Does : Line → Deed → Type 0
+Does line deed = (line ≡ line_for deed) × IsMeant deed
 
--- queries, and at most one Terminate, which is the last line
-abbrev pub IsTail : List ScriptLine → Type 0
+-- the lines have session 1 do these, one after another
+abbrev pub AreDone : List Line → List Deed → Type 0
+AreDone [] [] = Unit {0}
+AreDone [] (deed ∷ deeds) = ⊥
+AreDone (line ∷ lines) [] = ⊥
+AreDone (line ∷ lines) (deed ∷ deeds) = Does line deed × AreDone lines deeds
+
+-- what a line has session 1 do, in one word
+abbrev pub IsStep : Line → Step → Type 0
+IsStep line Connect = line ≡ session 1
+IsStep line (Ask text) = line ≡ query 1 text.now
+IsStep line Leave = line ≡ terminate 1
+IsStep line Other = (deed : Deed) → line ≡ line_for deed → ⊥
+
+-- a line that can be played, and lines that can
+pub record IsPlayed (line : Line) : Type 0 where
+  pub deed : Deed
+  pub does : Does line deed
+
+pub record ArePlayed (lines : List Line) : Type 0 where
+  pub deeds : List Deed
+  pub done : AreDone lines deeds
+
+-- texts, and at most one leave, which is the last
+abbrev pub IsTail : List Deed → Type 0
 IsTail [] = Unit {0}
-IsTail (Session ∷ lines) = ⊥
-IsTail (Query text statement ∷ lines) = IsQuery text statement × IsTail lines
-IsTail (Terminate ∷ lines) = lines ≡ []
+IsTail (connects ∷ deeds) = ⊥
+IsTail (asks text asked ∷ deeds) = IsTail deeds
+IsTail (leaves ∷ deeds) = deeds ≡ []
 
--- no line, or the session's and what may follow it
-abbrev pub IsOneSession : List ScriptLine → Type 0
+-- nothing, or a client that connects and what it does then
+abbrev pub IsOneSession : List Deed → Type 0
 IsOneSession [] = Unit {0}
-IsOneSession (Session ∷ lines) = IsTail lines
-IsOneSession (Query text statement ∷ lines) = ⊥
-IsOneSession (Terminate ∷ lines) = ⊥
+IsOneSession (connects ∷ deeds) = IsTail deeds
+IsOneSession (asks text asked ∷ deeds) = ⊥
+IsOneSession (leaves ∷ deeds) = ⊥
 
--- the text spells these lines, which are the script of one session
-pub record IsScript (text : List ℕ) (lines : List ScriptLine) : Type 0 where
-  pub spells : text ≡ spelling lines
-  pub session : IsOneSession lines
+-- what may follow `session 1`, with what it has the session do
+pub record IsTailOf (lines : List Line) : Type 0 where
+  pub deeds : List Deed
+  pub done : AreDone lines deeds
+  pub tail : IsTail deeds
+
+-- lines of one session, with what they have it do
+pub record IsSession (lines : List Line) : Type 0 where
+  pub deeds : List Deed
+  pub done : AreDone lines deeds
+  pub one : IsOneSession deeds

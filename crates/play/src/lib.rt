@@ -4,7 +4,6 @@
 mod database;
 mod play_fault;
 mod player;
-mod rendering;
 mod replies;
 mod script;
 mod session;
@@ -12,5 +11,4 @@ mod session;
 pub use database::Database;
 pub use play_fault::PlayFault;
 pub use player::play;
-pub use rendering::render;
-pub use script::{ScriptLine, read_script};
+pub use script::is_session;

@@ -1,25 +1,27 @@
 //! A script, played over one session.
-ghost use Rattle.std.specs.Prelude.{◌≡◌, ◌≤◌, ◌++◌, ℕ, Bool, List as Sequence, true, false, length, codes, IfOk, IfErr, OnOk, OnErr};
+ghost use Rattle.std.specs.Prelude.{◌≡◌, ◌≤◌, ◌++◌, ◌∷◌, [], ℕ, Bool, List as Sequence, Option, true, false, length, codes, map, IfOk, IfErr, OnOk, OnErr};
+ghost use Rattle.std.specs.List.{AllByRecursion};
 ghost use Rattle.pg_messages.specs.Fronts.{server_front};
 ghost use Rattle.pg_messages.specs.declared.read.Read.TheVariants.{Whole};
+ghost use Rattle.pgproto.specs.Line.{line_of};
+ghost use Rattle.pgproto.specs.Spelling.{IsOfGrammar, echoed};
 ghost use Rattle.play.specs.Opening.{HoldsClient};
-ghost use Rattle.play.specs.Rendering.{line_of};
 ghost use Rattle.pool_base.specs.Outside.{Appends, AppendsFront, Rose};
 ghost use Rattle.sql_profile.specs.declared.statement.Statement.{Statement};
-ghost use Rattle.sql_profile.specs.Grammar.{Spells};
 ghost use Rattle.pg_messages.specs.declared.server.ServerMessage.{ServerMessage};
-ghost use Rattle.pg_messages.specs.declared.client.ClientMessage.TheVariants as asked;
+ghost use Rattle.pg_messages.specs.declared.client.ClientMessage.TheVariants as sent;
 ghost use Rattle.pg_messages.specs.Client.{Fits};
 ghost use Rattle.play.specs.declared.play_fault.PlayFault.TheVariants as faults;
-ghost use Rattle.play.specs.Replies.{RowsFit, AreReadAgain, spelled_all, start_up, replies_to, rows_after};
-ghost use Rattle.play.specs.Transcript.{ArePlayed, IsPlayed, connected, rows_then, rows_then_query, echo, shown, shown_session, shown_query, shown_terminate, ended, lines_of, closing, transcript_of, final_rows};
+ghost use Rattle.play.specs.Replies.{RowsFit, AreReadAgain, spelled_all, start_up};
+ghost use Rattle.play.specs.Script.{ArePlayed, AreDone, Deed, Does, IsAsked, IsPlayed};
+ghost use Rattle.play.specs.Transcript.{connected, rows_then, rows_then_query, echo, shown, shown_connect, shown_query, shown_leave, ended, reply_line, lines_of, closing, transcript_of, final_rows};
 
 use crate::database::Database;
 use crate::play_fault::PlayFault;
-use crate::rendering::render;
-use crate::script::ScriptLine;
+use crate::script::{Step, step_of};
 use crate::session::{connect, serve};
 use pg_messages::{ClientMessage, Read, ServerMessage, read_server, write_client};
+use pgproto::{ScriptLine, echo, render};
 use pool_base::{List, NoMemory, SessionId, Sink, write_all};
 use std::alloc::Global;
 
@@ -39,16 +41,19 @@ pub fn play<D: Database, O: Sink>(
     database: &mut D,
     out: &mut O,
 ) -> Result<(), PlayFault>
-    requires played { ArePlayed script.now }
+    requires grammar { AllByRecursion IsOfGrammar (map line_of script.now) }
+    requires played { ArePlayed (map line_of script.now) }
     requires fits { RowsFit (D.rows database.old) }
     // Its whole transcript, and the rows that it leaves.
-    ensures all { OnOk result (Appends (O.taken out.old) (O.taken out.new) (transcript_of (D.rows
-        database.old) script.now)) }
-    ensures rows { OnOk result (D.rows database.new ≡ final_rows (D.rows database.old) script.now) }
+    ensures all { OnOk result ((deeds : Sequence Deed) → AreDone (map line_of script.now) deeds
+        → Appends (O.taken out.old) (O.taken out.new) (transcript_of (D.rows database.old) deeds)) }
+    ensures rows { OnOk result ((deeds : Sequence Deed) → AreDone (map line_of script.now) deeds
+        → D.rows database.new ≡ final_rows (D.rows database.old) deeds) }
 
     // After a fault a front of it was written.
-    ensures front { OnErr result (AppendsFront (O.taken out.old) (O.taken out.new) (transcript_of
-        (D.rows database.old) script.now)) }
+    ensures front { OnErr result ((deeds : Sequence Deed) → AreDone (map line_of script.now) deeds
+        → AppendsFront (O.taken out.old) (O.taken out.new)
+        (transcript_of (D.rows database.old) deeds)) }
     ensures cause { IfErr result (λ e. e ≡ faults.SinkFailed
         → Rose (O.fault_count out.old) (O.fault_count out.new)) }
     ensures later { O.fault_count out.old ≤ O.fault_count out.new }
@@ -69,16 +74,20 @@ fn play_line<D: Database, O: Sink>(
     database: &mut D,
     out: &mut O,
 ) -> Result<bool, PlayFault>
-    requires played { IsPlayed line.now }
+    requires grammar { IsOfGrammar (line_of line.now) }
+    requires played { IsPlayed (line_of line.now) }
     requires fits { RowsFit (D.rows database.old) }
-    ensures online { IfOk result (λ after. after ≡ connected online line.now) }
-    ensures all { OnOk result (Appends (O.taken out.old) (O.taken out.new) (echo line.now ++ shown
-        online (D.rows database.old) line.now)) }
-    ensures rows { OnOk result (D.rows database.new ≡ rows_then online (D.rows database.old)
-        line.now) }
+    ensures online { IfOk result (λ after. (deed : Deed) → Does (line_of line.now) deed
+        → after ≡ connected online deed) }
+    ensures all { OnOk result ((deed : Deed) → Does (line_of line.now) deed
+        → Appends (O.taken out.old) (O.taken out.new) (echo deed ++ shown online (D.rows
+        database.old) deed)) }
+    ensures rows { OnOk result ((deed : Deed) → Does (line_of line.now) deed
+        → D.rows database.new ≡ rows_then online (D.rows database.old) deed) }
     ensures fits { OnOk result (RowsFit (D.rows database.new)) }
-    ensures front { OnErr result (AppendsFront (O.taken out.old) (O.taken out.new) (echo line.now
-        ++ shown online (D.rows database.old) line.now)) }
+    ensures front { OnErr result ((deed : Deed) → Does (line_of line.now) deed
+        → AppendsFront (O.taken out.old) (O.taken out.new) (echo deed ++ shown online (D.rows
+        database.old) deed)) }
     ensures cause { IfErr result (λ e. e ≡ faults.SinkFailed
         → Rose (O.fault_count out.old) (O.fault_count out.new)) }
     ensures later { O.fault_count out.old ≤ O.fault_count out.new }
@@ -96,38 +105,44 @@ fn show<D: Database, O: Sink>(
     database: &mut D,
     out: &mut O,
 ) -> Result<bool, PlayFault>
-    requires played { IsPlayed line.now }
+    requires grammar { IsOfGrammar (line_of line.now) }
+    requires played { IsPlayed (line_of line.now) }
     requires fits { RowsFit (D.rows database.old) }
-    ensures online { IfOk result (λ after. after ≡ connected online line.now) }
-    ensures all { OnOk result (Appends (O.taken out.old) (O.taken out.new) (shown online (D.rows
-        database.old) line.now)) }
-    ensures rows { OnOk result (D.rows database.new ≡ rows_then online (D.rows database.old)
-        line.now) }
+    ensures online { IfOk result (λ after. (deed : Deed) → Does (line_of line.now) deed
+        → after ≡ connected online deed) }
+    ensures all { OnOk result ((deed : Deed) → Does (line_of line.now) deed
+        → Appends (O.taken out.old) (O.taken out.new) (shown online (D.rows database.old) deed)) }
+    ensures rows { OnOk result ((deed : Deed) → Does (line_of line.now) deed
+        → D.rows database.new ≡ rows_then online (D.rows database.old) deed) }
     ensures fits { OnOk result (RowsFit (D.rows database.new)) }
-    ensures front { OnErr result (AppendsFront (O.taken out.old) (O.taken out.new) (shown online
-        (D.rows database.old) line.now)) }
+    ensures front { OnErr result ((deed : Deed) → Does (line_of line.now) deed
+        → AppendsFront (O.taken out.old) (O.taken out.new) (shown online (D.rows database.old)
+        deed)) }
     ensures cause { IfErr result (λ e. e ≡ faults.SinkFailed
         → Rose (O.fault_count out.old) (O.fault_count out.new)) }
     ensures later { O.fault_count out.old ≤ O.fault_count out.new }
 {
-    match line {
-        ScriptLine::Session => start(alloc, online, out),
-        ScriptLine::Query { text, .. } => ask(alloc, online, text.as_slice(), database, out),
-        ScriptLine::Terminate => leave(alloc, online, database, out),
+    match step_of(line) {
+        Step::Connect => start(alloc, online, out),
+        Step::Ask(text) => ask(alloc, online, text, database, out),
+        Step::Leave => leave(alloc, online, database, out),
+        Step::Other => unreachable!(),
     }
 }
 
 /// Writes a script line as the transcript has it.
 fn put_echo<O: Sink>(alloc: Global, line: &ScriptLine, out: &mut O) -> Result<(), PlayFault>
-    ensures all { OnOk result (Appends (O.taken out.old) (O.taken out.new) (echo line.now)) }
-    ensures front { OnErr result (AppendsFront (O.taken out.old)
-        (O.taken out.new) (echo line.now)) }
+    requires { IsOfGrammar (line_of line.now) }
+    ensures all { OnOk result (Appends (O.taken out.old) (O.taken out.new)
+        (ended (echoed (line_of line.now)))) }
+    ensures front { OnErr result (AppendsFront (O.taken out.old) (O.taken out.new)
+        (ended (echoed (line_of line.now)))) }
     ensures cause { IfErr result (λ e. e ≡ faults.SinkFailed
         → Rose (O.fault_count out.old) (O.fault_count out.new)) }
     ensures later { O.fault_count out.old ≤ O.fault_count out.new }
 {
-    let text = echo_of(alloc, line)?;
-    say(out, text.as_slice())
+    let text = echo(alloc, line)?;
+    say(out, text.as_bytes())
 }
 
 /// Writes a part of the transcript.
@@ -141,31 +156,11 @@ fn say<O: Sink>(out: &mut O, bytes: &[u8]) -> Result<(), PlayFault>
     Ok(())
 }
 
-fn echo_of(alloc: Global, line: &ScriptLine) -> Result<List<u8>, NoMemory>
-    ensures { IfOk result (λ text. text ≡ echo line.now) }
-{
-    match line {
-        ScriptLine::Session => List::from_slice(alloc, b"== session 1\n"),
-        ScriptLine::Query { text, .. } => echo_query(alloc, text.as_slice()),
-        ScriptLine::Terminate => List::from_slice(alloc, b"1 FE=> 'X'\n"),
-    }
-}
-
-fn echo_query(alloc: Global, text: &[u8]) -> Result<List<u8>, NoMemory>
-    ensures { IfOk result
-        (λ line. line ≡ ended (codes "1 FE=> 'Q' \"" ++ (text.now ++ codes "\""))) }
-{
-    let mut line = List::from_slice(alloc, b"1 FE=> 'Q' \"")?;
-    line.extend_from_slice(text)?;
-    line.extend_from_slice(b"\"\n")?;
-    Ok(line)
-}
-
 /// The session connects, unless it is connected.
 fn start<O: Sink>(alloc: Global, online: bool, out: &mut O) -> Result<bool, PlayFault>
     ensures online { IfOk result (λ after. after ≡ true) }
-    ensures all { OnOk result (Appends (O.taken out.old) (O.taken out.new) (shown_session online)) }
-    ensures front { OnErr result (AppendsFront (O.taken out.old) (O.taken out.new) (shown_session
+    ensures all { OnOk result (Appends (O.taken out.old) (O.taken out.new) (shown_connect online)) }
+    ensures front { OnErr result (AppendsFront (O.taken out.old) (O.taken out.new) (shown_connect
         online)) }
     ensures cause { IfErr result (λ e. e ≡ faults.SinkFailed
         → Rose (O.fault_count out.old) (O.fault_count out.new)) }
@@ -189,19 +184,19 @@ fn ask<D: Database, O: Sink>(
     database: &mut D,
     out: &mut O,
 ) -> Result<bool, PlayFault>
-    requires query { Fits (asked.Query text.now) }
+    requires query { Fits (sent.Query text.now) }
     requires fits { RowsFit (D.rows database.old) }
-    ensures online { IfOk result (λ after. (statement : Statement) → Spells text.now statement
+    ensures online { IfOk result (λ after. (asked : Option Statement) → IsAsked text.now asked
         → after ≡ online) }
-    ensures all { OnOk result ((statement : Statement) → Spells text.now statement
+    ensures all { OnOk result ((asked : Option Statement) → IsAsked text.now asked
         → Appends (O.taken out.old) (O.taken out.new) (shown_query online (D.rows database.old)
-        statement)) }
-    ensures rows { OnOk result ((statement : Statement) → Spells text.now statement
-        → D.rows database.new ≡ rows_then_query online (D.rows database.old) statement) }
+        asked)) }
+    ensures rows { OnOk result ((asked : Option Statement) → IsAsked text.now asked
+        → D.rows database.new ≡ rows_then_query online (D.rows database.old) asked) }
     ensures fits { OnOk result (RowsFit (D.rows database.new)) }
-    ensures front { OnErr result ((statement : Statement) → Spells text.now statement
+    ensures front { OnErr result ((asked : Option Statement) → IsAsked text.now asked
         → AppendsFront (O.taken out.old) (O.taken out.new) (shown_query online (D.rows
-        database.old) statement)) }
+        database.old) asked)) }
     ensures cause { IfErr result (λ e. e ≡ faults.SinkFailed
         → Rose (O.fault_count out.old) (O.fault_count out.new)) }
     ensures later { O.fault_count out.old ≤ O.fault_count out.new }
@@ -219,8 +214,8 @@ fn ask<D: Database, O: Sink>(
 
 /// The bytes of a Query.
 fn query_bytes(alloc: Global, text: &[u8]) -> Result<List<u8>, NoMemory>
-    requires { Fits (asked.Query text.now) }
-    ensures { IfOk result (λ bytes. HoldsClient bytes (asked.Query text.now)) }
+    requires { Fits (sent.Query text.now) }
+    ensures { IfOk result (λ bytes. HoldsClient bytes (sent.Query text.now)) }
 {
     let text = List::from_slice(alloc, text)?;
     let mut input = List::new(alloc);
@@ -237,11 +232,11 @@ fn leave<D: Database, O: Sink>(
 ) -> Result<bool, PlayFault>
     requires fits { RowsFit (D.rows database.old) }
     ensures online { IfOk result (λ after. after ≡ false) }
-    ensures all { OnOk result (Appends (O.taken out.old) (O.taken out.new) (shown_terminate
+    ensures all { OnOk result (Appends (O.taken out.old) (O.taken out.new) (shown_leave
         online)) }
     ensures rows { OnOk result (D.rows database.new ≡ D.rows database.old) }
     ensures fits { OnOk result (RowsFit (D.rows database.new)) }
-    ensures front { OnErr result (AppendsFront (O.taken out.old) (O.taken out.new) (shown_terminate
+    ensures front { OnErr result (AppendsFront (O.taken out.old) (O.taken out.new) (shown_leave
         online)) }
     ensures cause { IfErr result (λ e. e ≡ faults.SinkFailed
         → Rose (O.fault_count out.old) (O.fault_count out.new)) }
@@ -262,7 +257,7 @@ fn leave<D: Database, O: Sink>(
 
 /// The bytes of a Terminate.
 fn terminate_bytes(alloc: Global) -> Result<List<u8>, NoMemory>
-    ensures { IfOk result (λ bytes. HoldsClient bytes asked.Terminate) }
+    ensures { IfOk result (λ bytes. HoldsClient bytes sent.Terminate) }
 {
     let mut input = List::new(alloc);
     write_client(&ClientMessage::Terminate, &mut input)?;
@@ -313,9 +308,9 @@ fn put_reply<O: Sink>(alloc: Global, bytes: &[u8], out: &mut O) -> Result<usize,
     ensures within { IfOk result (λ n. n ≤ length bytes.now) }
     ensures all { IfOk result (λ n. (m : ServerMessage) (k : ℕ)
         → server_front bytes.now ≡ Whole m k → (n ≡ k)
-        × Appends (O.taken out.old) (O.taken out.new) (line_of 1 m)) }
+        × Appends (O.taken out.old) (O.taken out.new) (reply_line m)) }
     ensures front { OnErr result ((m : ServerMessage) (k : ℕ) → server_front bytes.now ≡ Whole m k
-        → AppendsFront (O.taken out.old) (O.taken out.new) (line_of 1 m)) }
+        → AppendsFront (O.taken out.old) (O.taken out.new) (reply_line m)) }
     ensures cause { IfErr result (λ e. e ≡ faults.SinkFailed
         → Rose (O.fault_count out.old) (O.fault_count out.new)) }
     ensures later { O.fault_count out.old ≤ O.fault_count out.new }
@@ -331,21 +326,13 @@ fn put_reply<O: Sink>(alloc: Global, bytes: &[u8], out: &mut O) -> Result<usize,
 }
 
 fn put_message<O: Sink>(alloc: Global, message: ServerMessage, out: &mut O) -> Result<(), PlayFault>
-    ensures all { OnOk result (Appends (O.taken out.old) (O.taken out.new) (line_of 1 message)) }
-    ensures front { OnErr result (AppendsFront (O.taken out.old) (O.taken out.new) (line_of 1
+    ensures all { OnOk result (Appends (O.taken out.old) (O.taken out.new) (reply_line message)) }
+    ensures front { OnErr result (AppendsFront (O.taken out.old) (O.taken out.new) (reply_line
         message)) }
     ensures cause { IfErr result (λ e. e ≡ faults.SinkFailed
         → Rose (O.fault_count out.old) (O.fault_count out.new)) }
     ensures later { O.fault_count out.old ≤ O.fault_count out.new }
 {
-    let line = message_line(alloc, &message)?;
-    say(out, line.as_slice())
-}
-
-fn message_line(alloc: Global, message: &ServerMessage) -> Result<List<u8>, NoMemory>
-    ensures { IfOk result (λ line. line ≡ line_of 1 message.now) }
-{
-    let mut line = List::new(alloc);
-    render(alloc, SESSION, message, &mut line)?;
-    Ok(line)
+    let line = render(alloc, SESSION, &message)?;
+    say(out, line.as_bytes())
 }

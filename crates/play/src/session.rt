@@ -1,12 +1,13 @@
 //! The server's side of one session: a message's bytes in, the bytes of the replies out.
-ghost use Rattle.std.specs.Prelude.{◌≡◌, ◌++◌, ◌∷◌, [], ℕ, List, option_map, pos, true, false, IfOk, OnOk, All, map, codes, length};
+ghost use Rattle.std.specs.Prelude.{◌≡◌, ◌++◌, ◌∷◌, [], ℕ, List, Option, Some, None, option_map, pos, true, false, IfOk, OnOk, All, map, codes, length};
 ghost use Rattle.std.specs.Fmt.{decimal};
 ghost use Rattle.pg_messages.specs.Server.{Fits};
-ghost use Rattle.pg_messages.specs.declared.client.ClientMessage.TheVariants as asked;
+ghost use Rattle.pg_messages.specs.declared.client.ClientMessage.TheVariants as sent;
 ghost use Rattle.pg_messages.specs.declared.server.ServerMessage.TheVariants as messages;
 ghost use Rattle.sql_profile.specs.Grammar.{Spells};
 ghost use Rattle.sql_profile.specs.declared.statement.Statement.{Statement};
-ghost use Rattle.play.specs.Replies.{Sent, settings, start_up, columns, row_message, error_message, answer_messages, replies_to, rows_after, RowFits, RowsFit, AnswerFits};
+ghost use Rattle.play.specs.Replies.{Sent, settings, start_up, columns, row_message, error_message, answer_messages, replies_to, rows_left_by, RowFits, RowsFit, AnswerFits};
+ghost use Rattle.play.specs.Script.{IsAsked};
 ghost use Rattle.play.specs.Opening.{HoldsStart, HoldsClient, is_start, query_in, is_label};
 
 use crate::database::Database;
@@ -61,11 +62,11 @@ pub(crate) fn serve<S: Database>(
     output: &mut List<u8>,
 ) -> Result<bool, NoMemory>
     requires { RowsFit (S.rows database.old) }
-    ensures query { IfOk result (λ online. (text : List ℕ) (statement : Statement)
-        → HoldsClient input.now (asked.Query text) → Spells text statement
-        → (online ≡ true) × Sent output.old output.new (replies_to (S.rows database.old) statement)
-        × (S.rows database.new ≡ rows_after (S.rows database.old) statement)) }
-    ensures terminate { IfOk result (λ online. HoldsClient input.now asked.Terminate
+    ensures query { IfOk result (λ online. (text : List ℕ) (asked : Option Statement)
+        → HoldsClient input.now (sent.Query text) → IsAsked text asked
+        → (online ≡ true) × Sent output.old output.new (replies_to (S.rows database.old) asked)
+        × (S.rows database.new ≡ rows_left_by (S.rows database.old) asked)) }
+    ensures terminate { IfOk result (λ online. HoldsClient input.now sent.Terminate
         → (online ≡ false) × (S.rows database.new ≡ S.rows database.old)) }
     ensures kept { OnOk result (RowsFit (S.rows database.new)) }
 {
@@ -89,7 +90,7 @@ fn query_in(read: &Read<ClientMessage>) -> Option<&[u8]>
     }
 }
 
-/// Runs the statement of a Query's text, and answers.
+/// Does what a Query's text asks, and answers.
 fn answer_query<S: Database>(
     alloc: Global,
     text: &[u8],
@@ -97,9 +98,39 @@ fn answer_query<S: Database>(
     output: &mut List<u8>,
 ) -> Result<bool, NoMemory>
     requires { RowsFit (S.rows database.old) }
+    ensures query { IfOk result (λ online. (asked : Option Statement) → IsAsked text.now asked
+        → (online ≡ true) × Sent output.old output.new (replies_to (S.rows database.old) asked)
+        × (S.rows database.new ≡ rows_left_by (S.rows database.old) asked)) }
+    ensures kept { OnOk result (RowsFit (S.rows database.new)) }
+{
+    if text.is_empty() {
+        answer_nothing(output)?;
+        return Ok(true);
+    }
+    answer_statement(alloc, text, database, output)
+}
+
+/// Answers the empty text.
+fn answer_nothing(output: &mut List<u8>) -> Result<(), NoMemory>
+    ensures { OnOk result (Sent output.old output.new (messages.Empty ∷ messages.Ready 73 ∷ [])) }
+{
+    send(ServerMessage::Empty, output)?;
+    send(ServerMessage::Ready { status: IDLE }, output)?;
+    Ok(())
+}
+
+/// Runs the statement of a text, and answers.
+fn answer_statement<S: Database>(
+    alloc: Global,
+    text: &[u8],
+    database: &mut S,
+    output: &mut List<u8>,
+) -> Result<bool, NoMemory>
+    requires { RowsFit (S.rows database.old) }
     ensures query { IfOk result (λ online. (statement : Statement) → Spells text.now statement
-        → (online ≡ true) × Sent output.old output.new (replies_to (S.rows database.old) statement)
-        × (S.rows database.new ≡ rows_after (S.rows database.old) statement)) }
+        → (online ≡ true)
+        × Sent output.old output.new (replies_to (S.rows database.old) (Some statement))
+        × (S.rows database.new ≡ rows_left_by (S.rows database.old) (Some statement))) }
     ensures kept { OnOk result (RowsFit (S.rows database.new)) }
 {
     let Some(statement) = read_statement(text) else {

@@ -6,13 +6,11 @@ use Rattle.pool_base.specs.Outside.{Appends}
 use Rattle.pool_base.proofs.Sinking.{rose_after}
 use Rattle.backend_trait.specs.Rows.{Rows, no_rows}
 use Rattle.backend_trait.specs.Keys.{place_order}
-use Rattle.play.specs.declared.script.ScriptLine.{ScriptLine}
-use Rattle.play.specs.declared.script.ScriptLine.TheVariants.{Session, Query, Terminate}
-use Rattle.play.specs.Script.{IsScript, IsTail, IsOneSession}
+use Rattle.pgproto.specs.Line.{Line}
+use Rattle.play.specs.Script.{Deed, AreDone, IsSession, ArePlayed}
 use Rattle.play.specs.Replies.{RowsFit}
-use Rattle.play.specs.Transcript.{ArePlayed}
 use Rattle.pool.specs.declared.status.Status.{Status}
-use Rattle.pool.specs.declared.status.Status.TheVariants.{Done, NoCommand, Refused, FilesFailed, SinkFailed, NoMemory, NotBuilt}
+use Rattle.pool.specs.declared.status.Status.TheVariants.{Done, NoCommand, Refused, ScriptRefused, FilesFailed, SinkFailed, NoMemory, NotBuilt}
 use Rattle.pool_base.specs.Outside.{Told}
 use Rattle.pool_command.specs.declared.command.Command.{Command}
 use Rattle.pool_config.specs.declared.config.Config.{Config}
@@ -20,6 +18,7 @@ use Rattle.pool_config.specs.declared.fault.ConfigFault.{ConfigFault}
 use Rattle.pool_config.specs.declared.fault.ConfigFault.TheVariants as faults
 use Rattle.pool_config.specs.Configuration.{IsConfiguration, IsAnswer}
 use Rattle.pool_config.specs.Configuration as configuration
+use Rattle.pool.specs.Scripts.{IsReadAs}
 use Rattle.pool.specs.Texts.{IsBuilt, IsRead, config_name, is_plain, built_schema}
 use Rattle.pool.specs.Reading.{IsFault}
 use Rattle.pool.specs.Ends.{Outside, outside, Says, NoCommandEnds, RefusedEnds, UnbuiltEnds, UnreadEnds, no_command, not_built, fault_line}
@@ -29,6 +28,7 @@ pub said : (s : Status) (bytes : List ℕ) (a b : Option (List ℕ)) (n m : ℕ)
 said Done bytes a b n m other p = (refl, p)
 said NoCommand bytes a b n m other p = (refl, p)
 said Refused bytes a b n m other p = (refl, p)
+said ScriptRefused bytes a b n m other p = (refl, p)
 said FilesFailed bytes a b n m other p = (refl, p)
 said SinkFailed bytes a b n m other p = absurd (other refl)
 said NoMemory bytes a b n m other p = (refl, p)
@@ -38,6 +38,7 @@ pub said_no_command : (s : Status) (a b : Option (List ℕ)) (n m : ℕ) (x y : 
 said_no_command Done a b n m x y p = let e : NoCommand ≡ Done = p.0 in absurd (cc)
 said_no_command NoCommand a b n m x y p = p.1
 said_no_command Refused a b n m x y p = let e : NoCommand ≡ Refused = p.0 in absurd (cc)
+said_no_command ScriptRefused a b n m x y p = let e : NoCommand ≡ ScriptRefused = p.0 in absurd (cc)
 said_no_command FilesFailed a b n m x y p = let e : NoCommand ≡ FilesFailed = p.0 in absurd (cc)
 said_no_command SinkFailed a b n m x y p = p
 said_no_command NoMemory a b n m x y p = let e : NoCommand ≡ NoMemory = p.0 in absurd (cc)
@@ -47,24 +48,37 @@ pub said_unbuilt : (s : Status) (a b : Option (List ℕ)) (n m : ℕ) (x y : Row
 said_unbuilt Done a b n m x y p = let e : NotBuilt ≡ Done = p.0 in absurd (cc)
 said_unbuilt NoCommand a b n m x y p = let e : NotBuilt ≡ NoCommand = p.0 in absurd (cc)
 said_unbuilt Refused a b n m x y p = let e : NotBuilt ≡ Refused = p.0 in absurd (cc)
+said_unbuilt ScriptRefused a b n m x y p = let e : NotBuilt ≡ ScriptRefused = p.0 in absurd (cc)
 said_unbuilt FilesFailed a b n m x y p = let e : NotBuilt ≡ FilesFailed = p.0 in absurd (cc)
 said_unbuilt SinkFailed a b n m x y p = p
 said_unbuilt NoMemory a b n m x y p = let e : NotBuilt ≡ NoMemory = p.0 in absurd (cc)
 said_unbuilt NotBuilt a b n m x y p = p.1
 
-pub said_refused : (s : Status) (bytes : List ℕ) (a b : Option (List ℕ)) (n m : ℕ) (x y : Rows) → Says Refused s bytes a b n m → RefusedEnds bytes s (outside n m a b x y)
+pub said_refused : (s : Status) (bytes : List ℕ) (a b : Option (List ℕ)) (n m : ℕ) (x y : Rows) → Says Refused s bytes a b n m → RefusedEnds Refused bytes s (outside n m a b x y)
 said_refused Done bytes a b n m x y p = let e : Refused ≡ Done = p.0 in absurd (cc)
 said_refused NoCommand bytes a b n m x y p = let e : Refused ≡ NoCommand = p.0 in absurd (cc)
-said_refused Refused bytes a b n m x y p = p.1
+said_refused Refused bytes a b n m x y p = p
+said_refused ScriptRefused bytes a b n m x y p = let e : Refused ≡ ScriptRefused = p.0 in absurd (cc)
 said_refused FilesFailed bytes a b n m x y p = let e : Refused ≡ FilesFailed = p.0 in absurd (cc)
 said_refused SinkFailed bytes a b n m x y p = p
 said_refused NoMemory bytes a b n m x y p = let e : Refused ≡ NoMemory = p.0 in absurd (cc)
 said_refused NotBuilt bytes a b n m x y p = let e : Refused ≡ NotBuilt = p.0 in absurd (cc)
 
+pub said_script_refused : (s : Status) (bytes : List ℕ) (a b : Option (List ℕ)) (n m : ℕ) (x y : Rows) → Says ScriptRefused s bytes a b n m → RefusedEnds ScriptRefused bytes s (outside n m a b x y)
+said_script_refused Done bytes a b n m x y p = let e : ScriptRefused ≡ Done = p.0 in absurd (cc)
+said_script_refused NoCommand bytes a b n m x y p = let e : ScriptRefused ≡ NoCommand = p.0 in absurd (cc)
+said_script_refused Refused bytes a b n m x y p = let e : ScriptRefused ≡ Refused = p.0 in absurd (cc)
+said_script_refused ScriptRefused bytes a b n m x y p = p
+said_script_refused FilesFailed bytes a b n m x y p = let e : ScriptRefused ≡ FilesFailed = p.0 in absurd (cc)
+said_script_refused SinkFailed bytes a b n m x y p = p
+said_script_refused NoMemory bytes a b n m x y p = let e : ScriptRefused ≡ NoMemory = p.0 in absurd (cc)
+said_script_refused NotBuilt bytes a b n m x y p = let e : ScriptRefused ≡ NotBuilt = p.0 in absurd (cc)
+
 pub fault_unread : (s : Status) (before after n m : ℕ) (a : Option (List ℕ)) (x y : Rows) → IsFault before after s → UnreadEnds before after s (outside n m a a x y)
 fault_unread Done before after n m a x y p = p
 fault_unread NoCommand before after n m a x y p = p
 fault_unread Refused before after n m a x y p = p
+fault_unread ScriptRefused before after n m a x y p = p
 fault_unread FilesFailed before after n m a x y p = (p, refl)
 fault_unread SinkFailed before after n m a x y p = p
 fault_unread NoMemory before after n m a x y p = refl
@@ -74,6 +88,7 @@ pub fault_after : (s : Status) (a b c : ℕ) → a ≤ b → IsFault b c s → I
 fault_after Done a b c h p = p
 fault_after NoCommand a b c h p = p
 fault_after Refused a b c h p = p
+fault_after ScriptRefused a b c h p = p
 fault_after FilesFailed a b c h p = rose_after a b c h p
 fault_after SinkFailed a b c h p = p
 fault_after NoMemory a b c h p = tt
@@ -83,6 +98,7 @@ unread_after : (s : Status) (a b c : ℕ) (o : Outside) → a ≤ b → UnreadEn
 unread_after Done a b c o h p = p
 unread_after NoCommand a b c o h p = p
 unread_after Refused a b c o h p = p
+unread_after ScriptRefused a b c o h p = p
 unread_after FilesFailed a b c o h p = (rose_after a b c h p.0, p.1)
 unread_after SinkFailed a b c o h p = p
 unread_after NoMemory a b c o h p = p
@@ -109,7 +125,7 @@ config_read contents later a b c command text s o same h is e =
 -- the configuration's text has a fault, or memory was refused while it was read
 pub config_fault : (fault : ConfigFault) (contents : List ℕ → Told) (before : ℕ) (command : Command) (text : List ℕ) (s : Status) (o : Outside) → configuration.Says text (Err fault)
     → ((config : Config) → IsConfiguration text config → IsAnswer config (Err fault)) → o.rows_after ≡ o.rows_before
-    → (fault ≡ faults.NoMemory → (s ≡ NoMemory) × (o.has ≡ o.had)) → (fault ≢ faults.NoMemory → RefusedEnds (fault_line fault) s o) → ConfigEnds contents before before command text s o
+    → (fault ≡ faults.NoMemory → (s ≡ NoMemory) × (o.has ≡ o.had)) → (fault ≢ faults.NoMemory → RefusedEnds Refused (fault_line fault) s o) → ConfigEnds contents before before command text s o
 config_fault faults.NoMemory contents before command text s o says found rows memory refuses = let m = memory refl in unparsed m.0 m.1
 config_fault (faults.BadLine n) contents before command text s o says found rows memory refuses =
     faulty (faults.BadLine n) says (λ config is. let e : faults.BadLine n ≡ faults.NoMemory = found config is in absurd (cc)) rows (refuses (λ e. absurd (cc)))
@@ -126,36 +142,14 @@ memory_ends None contents before n a x = refl
 memory_ends (Some command) contents before n a x = unread refl
 
 -- a script of one session can be played
-tail_played : (lines : List ScriptLine) → IsTail lines → ArePlayed lines
-tail_played [] is = tt
-tail_played (Session ∷ lines) is = absurd is
-tail_played (Query text statement ∷ lines) is = (is.0, tail_played lines is.1)
-tail_played (Terminate ∷ lines) is = (tt, subst ArePlayed (sym is) tt)
-
-pub session_played : (lines : List ScriptLine) → IsOneSession lines → ArePlayed lines
-session_played [] is = tt
-session_played (Session ∷ lines) is = (tt, tail_played lines is)
-session_played (Query text statement ∷ lines) is = absurd is
-session_played (Terminate ∷ lines) is = absurd is
+pub session_played : (lines : List Line) → IsSession lines → ArePlayed lines
+session_played lines is = record { deeds = is.deeds; done = is.done }
 
 -- a store without rows has none that cannot be sent
 pub none_fit : RowsFit no_rows
 none_fit = λ place row found. let never : None ≡ Some row = sym (fin.get-empty place_order place) ∙ found in absurd (cc)
 
--- what the reader of scripts says, with all else that is built
-pub scripts_built : {E : Type 0} (r : Result (Option (List ScriptLine)) E) (command : Command) (config : Config) (schema script : Option (List ℕ)) (text : List ℕ) → (is_plain command ≡ true) × ((length config.nodes ≡ 1) × (schema ≡ Some built_schema)) → script ≡ Some text
-    → IfOk r (λ found. MatchOption found ((lines : List ScriptLine) → IsScript text lines → ⊥) (λ lines. IsScript text lines))
-    → IfOk r (λ found. MatchOption found ((lines : List ScriptLine) → IsBuilt command config schema script lines → ⊥) (λ lines. IsBuilt command config schema script lines))
-scripts_built (Err e) command config schema script text b k h = tt
-scripts_built (Ok None) command config schema script text b k h = λ lines is. let same : is.text ≡ text = (let e : Some is.text ≡ Some text = sym is.script_is ∙ k in cc) in h lines (subst (λ t. IsScript t lines) same is.spells)
-scripts_built (Ok (Some lines)) command config schema script text b k h = record { plain = b.0; one_backend = b.1.0; schema_is = b.1.1; text = text; script_is = k; spells = h }
-
--- the answer of the reader, at each of its forms
-abbrev pub Found : Command → Config → Option (List ℕ) → Option (List ℕ) → Option (List ScriptLine) → Type 0
-Found command config schema script found = MatchOption found ((lines : List ScriptLine) → IsBuilt command config schema script lines → ⊥) (λ lines. IsBuilt command config schema script lines)
-
-pub built_at : (found : Option (List ScriptLine)) (lines : List ScriptLine) (command : Command) (config : Config) (schema script : Option (List ℕ)) → found ≡ Some lines → Found command config schema script found → IsBuilt command config schema script lines
-built_at found lines command config schema script is h = subst (Found command config schema script) is h
-
-pub unbuilt_at : (found : Option (List ScriptLine)) (command : Command) (config : Config) (schema script : Option (List ℕ)) → found ≡ None → Found command config schema script found → (lines : List ScriptLine) → IsBuilt command config schema script lines → ⊥
-unbuilt_at found command config schema script is h = subst (Found command config schema script) is h
+-- what is built is asked for
+pub is_built : (command : Command) (config : Config) (schema script : Option (List ℕ)) (lines : List Line) → (is_plain command ≡ true) × ((length config.nodes ≡ 1) × (schema ≡ Some built_schema)) → IsReadAs script lines
+    → (is : IsSession lines) → IsBuilt command config schema script is.deeds
+is_built command config schema script lines b reads is = record { plain = b.0; one_backend = b.1.0; schema_is = b.1.1; lines = lines; reads = reads; done = is.done; one = is.one }

@@ -1,2 +1,4 @@
 pub mod Ending
 pub mod Numbers
+pub mod ScriptNumbers
+pub mod ScriptReading

@@ -2,7 +2,9 @@
 use Rattle.std.proofs.Common.{◌≡◌, ◌⊎◌, ◌≤◌, ℕ, Bool, List, length, refl, sym, subst, ap, ◌∙◌, inl, inr, arith}
 use Rattle.std.specs.Prelude.{Option, Some, None}
 use Rattle.pool_base.specs.Outside.{Rose, Told, content, IsTold, IsLonger}
-use Rattle.play.specs.Script.{IsScript}
+use Rattle.pgproto.specs.Line.{Line}
+use Rattle.pgproto.specs.Script.{IsScript}
+use Rattle.play.specs.Script.{Deed}
 use Rattle.pool_command.specs.Command.{command_of}
 use Rattle.pool_command.specs.declared.command.Command.{Command}
 use Rattle.pool_command.specs.declared.command.Command.TheVariants.{Play}
@@ -10,17 +12,28 @@ use Rattle.pool_config.specs.declared.config.Config.{Config}
 use Rattle.pool_config.specs.Configuration.{IsConfiguration}
 use Rattle.pool.specs.Status.{code_of}
 use Rattle.pool.specs.declared.status.Status.{Status}
-use Rattle.pool.specs.declared.status.Status.TheVariants.{Done, NoCommand, Refused, FilesFailed, SinkFailed, NoMemory, NotBuilt}
+use Rattle.pool.specs.declared.status.Status.TheVariants.{Done, NoCommand, Refused, ScriptRefused, FilesFailed, SinkFailed, NoMemory, NotBuilt}
 use Rattle.pool.specs.Texts.{IsRead, config_name}
-use Rattle.pool.specs.Ends.{Outside, NoCommandEnds, RefusedEnds, UnreadEnds, UnbuiltEnds, ScriptEnds, TextsEnds, built, unbuilt, unchecked, RestEnds, unread_rest, read_rest, SaysNone}
+use Rattle.pool.specs.Ends.{Outside, NoCommandEnds, RefusedEnds, UnreadEnds, UnbuiltEnds, ScriptEnds, TextsEnds, refused, built, unbuilt, unchecked, RestEnds, unread_rest, read_rest, SaysNone}
 use Rattle.pool.specs.Ends.{ConfigEnds, configured, faulty, unparsed, CommandEnds, unread, long, read, WordsEnd, Returns, Played}
 use Rattle.pool.specs.Ends.{IsRefusedText, Cause, too_long, has_fault, ConfigRefused, config_too_long, fault_line}
 
 -- the numbers are different
+pub is_script_refused : (s : Status) → code_of s ≡ 3 → s ≡ ScriptRefused
+is_script_refused ScriptRefused h = refl
+is_script_refused Done h = cc
+is_script_refused NoCommand h = cc
+is_script_refused Refused h = cc
+is_script_refused FilesFailed h = cc
+is_script_refused SinkFailed h = cc
+is_script_refused NoMemory h = cc
+is_script_refused NotBuilt h = cc
+
 pub is_done : (s : Status) → code_of s ≡ 0 → s ≡ Done
 is_done Done h = refl
 is_done NoCommand h = cc
 is_done Refused h = cc
+is_done ScriptRefused h = cc
 is_done FilesFailed h = cc
 is_done SinkFailed h = cc
 is_done NoMemory h = cc
@@ -30,6 +43,7 @@ pub is_no_command : (s : Status) → code_of s ≡ 1 → s ≡ NoCommand
 is_no_command NoCommand h = refl
 is_no_command Done h = cc
 is_no_command Refused h = cc
+is_no_command ScriptRefused h = cc
 is_no_command FilesFailed h = cc
 is_no_command SinkFailed h = cc
 is_no_command NoMemory h = cc
@@ -37,6 +51,7 @@ is_no_command NotBuilt h = cc
 
 pub is_refused : (s : Status) → code_of s ≡ 2 → s ≡ Refused
 is_refused Refused h = refl
+is_refused ScriptRefused h = cc
 is_refused Done h = cc
 is_refused NoCommand h = cc
 is_refused FilesFailed h = cc
@@ -49,6 +64,7 @@ is_files FilesFailed h = refl
 is_files Done h = cc
 is_files NoCommand h = cc
 is_files Refused h = cc
+is_files ScriptRefused h = cc
 is_files SinkFailed h = cc
 is_files NoMemory h = cc
 is_files NotBuilt h = cc
@@ -58,14 +74,16 @@ is_sink SinkFailed h = refl
 is_sink Done h = cc
 is_sink NoCommand h = cc
 is_sink Refused h = cc
+is_sink ScriptRefused h = cc
 is_sink FilesFailed h = cc
 is_sink NoMemory h = cc
 is_sink NotBuilt h = cc
 
 -- status 4
 files_texts : (command : Command) (config : Config) (schema script : Option (List ℕ)) (s : Status) (o : Outside) → s ≡ FilesFailed → TextsEnds command config schema script s o → ⊥
-files_texts command config schema script s o is (built lines b f) = subst (λ s. ScriptEnds lines s o) is f
-files_texts command config schema script s o is (unbuilt none f) = subst (λ s. UnbuiltEnds s o) is f
+files_texts command config schema script s o is (refused bytes why rows f) = subst (λ s. RefusedEnds ScriptRefused bytes s o) is f
+files_texts command config schema script s o is (built deeds b f) = subst (λ s. ScriptEnds deeds s o) is f
+files_texts command config schema script s o is (unbuilt stands none f) = subst (λ s. UnbuiltEnds s o) is f
 files_texts command config schema script s o is (unchecked memory same) = let never : FilesFailed ≡ NoMemory = sym is ∙ memory in absurd (cc)
 
 files_rest : (contents : List ℕ → Told) (x y : ℕ) (command : Command) (config : Config) (s : Status) (o : Outside) → s ≡ FilesFailed → RestEnds contents x y command config s o → Rose x y
@@ -74,12 +92,12 @@ files_rest contents x y command config s o is (read_rest schema script d e f) = 
 
 files_config : (contents : List ℕ → Told) (x y : ℕ) (command : Command) (text : List ℕ) (s : Status) (o : Outside) → s ≡ FilesFailed → ConfigEnds contents x y command text s o → Rose x y
 files_config contents x y command text s o is (configured config c e) = files_rest contents x y command config s o is e
-files_config contents x y command text s o is (faulty fault c none rows e) = absurd (subst (λ s. RefusedEnds (fault_line fault) s o) is e)
+files_config contents x y command text s o is (faulty fault c none rows e) = absurd (subst (λ s. RefusedEnds Refused (fault_line fault) s o) is e)
 files_config contents x y command text s o is (unparsed memory same) = let never : FilesFailed ≡ NoMemory = sym is ∙ memory in absurd (cc)
 
 files_command : (contents : List ℕ → Told) (x y : ℕ) (command : Command) (s : Status) (o : Outside) → s ≡ FilesFailed → CommandEnds contents x y command s o → Rose x y
 files_command contents x y command s o is (unread e) = (subst (λ s. UnreadEnds x y s o) is e).0
-files_command contents x y command s o is (long c rows e) = absurd (subst (λ s. RefusedEnds config_too_long s o) is e)
+files_command contents x y command s o is (long c rows e) = absurd (subst (λ s. RefusedEnds Refused config_too_long s o) is e)
 files_command contents x y command s o is (read text c e) = files_config contents x y command text s o is e
 
 files_words : (command : Option Command) (contents : List ℕ → Told) (x y : ℕ) (s : Status) (o : Outside) → s ≡ FilesFailed → WordsEnd command contents x y s o → Rose x y
@@ -91,8 +109,9 @@ files_rose words contents x y number o r four = files_words (command_of words) c
 
 -- status 5
 sink_texts : (command : Command) (config : Config) (schema script : Option (List ℕ)) (s : Status) (o : Outside) → s ≡ SinkFailed → TextsEnds command config schema script s o → Rose o.faults_before o.faults_after
-sink_texts command config schema script s o is (built lines b f) = (subst (λ s. ScriptEnds lines s o) is f).0
-sink_texts command config schema script s o is (unbuilt none f) = (subst (λ s. UnbuiltEnds s o) is f).0
+sink_texts command config schema script s o is (refused bytes why rows f) = (subst (λ s. RefusedEnds ScriptRefused bytes s o) is f).0
+sink_texts command config schema script s o is (built deeds b f) = (subst (λ s. ScriptEnds deeds s o) is f).0
+sink_texts command config schema script s o is (unbuilt stands none f) = (subst (λ s. UnbuiltEnds s o) is f).0
 sink_texts command config schema script s o is (unchecked memory same) = let never : SinkFailed ≡ NoMemory = sym is ∙ memory in absurd (cc)
 
 sink_rest : (contents : List ℕ → Told) (x y : ℕ) (command : Command) (config : Config) (s : Status) (o : Outside) → s ≡ SinkFailed → RestEnds contents x y command config s o → Rose o.faults_before o.faults_after
@@ -101,12 +120,12 @@ sink_rest contents x y command config s o is (read_rest schema script d e f) = s
 
 sink_config : (contents : List ℕ → Told) (x y : ℕ) (command : Command) (text : List ℕ) (s : Status) (o : Outside) → s ≡ SinkFailed → ConfigEnds contents x y command text s o → Rose o.faults_before o.faults_after
 sink_config contents x y command text s o is (configured config c e) = sink_rest contents x y command config s o is e
-sink_config contents x y command text s o is (faulty fault c none rows e) = (subst (λ s. RefusedEnds (fault_line fault) s o) is e).0
+sink_config contents x y command text s o is (faulty fault c none rows e) = (subst (λ s. RefusedEnds Refused (fault_line fault) s o) is e).0
 sink_config contents x y command text s o is (unparsed memory same) = let never : SinkFailed ≡ NoMemory = sym is ∙ memory in absurd (cc)
 
 sink_command : (contents : List ℕ → Told) (x y : ℕ) (command : Command) (s : Status) (o : Outside) → s ≡ SinkFailed → CommandEnds contents x y command s o → Rose o.faults_before o.faults_after
 sink_command contents x y command s o is (unread e) = absurd (subst (λ s. UnreadEnds x y s o) is e)
-sink_command contents x y command s o is (long c rows e) = (subst (λ s. RefusedEnds config_too_long s o) is e).0
+sink_command contents x y command s o is (long c rows e) = (subst (λ s. RefusedEnds Refused config_too_long s o) is e).0
 sink_command contents x y command s o is (read text c e) = sink_config contents x y command text s o is e
 
 sink_words : (command : Option Command) (contents : List ℕ → Told) (x y : ℕ) (s : Status) (o : Outside) → s ≡ SinkFailed → WordsEnd command contents x y s o → Rose o.faults_before o.faults_after
@@ -118,8 +137,9 @@ sink_rose words contents x y number o r five = sink_words (command_of words) con
 
 -- status 1
 none_texts : (command : Command) (config : Config) (schema script : Option (List ℕ)) (s : Status) (o : Outside) → s ≡ NoCommand → TextsEnds command config schema script s o → ⊥
-none_texts command config schema script s o is (built lines b f) = subst (λ s. ScriptEnds lines s o) is f
-none_texts command config schema script s o is (unbuilt none f) = subst (λ s. UnbuiltEnds s o) is f
+none_texts command config schema script s o is (refused bytes why rows f) = subst (λ s. RefusedEnds ScriptRefused bytes s o) is f
+none_texts command config schema script s o is (built deeds b f) = subst (λ s. ScriptEnds deeds s o) is f
+none_texts command config schema script s o is (unbuilt stands none f) = subst (λ s. UnbuiltEnds s o) is f
 none_texts command config schema script s o is (unchecked memory same) = let never : NoCommand ≡ NoMemory = sym is ∙ memory in absurd (cc)
 
 none_rest : (contents : List ℕ → Told) (x y : ℕ) (command : Command) (config : Config) (s : Status) (o : Outside) → s ≡ NoCommand → RestEnds contents x y command config s o → ⊥
@@ -128,12 +148,12 @@ none_rest contents x y command config s o is (read_rest schema script d e f) = n
 
 none_config : (contents : List ℕ → Told) (x y : ℕ) (command : Command) (text : List ℕ) (s : Status) (o : Outside) → s ≡ NoCommand → ConfigEnds contents x y command text s o → ⊥
 none_config contents x y command text s o is (configured config c e) = none_rest contents x y command config s o is e
-none_config contents x y command text s o is (faulty fault c none rows e) = subst (λ s. RefusedEnds (fault_line fault) s o) is e
+none_config contents x y command text s o is (faulty fault c none rows e) = subst (λ s. RefusedEnds Refused (fault_line fault) s o) is e
 none_config contents x y command text s o is (unparsed memory same) = let never : NoCommand ≡ NoMemory = sym is ∙ memory in absurd (cc)
 
 none_command : (contents : List ℕ → Told) (x y : ℕ) (command : Command) (s : Status) (o : Outside) → s ≡ NoCommand → CommandEnds contents x y command s o → ⊥
 none_command contents x y command s o is (unread e) = subst (λ s. UnreadEnds x y s o) is e
-none_command contents x y command s o is (long c rows e) = subst (λ s. RefusedEnds config_too_long s o) is e
+none_command contents x y command s o is (long c rows e) = subst (λ s. RefusedEnds Refused config_too_long s o) is e
 none_command contents x y command s o is (read text c e) = none_config contents x y command text s o is e
 
 none_words : (command : Option Command) (contents : List ℕ → Told) (x y : ℕ) (s : Status) (o : Outside) → s ≡ NoCommand → WordsEnd command contents x y s o → command ≡ None
@@ -149,6 +169,7 @@ no_command_ends SinkFailed o e = inr (inl (refl, e.0))
 no_command_ends NoMemory o e = inr (inr refl)
 no_command_ends Done o e = absurd e
 no_command_ends Refused o e = absurd e
+no_command_ends ScriptRefused o e = absurd e
 no_command_ends FilesFailed o e = absurd e
 no_command_ends NotBuilt o e = absurd e
 
@@ -160,8 +181,9 @@ no_command_always words contents x y number o r is =
 
 -- status 2: the configuration is refused
 refused_texts : (command : Command) (config : Config) (schema script : Option (List ℕ)) (s : Status) (o : Outside) → s ≡ Refused → TextsEnds command config schema script s o → ⊥
-refused_texts command config schema script s o is (built lines b f) = subst (λ s. ScriptEnds lines s o) is f
-refused_texts command config schema script s o is (unbuilt none f) = subst (λ s. UnbuiltEnds s o) is f
+refused_texts command config schema script s o is (refused bytes why rows f) = let e : RefusedEnds ScriptRefused bytes Refused o = subst (λ s. RefusedEnds ScriptRefused bytes s o) is f in let never : ScriptRefused ≡ Refused = e.0 in absurd (cc)
+refused_texts command config schema script s o is (built deeds b f) = subst (λ s. ScriptEnds deeds s o) is f
+refused_texts command config schema script s o is (unbuilt stands none f) = subst (λ s. UnbuiltEnds s o) is f
 refused_texts command config schema script s o is (unchecked memory same) = let never : Refused ≡ NoMemory = sym is ∙ memory in absurd (cc)
 
 refused_rest : (contents : List ℕ → Told) (x y : ℕ) (command : Command) (config : Config) (s : Status) (o : Outside) → s ≡ Refused → RestEnds contents x y command config s o → ⊥
@@ -172,14 +194,14 @@ refused_config : (words : List (List ℕ)) (contents : List ℕ → Told) (x y :
     → IsRead (contents (config_name command)) 65536 (Some text) → ConfigEnds contents x y command text s o → ConfigRefused words contents o
 refused_config words contents x y command text s o named is c (configured config said e) = absurd (refused_rest contents x y command config s o is e)
 refused_config words contents x y command text s o named is c (faulty fault first none rows e) =
-    record { command = command; is = named; bytes = fault_line fault; cause = has_fault text fault c.0 first none refl; wrote = subst (λ s. RefusedEnds (fault_line fault) s o) is e; rows = rows }
+    record { command = command; is = named; bytes = fault_line fault; cause = has_fault text fault c.0 first none refl; wrote = (subst (λ s. RefusedEnds Refused (fault_line fault) s o) is e).1; rows = rows }
 refused_config words contents x y command text s o named is c (unparsed memory same) = let never : Refused ≡ NoMemory = sym is ∙ memory in absurd (cc)
 
 refused_command : (words : List (List ℕ)) (contents : List ℕ → Told) (x y : ℕ) (command : Command) (s : Status) (o : Outside) → command_of words ≡ Some command → s ≡ Refused
     → CommandEnds contents x y command s o → ConfigRefused words contents o
 refused_command words contents x y command s o named is (unread e) = absurd (subst (λ s. UnreadEnds x y s o) is e)
 refused_command words contents x y command s o named is (long c rows e) =
-    record { command = command; is = named; bytes = config_too_long; cause = too_long c refl; wrote = subst (λ s. RefusedEnds config_too_long s o) is e; rows = rows }
+    record { command = command; is = named; bytes = config_too_long; cause = too_long c refl; wrote = (subst (λ s. RefusedEnds Refused config_too_long s o) is e).1; rows = rows }
 refused_command words contents x y command s o named is (read text c e) = refused_config words contents x y command text s o named is c e
 
 refused_words : (words : List (List ℕ)) (command : Option Command) (contents : List ℕ → Told) (x y : ℕ) (s : Status) (o : Outside) → command_of words ≡ command → s ≡ Refused
@@ -210,15 +232,17 @@ unread_refuses : (x y : ℕ) (s : Status) (o : Outside) → UnreadEnds x y s o �
 unread_refuses x y Done o e = absurd e
 unread_refuses x y NoCommand o e = absurd e
 unread_refuses x y Refused o e = absurd e
+unread_refuses x y ScriptRefused o e = absurd e
 unread_refuses x y FilesFailed o e = inr (inl (refl, e.0))
 unread_refuses x y SinkFailed o e = absurd e
 unread_refuses x y NoMemory o e = inr (inr (inr refl))
 unread_refuses x y NotBuilt o e = absurd e
 
-line_refuses : (x y : ℕ) (bytes : List ℕ) (s : Status) (o : Outside) → RefusedEnds bytes s o → Refuses x y (code_of s) o
+line_refuses : (x y : ℕ) (bytes : List ℕ) (s : Status) (o : Outside) → RefusedEnds Refused bytes s o → Refuses x y (code_of s) o
 line_refuses x y bytes Done o e = absurd e
 line_refuses x y bytes NoCommand o e = absurd e
 line_refuses x y bytes Refused o e = inl refl
+line_refuses x y bytes ScriptRefused o e = let never : Refused ≡ ScriptRefused = e.0 in absurd (cc)
 line_refuses x y bytes FilesFailed o e = absurd e
 line_refuses x y bytes SinkFailed o e = inr (inr (inl (refl, e.0)))
 line_refuses x y bytes NoMemory o e = inr (inr (inr refl))
@@ -249,11 +273,12 @@ refuses words contents x y number o r command text named tells is =
 
 -- status 0
 done_texts : (command : Command) (config : Config) (schema script : Option (List ℕ)) (text : List ℕ) (s : Status) (o : Outside) → s ≡ Done → script ≡ Some text → TextsEnds command config schema script s o → Played text o
-done_texts command config schema script text s o is tells (built lines b f) =
-    let ends : ScriptEnds lines Done o = subst (λ s. ScriptEnds lines s o) is f in
-    let same : b.text ≡ text = (let e : Some b.text ≡ Some text = sym b.script_is ∙ tells in cc) in
-    record { lines = lines; spells = subst (λ t. IsScript t lines) same b.spells; wrote = ends.0; rows = ends.1 }
-done_texts command config schema script text s o is tells (unbuilt none f) = absurd (subst (λ s. UnbuiltEnds s o) is f)
+done_texts command config schema script text s o is tells (refused bytes why rows f) = absurd (subst (λ s. RefusedEnds ScriptRefused bytes s o) is f)
+done_texts command config schema script text s o is tells (built deeds b f) =
+    let ends : ScriptEnds deeds Done o = subst (λ s. ScriptEnds deeds s o) is f in
+    let same : b.reads.text ≡ text = (let e : Some b.reads.text ≡ Some text = sym b.reads.is ∙ tells in cc) in
+    record { lines = b.lines; says = subst (λ t. IsScript t b.lines) same b.reads.says; deeds = deeds; done = b.done; one = b.one; wrote = ends.0; rows = ends.1 }
+done_texts command config schema script text s o is tells (unbuilt stands none f) = absurd (subst (λ s. UnbuiltEnds s o) is f)
 done_texts command config schema script text s o is tells (unchecked memory same) = let never : Done ≡ NoMemory = sym is ∙ memory in absurd (cc)
 
 read_some : (told : Told) (limit : ℕ) (got : Option (List ℕ)) (text : List ℕ) → told ≡ content text → (got ≡ None → ⊥) → IsRead told limit got → got ≡ Some text
@@ -261,8 +286,9 @@ read_some told limit None text is some r = absurd (some refl)
 read_some told limit (Some bytes) text is some r = ap Some (subst (λ t. IsTold t bytes) is r.0)
 
 some_script : (command : Command) (config : Config) (schema script : Option (List ℕ)) (s : Status) (o : Outside) → s ≡ Done → TextsEnds command config schema script s o → script ≡ None → ⊥
-some_script command config schema script s o is (built lines b f) none = let never : None ≡ Some b.text = sym none ∙ b.script_is in absurd (cc)
-some_script command config schema script s o is (unbuilt nothing f) none = subst (λ s. UnbuiltEnds s o) is f
+some_script command config schema script s o is (refused bytes why rows f) none = subst (λ s. RefusedEnds ScriptRefused bytes s o) is f
+some_script command config schema script s o is (built deeds b f) none = let never : None ≡ Some b.reads.text = sym none ∙ b.reads.is in absurd (cc)
+some_script command config schema script s o is (unbuilt stands nothing f) none = subst (λ s. UnbuiltEnds s o) is f
 some_script command config schema script s o is (unchecked memory same) none = let never : Done ≡ NoMemory = sym is ∙ memory in absurd (cc)
 
 -- the command plays a script of that name
@@ -275,13 +301,13 @@ done_rest contents x y a b c journal config text s o is tells (read_rest schema 
 done_config : (contents : List ℕ → Told) (x y : ℕ) (a b c : List ℕ) (journal : Bool) (got text : List ℕ) (s : Status) (o : Outside) → s ≡ Done → contents c ≡ content text
     → ConfigEnds contents x y (Play a b c journal) got s o → Played text o
 done_config contents x y a b c journal got text s o is tells (configured config said e) = done_rest contents x y a b c journal config text s o is tells e
-done_config contents x y a b c journal got text s o is tells (faulty fault first none rows e) = absurd (subst (λ s. RefusedEnds (fault_line fault) s o) is e)
+done_config contents x y a b c journal got text s o is tells (faulty fault first none rows e) = absurd (subst (λ s. RefusedEnds Refused (fault_line fault) s o) is e)
 done_config contents x y a b c journal got text s o is tells (unparsed memory same) = let never : Done ≡ NoMemory = sym is ∙ memory in absurd (cc)
 
 done_command : (contents : List ℕ → Told) (x y : ℕ) (a b c : List ℕ) (journal : Bool) (text : List ℕ) (s : Status) (o : Outside) → s ≡ Done → contents c ≡ content text
     → CommandEnds contents x y (Play a b c journal) s o → Played text o
 done_command contents x y a b c journal text s o is tells (unread e) = absurd (subst (λ s. UnreadEnds x y s o) is e)
-done_command contents x y a b c journal text s o is tells (long d rows e) = absurd (subst (λ s. RefusedEnds config_too_long s o) is e)
+done_command contents x y a b c journal text s o is tells (long d rows e) = absurd (subst (λ s. RefusedEnds Refused config_too_long s o) is e)
 done_command contents x y a b c journal text s o is tells (read got d e) = done_config contents x y a b c journal got text s o is tells e
 
 pub played : (words : List (List ℕ)) (contents : List ℕ → Told) (x y number : ℕ) (o : Outside) → Returns words contents x y number o → number ≡ 0

@@ -2,8 +2,9 @@
 use Rattle.std.specs.Prelude.{◌≡◌, ◌<◌, ◌⊎◌, ℕ, length, List, ◌++◌, Option, Some, None, codes}
 use Rattle.pool_base.specs.Outside.{Rose, Appends, AppendsFront, Told, IsTold, IsLonger}
 use Rattle.backend_trait.specs.Rows.{Rows}
-use Rattle.play.specs.declared.script.ScriptLine.{ScriptLine}
-use Rattle.play.specs.Script.{IsScript}
+use Rattle.pgproto.specs.Line.{Line}
+use Rattle.pgproto.specs.Script.{IsScript}
+use Rattle.play.specs.Script.{Deed, AreDone, IsOneSession}
 use Rattle.play.specs.Transcript.{transcript_of, final_rows}
 use Rattle.pool.specs.declared.status.Status.{Status}
 use Rattle.pool_command.specs.declared.command.Command.{Command}
@@ -12,8 +13,9 @@ use Rattle.pool_config.specs.declared.config.Config.{Config}
 use Rattle.pool_config.specs.declared.fault.ConfigFault.{ConfigFault}
 use Rattle.pool_config.specs.Configuration.{IsConfiguration, IsFault}
 use Rattle.pool_config.specs.Printed.{shown}
-use Rattle.pool.specs.declared.status.Status.TheVariants.{Done, NoCommand, Refused, FilesFailed, SinkFailed, NoMemory, NotBuilt}
+use Rattle.pool.specs.declared.status.Status.TheVariants.{Done, NoCommand, Refused, ScriptRefused, FilesFailed, SinkFailed, NoMemory, NotBuilt}
 use Rattle.pool.specs.Status.{code_of}
+use Rattle.pool.specs.Scripts.{ScriptCause, Stands, IsRefusedScript, has_script}
 use Rattle.pool.specs.Texts.{config_name, schema_name, IsRead, IsScriptRead, IsBuilt, line}
 
 abbrev pub no_command : List ℕ
@@ -49,26 +51,29 @@ abbrev pub NoCommandEnds : Status → Outside → Type 0
 NoCommandEnds Done o = ⊥
 NoCommandEnds NoCommand o = Appends o.had o.has no_command
 NoCommandEnds Refused o = ⊥
+NoCommandEnds ScriptRefused o = ⊥
 NoCommandEnds FilesFailed o = ⊥
 NoCommandEnds SinkFailed o = Fails o no_command
 NoCommandEnds NoMemory o = o.has ≡ o.had
 NoCommandEnds NotBuilt o = ⊥
 
--- the configuration read is refused, and this line says why; memory may be refused before it is written
-abbrev pub RefusedEnds : List ℕ → Status → Outside → Type 0
-RefusedEnds bytes Done o = ⊥
-RefusedEnds bytes NoCommand o = ⊥
-RefusedEnds bytes Refused o = Appends o.had o.has bytes
-RefusedEnds bytes FilesFailed o = ⊥
-RefusedEnds bytes SinkFailed o = Fails o bytes
-RefusedEnds bytes NoMemory o = o.has ≡ o.had
-RefusedEnds bytes NotBuilt o = ⊥
+-- a text that was read is refused with this status, and this line says why; memory may be refused before it is written
+abbrev pub RefusedEnds : Status → List ℕ → Status → Outside → Type 0
+RefusedEnds wanted bytes Done o = ⊥
+RefusedEnds wanted bytes NoCommand o = ⊥
+RefusedEnds wanted bytes Refused o = (wanted ≡ Refused) × Appends o.had o.has bytes
+RefusedEnds wanted bytes ScriptRefused o = (wanted ≡ ScriptRefused) × Appends o.had o.has bytes
+RefusedEnds wanted bytes FilesFailed o = ⊥
+RefusedEnds wanted bytes SinkFailed o = Fails o bytes
+RefusedEnds wanted bytes NoMemory o = o.has ≡ o.had
+RefusedEnds wanted bytes NotBuilt o = ⊥
 
 -- a text was not read, or memory was refused before
 abbrev pub UnreadEnds : ℕ → ℕ → Status → Outside → Type 0
 UnreadEnds before after Done o = ⊥
 UnreadEnds before after NoCommand o = ⊥
 UnreadEnds before after Refused o = ⊥
+UnreadEnds before after ScriptRefused o = ⊥
 UnreadEnds before after FilesFailed o = Rose before after × (o.has ≡ o.had)
 UnreadEnds before after SinkFailed o = ⊥
 UnreadEnds before after NoMemory o = o.has ≡ o.had
@@ -79,32 +84,38 @@ abbrev pub UnbuiltEnds : Status → Outside → Type 0
 UnbuiltEnds Done o = ⊥
 UnbuiltEnds NoCommand o = ⊥
 UnbuiltEnds Refused o = ⊥
+UnbuiltEnds ScriptRefused o = ⊥
 UnbuiltEnds FilesFailed o = ⊥
 UnbuiltEnds SinkFailed o = Fails o not_built
 UnbuiltEnds NoMemory o = ⊥
 UnbuiltEnds NotBuilt o = Appends o.had o.has not_built
 
 -- the script is played
-abbrev pub ScriptEnds : List ScriptLine → Status → Outside → Type 0
-ScriptEnds lines Done o = Appends o.had o.has (transcript_of o.rows_before lines) × (o.rows_after ≡ final_rows o.rows_before lines)
-ScriptEnds lines NoCommand o = ⊥
-ScriptEnds lines Refused o = ⊥
-ScriptEnds lines FilesFailed o = ⊥
-ScriptEnds lines SinkFailed o = Fails o (transcript_of o.rows_before lines)
-ScriptEnds lines NoMemory o = AppendsFront o.had o.has (transcript_of o.rows_before lines)
-ScriptEnds lines NotBuilt o = ⊥
+abbrev pub ScriptEnds : List Deed → Status → Outside → Type 0
+ScriptEnds deeds Done o = Appends o.had o.has (transcript_of o.rows_before deeds) × (o.rows_after ≡ final_rows o.rows_before deeds)
+ScriptEnds deeds NoCommand o = ⊥
+ScriptEnds deeds Refused o = ⊥
+ScriptEnds deeds ScriptRefused o = ⊥
+ScriptEnds deeds FilesFailed o = ⊥
+ScriptEnds deeds SinkFailed o = Fails o (transcript_of o.rows_before deeds)
+ScriptEnds deeds NoMemory o = AppendsFront o.had o.has (transcript_of o.rows_before deeds)
+ScriptEnds deeds NotBuilt o = ⊥
 
 -- a script of this text was played to its end
 pub record Played (text : List ℕ) (o : Outside) : Type 0 where
-  pub lines : List ScriptLine
-  pub spells : IsScript text lines
-  pub wrote : Appends o.had o.has (transcript_of o.rows_before lines)
-  pub rows : o.rows_after ≡ final_rows o.rows_before lines
+  pub lines : List Line
+  pub says : IsScript text lines
+  pub deeds : List Deed
+  pub done : AreDone lines deeds
+  pub one : IsOneSession deeds
+  pub wrote : Appends o.had o.has (transcript_of o.rows_before deeds)
+  pub rows : o.rows_after ≡ final_rows o.rows_before deeds
 
--- all texts of the command were read
+-- all texts of the command were read: the script is refused and nothing else is done, it is played, or it stands and asks for what is not built
 pub data TextsEnds (command : Command) (config : Config) (schema script : Option (List ℕ)) (status : Status) (o : Outside) : Type 0 where
-  built : (lines : List ScriptLine) → IsBuilt command config schema script lines → ScriptEnds lines status o → TextsEnds command config schema script status o
-  unbuilt : ((lines : List ScriptLine) → IsBuilt command config schema script lines → ⊥) → UnbuiltEnds status o → TextsEnds command config schema script status o
+  refused : (bytes : List ℕ) → ScriptCause command script bytes → o.rows_after ≡ o.rows_before → RefusedEnds ScriptRefused bytes status o → TextsEnds command config schema script status o
+  built : (deeds : List Deed) → IsBuilt command config schema script deeds → ScriptEnds deeds status o → TextsEnds command config schema script status o
+  unbuilt : Stands command script → ((deeds : List Deed) → IsBuilt command config schema script deeds → ⊥) → UnbuiltEnds status o → TextsEnds command config schema script status o
   unchecked : status ≡ NoMemory → o.has ≡ o.had → TextsEnds command config schema script status o
 
 -- the configuration stands: the other texts of the command were read, or one was not
@@ -120,13 +131,13 @@ SaysNone text = (config : Config) → IsConfiguration text config → ⊥
 -- the text of the configuration was read: it says a configuration, or it has a first fault and nothing else is done
 pub data ConfigEnds (contents : List ℕ → Told) (before after : ℕ) (command : Command) (text : List ℕ) (status : Status) (o : Outside) : Type 0 where
   configured : (config : Config) → IsConfiguration text config → RestEnds contents before after command config status o → ConfigEnds contents before after command text status o
-  faulty : (fault : ConfigFault) → IsFault text fault → SaysNone text → o.rows_after ≡ o.rows_before → RefusedEnds (fault_line fault) status o → ConfigEnds contents before after command text status o
+  faulty : (fault : ConfigFault) → IsFault text fault → SaysNone text → o.rows_after ≡ o.rows_before → RefusedEnds Refused (fault_line fault) status o → ConfigEnds contents before after command text status o
   unparsed : status ≡ NoMemory → o.has ≡ o.had → ConfigEnds contents before after command text status o
 
 -- the words are a command: its configuration was not read, is too long, or was read
 pub data CommandEnds (contents : List ℕ → Told) (before after : ℕ) (command : Command) (status : Status) (o : Outside) : Type 0 where
   unread : UnreadEnds before after status o → CommandEnds contents before after command status o
-  long : IsRead (contents (config_name command)) 65536 None → o.rows_after ≡ o.rows_before → RefusedEnds config_too_long status o → CommandEnds contents before after command status o
+  long : IsRead (contents (config_name command)) 65536 None → o.rows_after ≡ o.rows_before → RefusedEnds Refused config_too_long status o → CommandEnds contents before after command status o
   read : (text : List ℕ) → IsRead (contents (config_name command)) 65536 (Some text) → ConfigEnds contents before after command text status o → CommandEnds contents before after command status o
 
 abbrev pub WordsEnd : Option Command → (List ℕ → Told) → ℕ → ℕ → Status → Outside → Type 0
@@ -160,12 +171,24 @@ pub record ConfigRefused (words : List (List ℕ)) (contents : List ℕ → Told
   pub wrote : Appends o.had o.has bytes
   pub rows : o.rows_after ≡ o.rows_before
 
+-- the script that the command names was refused, its line was written, and nothing else was done
+pub record ScriptIsRefused (words : List (List ℕ)) (contents : List ℕ → Told) (o : Outside) : Type 0 where
+  pub command : Command
+  pub is : command_of words ≡ Some command
+  pub script : Option (List ℕ)
+  pub read : IsScriptRead contents command script
+  pub bytes : List ℕ
+  pub cause : ScriptCause command script bytes
+  pub wrote : Appends o.had o.has bytes
+  pub rows : o.rows_after ≡ o.rows_before
+
 -- a line that is to be written, and the status that it comes with
 abbrev pub Says : Status → Status → List ℕ → Option (List ℕ) → Option (List ℕ) → ℕ → ℕ → Type 0
 Says wanted SinkFailed bytes old new before after = Rose before after × AppendsFront old new bytes
 Says wanted Done bytes old new before after = (wanted ≡ Done) × Appends old new bytes
 Says wanted NoCommand bytes old new before after = (wanted ≡ NoCommand) × Appends old new bytes
 Says wanted Refused bytes old new before after = (wanted ≡ Refused) × Appends old new bytes
+Says wanted ScriptRefused bytes old new before after = (wanted ≡ ScriptRefused) × Appends old new bytes
 Says wanted FilesFailed bytes old new before after = (wanted ≡ FilesFailed) × Appends old new bytes
 Says wanted NoMemory bytes old new before after = (wanted ≡ NoMemory) × Appends old new bytes
 Says wanted NotBuilt bytes old new before after = (wanted ≡ NotBuilt) × Appends old new bytes

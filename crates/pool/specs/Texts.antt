@@ -1,11 +1,12 @@
 -- The texts that a command names, what is read of them, and what is built.
 use Rattle.std.specs.Prelude.{◌≡◌, ◌≤◌, ℕ, Bool, true, false, not, List, [], ◌∷◌, ◌++◌, Option, Some, None, length, codes}
 use Rattle.pool_base.specs.Outside.{Told, IsTold, IsLonger}
-use Rattle.play.specs.declared.script.ScriptLine.{ScriptLine}
-use Rattle.play.specs.Script.{IsScript}
+use Rattle.pgproto.specs.Line.{Line}
+use Rattle.play.specs.Script.{Deed, AreDone, IsOneSession}
 use Rattle.pool_command.specs.declared.command.Command.{Command}
 use Rattle.pool_command.specs.declared.command.Command.TheVariants.{Play, Generate, Serve}
 use Rattle.pool_config.specs.declared.config.Config.{Config}
+use Rattle.pool.specs.Scripts.{IsReadAs}
 
 -- the file of the configuration
 abbrev pub config_name : Command → List ℕ
@@ -43,11 +44,12 @@ is_plain (Serve config schema) = false
 unfoldable pub built_schema : List ℕ
 built_schema = line (codes "CREATE TABLE t (id int4 PRIMARY KEY, v int8);")
 
--- what is built is asked for: a script of one session, over one backend with that schema, without the journal
-pub record IsBuilt (command : Command) (config : Config) (schema script : Option (List ℕ)) (lines : List ScriptLine) : Type 0 where
+-- what is built is asked for: a script that has one session do this, over one backend with that schema, without the journal
+pub record IsBuilt (command : Command) (config : Config) (schema script : Option (List ℕ)) (deeds : List Deed) : Type 0 where
   pub plain : is_plain command ≡ true
   pub one_backend : length config.nodes ≡ 1
   pub schema_is : schema ≡ Some built_schema
-  pub text : List ℕ
-  pub script_is : script ≡ Some text
-  pub spells : IsScript text lines
+  pub lines : List Line
+  pub reads : IsReadAs script lines
+  pub done : AreDone lines deeds
+  pub one : IsOneSession deeds

@@ -3,6 +3,7 @@
 
 mod memory;
 mod running;
+mod scripts;
 mod status;
 #[cfg(test)]
 mod tests;

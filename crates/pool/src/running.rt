@@ -1,19 +1,23 @@
 //! From the words to the status.
-ghost use Rattle.std.specs.Prelude.{◌≡◌, ◌≢◌, ◌≤◌, length, List as Sequence, map, IfOk, MatchOption};
-ghost use Rattle.play.specs.declared.script.ScriptLine.{ScriptLine};
+ghost use Rattle.std.specs.Prelude.{◌≡◌, ◌≢◌, ◌≤◌, length, List as Sequence, map, IfSome};
+ghost use Rattle.std.specs.List.{AllByRecursion};
+ghost use Rattle.pgproto.specs.Line.{line_of};
+ghost use Rattle.pgproto.specs.Spelling.{IsOfGrammar};
 ghost use Rattle.play.specs.Replies.{RowsFit};
-ghost use Rattle.play.specs.Script.{IsOneSession};
-ghost use Rattle.pool.specs.Texts.{IsBuilt};
+ghost use Rattle.play.specs.Script.{AreDone, Deed, IsSession};
+ghost use Rattle.pool.specs.Scripts.{IsReading, bad_line};
 ghost use Rattle.pool.specs.Ends.{outside, CommandEnds, ConfigEnds, RefusedEnds, RestEnds, TextsEnds, ScriptEnds, Ends, Returns, Says, fault_line};
 ghost use Rattle.backend_trait.specs.Rows.{Rows};
 ghost use Rattle.pool_config.specs.declared.fault.ConfigFault.TheVariants as faults;
 ghost use Rattle.pool.specs.declared.status.Status.TheVariants as status;
-ghost use Rattle.pool.specs.declared.status.Status.TheVariants.{SinkFailed};
+ghost use Rattle.pool.specs.declared.status.Status.TheVariants.{Refused, ScriptRefused, SinkFailed};
 
+use crate::scripts::{ScriptStop, bad_line, read_lines};
 use crate::status::Status;
 use crate::texts::{Texts, are_built, fault_line, read_config, read_texts};
-use play::{Database, PlayFault, ScriptLine, play, read_script};
-use pool_base::{Files, List, NoMemory, Sink, write_all};
+use pgproto::{Script, ScriptLine, lines_of_grammar};
+use play::{Database, PlayFault, is_session, play};
+use pool_base::{Files, Sink, write_all};
 use pool_command::{Command, read_words};
 use pool_config::{Config, ConfigFault, parse_config};
 use std::alloc::Global;
@@ -103,7 +107,7 @@ fn run_config<F: Files, O: Sink, D: Database>(
 fn run_fault<O: Sink>(alloc: Global, fault: &ConfigFault, out: &mut O) -> Status
     ensures memory { fault.now ≡ faults.NoMemory → (result ≡ status.NoMemory)
         × (O.taken out.new ≡ O.taken out.old) }
-    ensures refuses { fault.now ≢ faults.NoMemory → (rows : Rows) → RefusedEnds (fault_line
+    ensures refuses { fault.now ≢ faults.NoMemory → (rows : Rows) → RefusedEnds Refused (fault_line
         fault.now) result (outside (O.fault_count out.old) (O.fault_count out.new)
         (O.taken out.old) (O.taken out.new) rows rows) }
 {
@@ -115,7 +119,7 @@ fn run_fault<O: Sink>(alloc: Global, fault: &ConfigFault, out: &mut O) -> Status
 
 /// Writes the line of a configuration's fault.
 fn refuse<O: Sink>(alloc: Global, fault: &ConfigFault, out: &mut O) -> Status
-    ensures { (rows : Rows) → RefusedEnds (fault_line fault.now) result (outside
+    ensures { (rows : Rows) → RefusedEnds Refused (fault_line fault.now) result (outside
         (O.fault_count out.old) (O.fault_count out.new) (O.taken out.old) (O.taken out.new)
         rows rows) }
 {
@@ -154,35 +158,56 @@ fn run_texts<O: Sink, D: Database>(
     out: &mut O,
     database: &mut D,
 ) -> Status
-    requires { RowsFit (D.rows database.old) }
+    requires short { IfSome texts.now.script (λ text. length text ≤ 4194304) }
+    requires fits { RowsFit (D.rows database.old) }
     ensures { TextsEnds command.now config.now texts.now.schema texts.now.script result (outside
         (O.fault_count out.old) (O.fault_count out.new) (O.taken out.old) (O.taken out.new)
         (D.rows database.old) (D.rows database.new)) }
 {
-    match built_script(alloc, command, config, texts) {
-        Err(_) => Status::NoMemory,
+    match read_lines(alloc, command, &texts.script) {
+        Err(ScriptStop::NoMemory) => Status::NoMemory,
+        Err(ScriptStop::TooLong) => {
+            say(out, b"pool: script is too long\n", Status::ScriptRefused)
+        }
+        Err(ScriptStop::BadLine(number)) => refuse_line(alloc, number, out),
         Ok(None) => say(out, b"pool: not built yet\n", Status::NotBuilt),
-        Ok(Some(script)) => run_script(alloc, script.as_slice(), out, database),
+        Ok(Some(lines)) => run_lines(alloc, command, config, texts, &lines, out, database),
     }
 }
 
-/// The lines of the script, if all that was read asks for what is built.
-fn built_script(
+/// Writes which line of the script is bad.
+fn refuse_line<O: Sink>(alloc: Global, number: u32, out: &mut O) -> Status
+    ensures { (rows : Rows) → RefusedEnds ScriptRefused (bad_line number) result (outside
+        (O.fault_count out.old) (O.fault_count out.new) (O.taken out.old) (O.taken out.new)
+        rows rows) }
+{
+    match bad_line(alloc, number) {
+        Err(_) => Status::NoMemory,
+        Ok(line) => say(out, line.as_bytes(), Status::ScriptRefused),
+    }
+}
+
+/// Plays the script, if all that was read asks for what is built.
+fn run_lines<O: Sink, D: Database>(
     alloc: Global,
     command: &Command,
     config: &Config,
     texts: &Texts,
-) -> Result<Option<List<ScriptLine>>, NoMemory>
-    ensures { IfOk result (λ found. MatchOption found ((lines : Sequence ScriptLine)
-        → IsBuilt command.now config.now texts.now.schema texts.now.script lines → ⊥)
-        (λ lines. IsBuilt command.now config.now texts.now.schema texts.now.script lines)) }
+    lines: &Script,
+    out: &mut O,
+    database: &mut D,
+) -> Status
+    requires read { IsReading texts.now.script (map line_of lines.now) }
+    requires fits { RowsFit (D.rows database.old) }
+    ensures { TextsEnds command.now config.now texts.now.schema texts.now.script result (outside
+        (O.fault_count out.old) (O.fault_count out.new) (O.taken out.old) (O.taken out.new)
+        (D.rows database.old) (D.rows database.new)) }
 {
-    if !are_built(command, config, &texts.schema) {
-        return Ok(None);
-    }
-    match &texts.script {
-        Some(text) => read_script(alloc, text.as_slice()),
-        None => Ok(None),
+    if are_built(command, config, &texts.schema) && is_session(lines.as_slice()) {
+        lines_of_grammar();
+        run_script(alloc, lines.as_slice(), out, database)
+    } else {
+        say(out, b"pool: not built yet\n", Status::NotBuilt)
     }
 }
 
@@ -192,9 +217,11 @@ fn run_script<O: Sink, D: Database>(
     out: &mut O,
     database: &mut D,
 ) -> Status
-    requires session { IsOneSession script.now }
+    requires grammar { AllByRecursion IsOfGrammar (map line_of script.now) }
+    requires session { IsSession (map line_of script.now) }
     requires fits { RowsFit (D.rows database.old) }
-    ensures { ScriptEnds script.now result (outside (O.fault_count out.old) (O.fault_count out.new)
+    ensures { (deeds : Sequence Deed) → AreDone (map line_of script.now) deeds
+        → ScriptEnds deeds result (outside (O.fault_count out.old) (O.fault_count out.new)
         (O.taken out.old) (O.taken out.new) (D.rows database.old) (D.rows database.new)) }
 {
     match play(alloc, script, database, out) {

@@ -11,6 +11,8 @@ pub enum Status {
     NoCommand,
     /// The configuration is refused.
     Refused,
+    /// The script is refused.
+    ScriptRefused,
     /// A file could not be read.
     FilesFailed,
     /// The output could not be written.
@@ -30,6 +32,7 @@ impl Status {
             Status::Done => 0,
             Status::NoCommand => 1,
             Status::Refused => 2,
+            Status::ScriptRefused => 3,
             Status::FilesFailed => 4,
             Status::SinkFailed => 5,
             Status::NoMemory => 7,

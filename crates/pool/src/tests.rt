@@ -112,18 +112,93 @@ fn a_sink_that_fails_has_a_front_of_the_transcript(rt: HostRuntime) -> Result<()
     Ok(())
 }
 
+/// Scripts that stand and ask for what is not built.
+const NOT_BUILT: [&str; 8] = [
+    "session 2\n",
+    "1 'X'\n",
+    "session 1\nsession 1\n",
+    "session 1\n1 'X'\n1 'X'\n",
+    "session 1\n1 'Q' \"SELECT 1\"\n",
+    "session 1\n2 'Q' \"\"\n",
+    "session 1\n1 'S'\n",
+    "cut 1\nsession 1\n",
+];
+
 #[test]
 fn other_scripts_are_not_built(rt: HostRuntime) -> Result<(), Fail> {
-    for script in [
-        "session 2\n",
-        "session 1",
-        "session 1\n1 'X'\n1 'X'\n",
-        "session 1\n1 'Q' \"SELECT 1\"\n",
-    ] {
+    for script in NOT_BUILT {
         let (code, output) = played(&rt, script, &[], &[])?;
         assert_eq!(rt; code, 9, "of {script}");
         assert_eq!(rt; output.as_slice(), b"pool: not built yet\n".as_slice());
     }
+    Ok(())
+}
+
+/// Scripts that are refused, and the line that says why.
+const BAD_LINES: [(&str, &str); 5] = [
+    (
+        "session 1\n1 'Q' \"SELECT 1\"\n1 'Z'\n",
+        "pool: script line 3: bad line\n",
+    ),
+    (
+        "# one\n\nsession 1\n# two\n1 'Z'\nlose 8\n",
+        "pool: script line 5: bad line\n",
+    ),
+    ("session 1", "pool: script line 1: bad line\n"),
+    ("session 65\n", "pool: script line 1: bad line\n"),
+    (
+        "session 1\n1 raw \"580\"\n",
+        "pool: script line 2: bad line\n",
+    ),
+];
+
+#[test]
+fn refused_scripts_are_named(rt: HostRuntime) -> Result<(), Fail> {
+    for (script, line) in BAD_LINES {
+        let (code, output) = played(&rt, script, &[], &[])?;
+        assert_eq!(rt; code, 3, "of {script}");
+        assert_eq!(rt; output.as_slice(), line.as_bytes(), "of {script}");
+    }
+    Ok(())
+}
+
+#[test]
+fn a_script_has_at_most_20000_lines(rt: HostRuntime) -> Result<(), Fail> {
+    let mut script = String::new(rt.alloc());
+    for _ in 0..20_000 {
+        script.push_str("\n")?;
+    }
+    let (code, output) = played(&rt, script.as_str(), &[], &[])?;
+    assert_eq!(rt; code, 0);
+    assert!(rt; output.is_empty());
+    script.push_str("#")?;
+    let (code, output) = played(&rt, script.as_str(), &[], &[])?;
+    assert_eq!(rt; code, 3);
+    assert_eq!(rt; output.as_slice(), b"pool: script is too long\n".as_slice());
+    Ok(())
+}
+
+#[test]
+fn a_script_is_refused_before_it_is_said_not_to_be_built(rt: HostRuntime) -> Result<(), Fail> {
+    let words = ["play", "config", "schema", "script", "--journal"];
+    let files = files(&rt, CONFIG, "session 1\n1 'Z'\n", &[])?;
+    let (code, output) = run(&rt, &words, files, &[])?;
+    assert_eq!(rt; code, 3);
+    assert_eq!(rt;
+        output.as_slice(),
+        b"pool: script line 2: bad line\n".as_slice()
+    );
+    Ok(())
+}
+
+#[test]
+fn an_empty_text_asks_for_nothing(rt: HostRuntime) -> Result<(), Fail> {
+    let script = "# a client that asks for nothing\n\nsession 1\n1 'Q' \"\"\n";
+    let (code, output) = played(&rt, script, &[], &[])?;
+    assert_eq!(rt; code, 0);
+    let end = b"1 <= BE ReadyForQuery (I)\n1 FE=> 'Q' \"\"\n1 <= BE EmptyQueryResponse\n\
+        1 <= BE ReadyForQuery (I)\n1 closed\n";
+    assert!(rt; output.as_slice().ends_with(end.as_slice()));
     Ok(())
 }
 

@@ -1,5 +1,5 @@
 //! The texts that a command names, and what is built.
-ghost use Rattle.std.specs.Prelude.{◌≡◌, ◌≤◌, ℕ, List as Sequence, Some, IsTrue, ◌↔◌, ◌++◌, IfOk, IfErr, length, true, string_bytes};
+ghost use Rattle.std.specs.Prelude.{◌≡◌, ◌≤◌, ℕ, List as Sequence, Some, IsTrue, ◌↔◌, ◌++◌, IfOk, IfErr, IfSome, length, true, string_bytes};
 ghost use Rattle.pool.specs.Texts.{config_name, schema_name, is_plain, IsRead, IsScriptRead, built_schema};
 ghost use Rattle.pool.specs.Reading.{IsFault};
 ghost use Rattle.pool.specs.Ends.{fault_line};
@@ -52,6 +52,7 @@ pub fn read_texts<F: Files>(
     ensures read { IfOk result
         (λ t. IsRead (F.contents files.old (schema_name command.now)) 262144 t.schema
         × IsScriptRead (F.contents files.old) command.now t.script) }
+    ensures short { IfOk result (λ t. IfSome t.script (λ text. length text ≤ 4194304)) }
     ensures fault { IfErr result (IsFault (F.fault_count files.old) (F.fault_count files.new)) }
 {
     let schema = read_text(alloc, files, schema_name(command), SCHEMA_LIMIT)?;
@@ -66,6 +67,7 @@ fn read_script_text<F: Files>(
     files: &mut F,
 ) -> Result<Option<List<u8>>, Status>
     ensures read { IfOk result (IsScriptRead (F.contents files.old) command.now) }
+    ensures short { IfOk result (λ text. IfSome text (λ bytes. length bytes ≤ 4194304)) }
     ensures fault { IfErr result (IsFault (F.fault_count files.old) (F.fault_count files.new)) }
 {
     match command {

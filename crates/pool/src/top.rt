@@ -7,7 +7,8 @@ ghost use Rattle.pool_command.specs.Command.{command_of};
 ghost use Rattle.pool_command.specs.declared.command.Command.{Command};
 ghost use Rattle.pool_command.specs.declared.command.Command.TheVariants.{Play};
 ghost use Rattle.pool.specs.Texts.{config_name};
-ghost use Rattle.pool.specs.Ends.{outside, Returns, Played, ConfigRefused, IsRefusedText};
+ghost use Rattle.pool.specs.Scripts.{IsRefusedScript};
+ghost use Rattle.pool.specs.Ends.{outside, Returns, Played, ConfigRefused, IsRefusedText, ScriptIsRefused};
 
 use crate::memory::InMemory;
 use crate::running::run;
@@ -58,6 +59,23 @@ pub fn pool_run<F: Files, O: Sink>(
         → (result ≡ 2) ⊎ (((result ≡ 4) × Rose (F.fault_count files.old) (F.fault_count files.new))
         ⊎ (((result ≡ 5) × Rose (O.fault_count out.old) (O.fault_count out.new))
         ⊎ (result ≡ 7))) }
+    // Status 3: exactly where the script that the command names is refused, unless the
+    // configuration is, a file was not read, its line could not be written, or memory was refused.
+    ensures script_refused { result ≡ 3 → ScriptIsRefused (map (λ w. w.now) words.now)
+        (F.contents files.old) (outside (O.fault_count out.old) (O.fault_count out.new)
+        (O.taken out.old) (O.taken out.new) (committed_rows store.old)
+        (committed_rows store.new)) }
+    ensures script_accepted { result ≡ 3 → (config schema script text : Sequence ℕ)
+        (journal : Bool)
+        → command_of (map (λ w. w.now) words.now) ≡ Some (Play config schema script journal)
+        → F.contents files.old script ≡ content text → IsRefusedScript text }
+    ensures script_refuses { (config schema script text : Sequence ℕ) (journal : Bool)
+        → command_of (map (λ w. w.now) words.now) ≡ Some (Play config schema script journal)
+        → F.contents files.old script ≡ content text → IsRefusedScript text
+        → (result ≡ 3) ⊎ ((result ≡ 2)
+        ⊎ (((result ≡ 4) × Rose (F.fault_count files.old) (F.fault_count files.new))
+        ⊎ (((result ≡ 5) × Rose (O.fault_count out.old) (O.fault_count out.new))
+        ⊎ (result ≡ 7)))) }
     // Status 4 and 5: only where the count rose.
     ensures files { result ≡ 4 → Rose (F.fault_count files.old) (F.fault_count files.new) }
     ensures sink { result ≡ 5 → Rose (O.fault_count out.old) (O.fault_count out.new) }

@@ -1,0 +1,60 @@
+-- What is read of a script, and whether that asks for what is built.
+use Rattle.std.proofs.Common.{◌≡◌, ℕ, ◌≤◌, Bool, true, false, List, length, map, refl, sym, ap, ◌∙◌, subst}
+use Rattle.std.specs.Prelude.{Option, Some, None, Result, Ok, Err}
+use Rattle.std.proofs.lemmas.Bool.{false≢true}
+use Rattle.pgproto.specs.Line.{Line, line_of}
+use Rattle.pgproto.specs.declared.line.ScriptLine.{ScriptLine}
+use Rattle.pgproto.specs.Script.{IsScript, IsBadAt, IfBadLine, IsScriptOr}
+use Rattle.pgproto.specs.declared.script.ScriptFault.{ScriptFault}
+use Rattle.pgproto.specs.declared.script.ScriptFault.TheVariants as scripts
+use Rattle.play.specs.Script.{Deed, AreDone, IsOneSession, IsSession}
+use Rattle.pool_command.specs.declared.command.Command.{Command}
+use Rattle.pool_command.specs.declared.command.Command.TheVariants.{Play, Generate, Serve}
+use Rattle.pool_config.specs.declared.config.Config.{Config}
+use Rattle.pool.specs.declared.scripts.ScriptStop.{ScriptStop}
+use Rattle.pool.specs.declared.scripts.ScriptStop.TheVariants.{TooLong, BadLine}
+use Rattle.pool.specs.Scripts.{IsAnswer, IsReadAs, IsReading, ScriptCause, SaysNoScript, bad_line, script_too_long, has_script, lines_in}
+use Rattle.pool.specs.Texts.{IsBuilt, is_plain, built_schema}
+
+-- one text has one reading
+pub reading : (script : Option (List ℕ)) (text : List ℕ) (lines : List Line) → script ≡ Some text → lines_in text ≤ 20000 → IsScript text lines → ((found : List Line) → IsScript text found → lines ≡ found) → IsReading script lines
+reading script text lines some few says only = record {
+  reads = record { text = text; is = some; few = few; says = says };
+  only = λ found r. let same : r.text ≡ text = (let e : Some r.text ≡ Some text = sym r.is ∙ some in cc) in only found (subst (λ t. IsScript t found) same r.says);
+}
+
+-- a command without a script asks for what is not built
+pub none_without : (command : Command) (config : Config) (schema script : Option (List ℕ)) → has_script command ≡ false → (deeds : List Deed) → IsBuilt command config schema script deeds → ⊥
+none_without (Play x y z journal) config schema script none deeds b = absurd (false≢true (sym none))
+none_without (Generate x y number size) config schema script none deeds b = false≢true b.plain
+none_without (Serve x y) config schema script none deeds b = false≢true b.plain
+
+-- what else is built, and that the lines are of one session
+abbrev pub Others : Command → Config → Option (List ℕ) → Type 0
+Others command config schema = (is_plain command ≡ true) × ((length config.nodes ≡ 1) × (schema ≡ Some built_schema))
+
+pub others_of : (command : Command) (config : Config) (schema script : Option (List ℕ)) (deeds : List Deed) → IsBuilt command config schema script deeds → Others command config schema
+others_of command config schema script deeds b = (b.plain, (b.one_backend, b.schema_is))
+
+pub session_of : (command : Command) (config : Config) (schema script : Option (List ℕ)) (lines : List Line) (deeds : List Deed) → IsReading script lines → IsBuilt command config schema script deeds → IsSession lines
+session_of command config schema script lines deeds r b = subst IsSession (sym (r.only b.lines b.reads)) (record { deeds = deeds; done = b.done; one = b.one })
+
+-- the reader's answer, at each of its forms
+pub too_long_at : (command : Command) (script : Option (List ℕ)) (stop : ScriptStop) → stop ≡ TooLong → IsAnswer command script (Err stop) → ScriptCause command script script_too_long
+too_long_at command script stop is h = subst (λ (e : ScriptStop). IsAnswer command script (Err e)) is h
+
+pub bad_line_at : (command : Command) (script : Option (List ℕ)) (stop : ScriptStop) (n : ℕ) → stop ≡ BadLine n → IsAnswer command script (Err stop) → ScriptCause command script (bad_line n)
+bad_line_at command script stop n is h = subst (λ (e : ScriptStop). IsAnswer command script (Err e)) is h
+
+pub none_at : (command : Command) (script : Option (List ℕ)) (found : Option (List ScriptLine)) → found ≡ None → IsAnswer command script (Ok found) → has_script command ≡ false
+none_at command script found is h = subst (λ (f : Option (List ScriptLine)). IsAnswer command script (Ok f)) is h
+
+pub lines_at : (command : Command) (script : Option (List ℕ)) (found : Option (List ScriptLine)) (lines : List ScriptLine) → found ≡ Some lines → IsAnswer command script (Ok found) → IsReading script (map line_of lines)
+lines_at command script found lines is h = subst (λ (f : Option (List ScriptLine)). IsAnswer command script (Ok f)) is h
+
+-- the fault of a script, where it is a bad line
+pub bad_at : (fault : ScriptFault) (n : ℕ) (text : List ℕ) → fault ≡ scripts.BadLine n → IfBadLine {X = List ScriptLine} (Err fault) (IsBadAt text) → IsBadAt text n
+bad_at fault n text is h = subst (λ (f : ScriptFault). IfBadLine {X = List ScriptLine} (Err f) (IsBadAt text)) is h
+
+pub none_of_bad : (fault : ScriptFault) (n : ℕ) (text : List ℕ) → fault ≡ scripts.BadLine n → ((found : List Line) → IsScript text found → IsScriptOr (Err fault) found) → SaysNoScript text
+none_of_bad fault n text is h = λ found says. subst (λ (f : ScriptFault). IsScriptOr (Err f) found) is (h found says)
