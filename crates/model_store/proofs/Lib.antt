@@ -1,1 +1,10 @@
+pub mod LogLaws
+pub mod WorkLaws
+pub mod ConflictLaws
+pub mod VerdictLaws
+pub mod FormLaws
+pub mod StoreLaws
+pub mod ActLaws
+pub mod RowLaws
+pub mod NewLaws
 pub mod TableLaws

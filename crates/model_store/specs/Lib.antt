@@ -1,2 +1,9 @@
+pub mod Log
+pub mod Phases
+pub mod Seats
+pub mod Conflicts
+pub mod Verdicts
+pub mod Meaning
+pub mod Acting
 pub mod Table
 pub mod Committed

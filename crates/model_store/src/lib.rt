@@ -1,8 +1,23 @@
-//! A database in memory.
+//! A database in memory: a log of committed change sets, and a seat for each session.
 #![tactic(auto)]
 
+mod backend;
+mod change;
+mod conflict;
+mod grant;
+mod log;
+mod phase;
+mod room;
+mod rows;
+mod seat;
+mod serving;
+mod single;
 mod store;
+mod transaction;
+mod verdict;
+mod waiting;
 
+pub use single::SingleStore;
 pub use store::MemoryStore;
 
 #[cfg(test)]

@@ -4,7 +4,7 @@ use pool_base::{Code, NoMemory};
 use std::alloc::Global;
 
 fn played(alloc: Global) -> Result<bool, NoMemory> {
-    let mut store = MemoryStore::new(alloc);
+    let mut store = SingleStore::new(alloc);
     let first = store.run(Checked::Insert { key: 1, value: 10 })?;
     let second = store.run(Checked::Insert { key: 1, value: 11 })?;
     let read = store.run(Checked::Select { key: 1 })?;

@@ -11,7 +11,7 @@ mod texts;
 mod top;
 
 use crate::top::pool_run;
-use model_store::MemoryStore;
+use model_store::SingleStore;
 use pool_base::{SystemFiles, WriterSink};
 use std::process::ExitCode;
 use std::{env, io};
@@ -27,7 +27,7 @@ fn main(rt: HostRuntime) -> io::Result<ExitCode> {
     }
     let mut files = SystemFiles::new(rt.clone()?);
     let mut out = WriterSink::new(io::writer(&rt));
-    let mut store = MemoryStore::new(rt.alloc());
+    let mut store = SingleStore::new(rt.alloc());
     let code = pool_run(
         rt.alloc(),
         words.as_slice(),

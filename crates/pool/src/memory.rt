@@ -2,7 +2,7 @@
 ghost use Rattle.model_store.specs.Committed.{committed_rows};
 
 use backend_trait::{Answer, Checked};
-use model_store::MemoryStore;
+use model_store::SingleStore;
 use play::Database;
 use pool_base::NoMemory;
 use sql_profile::Statement;
@@ -10,7 +10,7 @@ use sql_profile::Statement;
 /// A store in memory, whose statements run one after another.
 #[derive(Drop)]
 pub struct InMemory {
-    pub store: MemoryStore,
+    pub store: SingleStore,
 }
 
 impl Database for InMemory {

@@ -1,5 +1,5 @@
 use crate::top::pool_run;
-use model_store::MemoryStore;
+use model_store::SingleStore;
 use pool_base::{List, MemoryFiles, MemorySink, NoMemory, Text};
 use std::test::Fail;
 
@@ -57,7 +57,7 @@ fn run(
 ) -> Result<(u8, List<u8>), NoMemory> {
     let alloc = rt.alloc();
     let mut out = MemorySink::new(alloc, List::from_slice(alloc, sink_fails)?);
-    let mut store = MemoryStore::new(alloc);
+    let mut store = SingleStore::new(alloc);
     let code = pool_run(alloc, words, &mut files, &mut out, &mut store);
     Ok((code, List::from_slice(alloc, out.taken_bytes())?))
 }

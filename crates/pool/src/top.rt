@@ -12,7 +12,7 @@ ghost use Rattle.pool.specs.Ends.{outside, Returns, Played, ConfigRefused, IsRef
 
 use crate::memory::InMemory;
 use crate::running::run;
-use model_store::MemoryStore;
+use model_store::SingleStore;
 use pool_base::{Files, Sink};
 use std::alloc::Global;
 use std::mem;
@@ -23,7 +23,7 @@ pub fn pool_run<F: Files, O: Sink>(
     words: &[&str],
     files: &mut F,
     out: &mut O,
-    store: &mut MemoryStore,
+    store: &mut SingleStore,
 ) -> u8
     requires { committed_rows store.old ≡ no_rows }
     // Each status comes with its cause, and with what was written.
@@ -88,7 +88,7 @@ fn run_in_memory<F: Files, O: Sink>(
     words: &[&str],
     files: &mut F,
     out: &mut O,
-    store: &mut MemoryStore,
+    store: &mut SingleStore,
 ) -> u8
     requires { committed_rows store.old ≡ no_rows }
     ensures { Returns (map (λ w. w.now) words.now) (F.contents files.old)
@@ -96,7 +96,7 @@ fn run_in_memory<F: Files, O: Sink>(
         (outside (O.fault_count out.old) (O.fault_count out.new) (O.taken out.old)
         (O.taken out.new) (committed_rows store.old) (committed_rows store.new)) }
 {
-    let held = mem::replace(store, MemoryStore::new(alloc));
+    let held = mem::replace(store, SingleStore::new(alloc));
     let mut database = InMemory { store: held };
     let code = run(alloc, words, files, out, &mut database);
     let InMemory { store: after } = database;

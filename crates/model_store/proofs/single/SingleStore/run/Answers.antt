@@ -2,7 +2,7 @@ use Rattle.std.proofs.Common.{rules, SFits, w32}
 use Rattle.std.proofs.lemmas.Int.{to_z-of_z}
 use Rattle.model_store.specs.Committed.{committed_rows}
 use Rattle.model_store.proofs.TableLaws.{reads, reads_only}
-use Rattle.model_store.proofs.store.MemoryStore.run.Goals as goal
+use Rattle.model_store.proofs.single.SingleStore.run.Goals as goal
 
 pub returns-in_ok-rows-in-Select-clause-answer : goal.returns-in_ok-rows-in-Select-clause-answer
 returns-in_ok-rows-in-Select-clause-answer c =

@@ -1,7 +1,7 @@
 use Rattle.std.proofs.Common.{◌≡◌, true, false, rules, refl, sym, ◌∙◌, SFits, w32, w64}
 use Rattle.std.proofs.lemmas.Int.{to_z-of_z}
 use Rattle.model_store.proofs.TableLaws.{refuses, stays, inserts, one_more}
-use Rattle.model_store.proofs.store.MemoryStore.insert.Goals as goal
+use Rattle.model_store.proofs.single.SingleStore.insert.Goals as goal
 
 pub returns-then-contains_key-clause-answer : goal.returns-then-contains_key-clause-answer
 returns-then-contains_key-clause-answer c =

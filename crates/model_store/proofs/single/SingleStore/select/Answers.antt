@@ -2,7 +2,7 @@ use Rattle.std.proofs.Common.{rules, sym, ◌∙◌, SFits, w32, w64}
 use Rattle.std.proofs.lemmas.Int.{to_z-of_z}
 use Rattle.std.proofs.lemmas.Result.{IfOk-weaker}
 use Rattle.model_store.proofs.TableLaws.{none_at, one_at}
-use Rattle.model_store.proofs.store.MemoryStore.select.Goals as goal
+use Rattle.model_store.proofs.single.SingleStore.select.Goals as goal
 
 pub returns-in-Some : goal.returns-in-Some
 returns-in-Some c =

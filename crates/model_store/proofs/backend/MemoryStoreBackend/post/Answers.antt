@@ -1,0 +1,35 @@
+use Rattle.std.proofs.Common.{◌≡◌, ◌<◌, ◌≤◌, true, refl, ap, arith, rules, length, vec_len, vec_capacity}
+use Rattle.std.proofs.lemmas.Option.{slice_get_read}
+use Rattle.model_store.proofs.StoreLaws.{marked_set, posted_room, posted_ok, mark_there, idle_seat, not_false}
+use Rattle.model_store.proofs.backend.MemoryStoreBackend.post.Goals as goal
+
+pub invariant_of-self-2-clause-marked : goal.invariant_of-self-2-clause-marked
+invariant_of-self-2-clause-marked c =
+    let seats = c.args.self.now.seats.items in
+    let at = c.args.s.number in
+    let within : at < length seats = omega (arith, c.args.self.now.all_seated, c.args.s.up_to_64) in
+    let there = slice_get_read seats (length seats) at c.index_mut.result.now refl within c.index_mut.ensures.value in
+    let same : length c.has_room.new.log.items ≡ length c.args.self.now.log.items = ap length c.has_room.ensures.items in
+    marked_set seats at c.wait.new.seat (length c.args.self.now.log.items) (length c.has_room.new.log.items) within c.args.self.now.marked (omega (arith, same))
+    (omega (arith, same, c.wait.ensures.mark, mark_there seats at c.index_mut.result.now (length c.args.self.now.log.items) there c.args.self.now.marked))
+
+pub invariant_of-self-2-clause-roomy : goal.invariant_of-self-2-clause-roomy
+invariant_of-self-2-clause-roomy c =
+    let seats = c.args.self.now.seats.items in
+    let at = c.args.s.number in
+    let within : at < length seats = omega (arith, c.args.self.now.all_seated, c.args.s.up_to_64) in
+    let there = slice_get_read seats (length seats) at c.index_mut.result.now refl within c.index_mut.ensures.value in
+    let idle = idle_seat seats at c.index_mut.result.now there c.requires.idle in
+    let has : c.has_room.result ≡ true = search (rules, not_false) in
+    posted_room (vec_len c.args.self.now.log) (vec_len c.has_room.new.log) (vec_capacity c.args.self.now.log) (vec_capacity c.has_room.new.log) seats at c.index_mut.result.now c.wait.new.seat c.args.request c.wait.result there
+    c.args.self.now.all_seated within c.wait.ensures.open_too idle c.wait.ensures.posted (c.has_room.ensures.room has) c.has_room.ensures.len c.has_room.ensures.capacity c.args.self.now.roomy
+
+pub returns-clause-posted : goal.returns-clause-posted
+returns-clause-posted c =
+    let seats = c.args.self.now.seats.items in
+    let at = c.args.s.number in
+    let within : at < length seats = omega (arith, c.args.self.now.all_seated, c.args.s.up_to_64) in
+    let there = slice_get_read seats (length seats) at c.index_mut.result.now refl within c.index_mut.ensures.value in
+    let idle = idle_seat seats at c.index_mut.result.now there c.requires.idle in
+    posted_ok c.args.self.now.log.items c.has_room.new.log.items seats c.args.self.now.is_lost at c.index_mut.result.now c.wait.new.seat c.args.request c.wait.result c.has_room.ensures.items within there
+    (c.wait.ensures.transaction c.args.self.now.log.items) idle c.wait.ensures.posted

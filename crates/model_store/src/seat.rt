@@ -1,0 +1,14 @@
+//! Seats: what the store has of each session.
+ghost use Rattle.std.specs.Prelude.{◌≡◌, ◌≤◌, true};
+ghost use Rattle.model_store.specs.Phases.{fits, room_in, room_wanted};
+
+use crate::phase::{Phase, Waiting};
+
+/// A session's place in the store.
+#[derive(Drop)]
+pub struct Seat {
+    pub phase: Phase,
+    pub waiting: Option<Waiting>,
+    ghost fitting: { fits phase waiting ≡ true },
+    ghost roomy: { room_wanted phase waiting ≤ room_in phase },
+}
