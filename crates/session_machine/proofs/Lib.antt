@@ -1,0 +1,2 @@
+pub mod Backends
+pub mod SameCode
