@@ -86,10 +86,11 @@ find_first p b there none =
     b.number b.below_8 b refl there none
 
 -- what is found passes
+found_step : (p : BackendId → Bool) (x b : BackendId) (rest : Option BackendId) (t : Bool) → p x ≡ t → (rest ≡ Some b → p b ≡ true)
+    → (if t then Some x else rest) ≡ Some b → p b ≡ true
+found_step p x b rest true is later e = let same : x ≡ b = cc in subst (λ (y : BackendId). p y ≡ true) same is
+found_step p x b rest false is later e = later e
+
 pub found_passes : (p : BackendId → Bool) (xs : List BackendId) (b : BackendId) → find p xs ≡ Some b → p b ≡ true
 found_passes p [] b e = absurd (cc)
-found_passes p (x ∷ xs) b e = by (p x) refl e
-  where
-    by : (t : Bool) → p x ≡ t → (if t then Some x else find p xs) ≡ Some b → p b ≡ true
-    by true is e = let same : x ≡ b = cc in subst (λ (y : BackendId). p y ≡ true) same is
-    by false is e = found_passes p xs b e
+found_passes p (x ∷ xs) b e = found_step p x b (find p xs) (p x) refl (found_passes p xs b) e

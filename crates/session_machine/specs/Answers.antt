@@ -69,7 +69,7 @@ abbrev pub group_size : ℕ → List Heard → Answer → ℕ
 group_size attached heard answer = count_by (is_in_group attached answer) heard
 
 -- no group is larger
-abbrev pub is_no_larger : ℕ → List Heard → ℕ → Heard → Bool
+unfoldable pub is_no_larger : ℕ → List Heard → ℕ → Heard → Bool
 is_no_larger attached heard size h = not (counts attached h) || nat_le (group_size attached heard h.answer) size
 
 abbrev pub is_largest : ℕ → List Heard → ℕ → Bool
@@ -77,7 +77,7 @@ is_largest attached heard size = list_all (is_no_larger attached heard size) hea
 
 -- the kept answer: the first of a largest group. Backends are asked in rising order, so of two groups as large it is the one
 -- with the lowest number
-abbrev pub is_kept : ℕ → List Heard → Heard → Bool
+unfoldable pub is_kept : ℕ → List Heard → Heard → Bool
 is_kept attached heard h = counts attached h && is_largest attached heard (group_size attached heard h.answer)
 
 abbrev pub kept : ℕ → List Heard → Option Heard

@@ -235,11 +235,11 @@ abbrev pub stated : Session → ℤ → Option Work → Machine
 stated session moment None = refused false session (error_of moment_out_of_range)
 stated session moment (Some work) = entering (record session { moment = moment }) session.gate work
 
-abbrev pub stated_at : Session → ℤ → Work → Machine
+unfoldable pub stated_at : Session → ℤ → Work → Machine
 stated_at session moment work = stated session moment (rewritten moment work)
 
 -- BEGIN starts a block at the order's moment and asks nobody; in a block it is a warning
-abbrev pub block_begun : Session → ℤ → Status → Machine
+unfoldable pub block_begun : Session → ℤ → Status → Machine
 block_begun session moment Idle = due (record session { status = InBlock; moment = moment }) (ReplyDue (done_with tags.Begin))
 block_begun session moment InBlock = due session (ReplyDue (outcomes.Done tags.Begin (Some in_a_block)))
 block_begun session moment Failed = due session (ReplyDue (outcomes.Done tags.Begin (Some in_a_block)))
@@ -256,7 +256,7 @@ committing session (Live false tables) outcome = begun session Closing
 committing session InCommit outcome = due (idle session) (ReplyDue outcome)
 
 -- COMMIT outside a block is a warning, and of a failed block a rollback
-abbrev pub block_committed : Session → Status → Machine
+unfoldable pub block_committed : Session → Status → Machine
 block_committed session Idle = due session (ReplyDue (outcomes.Done tags.Commit (Some outside_a_block)))
 block_committed session InBlock = committing session session.gate (done_with tags.Commit)
 block_committed session Failed = due (idle session) (ReplyDue (done_with tags.Rollback))
@@ -268,13 +268,13 @@ rolled_back session InSnapshot = begun (idle session) (RollingBack (Replies (don
 rolled_back session (Live changed tables) = begun (idle session) (RollingBack (Replies (done_with tags.Rollback)))
 rolled_back session InCommit = begun (idle session) (RollingBack (Replies (done_with tags.Rollback)))
 
-abbrev pub block_rolled_back : Session → Status → Machine
+unfoldable pub block_rolled_back : Session → Status → Machine
 block_rolled_back session Idle = due session (ReplyDue (outcomes.Done tags.Rollback (Some outside_a_block)))
 block_rolled_back session InBlock = rolled_back session session.gate
 block_rolled_back session Failed = due (idle session) (ReplyDue (done_with tags.Rollback))
 
 -- the end of a text commits an implicit transaction
-abbrev pub settled : Session → Status → Machine
+unfoldable pub settled : Session → Status → Machine
 settled session Idle = committing session session.gate outcomes.Settled
 settled session InBlock = due session (ReplyDue outcomes.Settled)
 settled session Failed = due session (ReplyDue outcomes.Settled)
@@ -296,7 +296,7 @@ left_in session Committing = leaving session session.gate
 left_in session Closing = leaving session session.gate
 left_in session (RollingBack ending) = due session (LookDue (RollingBack Leaves))
 
-abbrev pub left : Session → Point → Machine
+unfoldable pub left : Session → Point → Machine
 left session Resting = leaving session session.gate
 left session (EnterDue work) = leaving session session.gate
 left session (LookDue stage) = left_in session stage
@@ -314,7 +314,7 @@ left session (FinishDue ending) = due session (FinishDue Leaves)
 left session (ReplyDue outcome) = leaving session session.gate
 left session EndDue = leaving session session.gate
 
-abbrev pub ordered : Session → Point → ℤ → OrderBody → Machine
+unfoldable pub ordered : Session → Point → ℤ → OrderBody → Machine
 ordered session point moment (orders.Statement work) =
     stated_at session (moment_at session.status session.gate session.moment moment) work
 ordered session point moment orders.Begin = block_begun session moment session.status
@@ -322,7 +322,7 @@ ordered session point moment orders.Commit = block_committed session session.sta
 ordered session point moment orders.Rollback = block_rolled_back session session.status
 ordered session point moment orders.Settle = settled session session.status
 ordered session point moment orders.ShowNodes = due session ShowDue
-ordered session point moment (orders.Recover b) = due session point
+ordered session point moment (orders.Recover b) = due session Resting
 ordered session point moment (orders.Refuse code name) = refused false session (outcomes.Error code name)
 ordered session point moment orders.Leave = left session point
 
@@ -348,6 +348,7 @@ ran behind session work (answers.Refused code) = refused behind session (error_o
 ran behind session work (answers.Rows rows) = due session (ReplyDue (outcomes.Rows rows (tags.Select (length rows))))
 ran behind session work (answers.Count n) =
     due (record session { gate = phase_changed session.gate work.tables }) (ReplyDue (done_with (tag_of work.class n)))
+-- the answer to a Run is rows, a count or a refusal, by the clause `form` that every backend meets: none of these comes
 ran behind session work answers.Began = due session Resting
 ran behind session work answers.Locked = due session Resting
 ran behind session work answers.Done = due session Resting
@@ -362,6 +363,7 @@ refusal_of answers.Done = None
 refusal_of (answers.Serial n) = None
 refusal_of (answers.Refused code) = Some code
 
+-- the answer to TakeSnapshot is Began or a refusal, and to Lock it is Locked or a refusal, by the same clause
 abbrev pub opened : Bool → Session → Work → Option Code → Machine
 opened behind session work None = due session (LeaveSnapshotDue work)
 opened behind session work (Some code) = refused behind session (error_of code)
@@ -370,6 +372,7 @@ abbrev pub locked : Bool → Session → Work → Option Code → Machine
 locked behind session work None = begun_behind behind session (Inserting work false)
 locked behind session work (Some code) = refused behind session (error_of code)
 
+-- the answer to Commit and Rollback is Done, by the same clause
 abbrev pub commit_outcome : Status → Outcome
 commit_outcome Idle = outcomes.Settled
 commit_outcome InBlock = done_with tags.Commit
@@ -406,7 +409,7 @@ judged session stage (Some best) =
 -- A Look.
 
 -- a chain goes to the next backend; at its end it is judged
-abbrev pub asked : Session → Stage → Option BackendId → Machine
+unfoldable pub asked : Session → Stage → Option BackendId → Machine
 asked session stage (Some b) = due session (PostDue stage b)
 asked session stage None = judged session stage (kept session.view.attached.bits session.heard)
 
@@ -477,7 +480,7 @@ abbrev pub in_phase : Session → GatePhase → Session
 in_phase session phase = record session { gate = phase }
 
 -- a call that was seen or granted, by what was due; the session has the view already
-abbrev pub granted : Session → Point → Machine
+unfoldable pub granted : Session → Point → Machine
 granted session (EnterDue work) = snapshot_entered (in_phase session InSnapshot) work (primary session)
 granted session (LookDue stage) = looked_at session stage (primary session)
 granted session (ChooseDue work) = first_chosen session work (primary session)
@@ -495,7 +498,7 @@ granted session (SplitDue stage best own among more) = due session (SplitDue sta
 granted session (ReplyDue outcome) = due session (ReplyDue outcome)
 granted session EndDue = due session EndDue
 
-abbrev pub called : Session → Point → GateAnswer → Machine
+unfoldable pub called : Session → Point → GateAnswer → Machine
 called session point (Seen view) = granted (with_view session view) point
 called session point (Granted view) = granted (with_view session view) point
 called session point (Held count) = due session point
@@ -545,7 +548,7 @@ parted_at session (LostDue stage b before after) = lost_one session stage (prima
 parted_at session (SplitDue stage best own among more) = parted session stage best own among more (primary session)
 parted_at session point = due session point
 
-abbrev pub detached : Session → Point → GateAnswer → Machine
+unfoldable pub detached : Session → Point → GateAnswer → Machine
 detached session point (Seen view) = parted_at (with_view session view) point
 detached session point (Granted view) = parted_at (with_view session view) point
 detached session point (Held count) = due session point
@@ -553,7 +556,7 @@ detached session point Spent = due session point
 
 -- Where an event leads.
 
-abbrev pub after_at : Session → Point → SessionEvent → Machine
+unfoldable pub after_at : Session → Point → SessionEvent → Machine
 after_at session point (events.Ordered order) = ordered session point order.moment order.body
 after_at session point (events.Called call answer) = called session point answer
 after_at session point (events.Posted b request) = posted session point

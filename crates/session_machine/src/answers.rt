@@ -11,7 +11,6 @@ use pool_base::{BackendId, BackendSet};
 use read_balance::pick;
 use write_path::ChainKind;
 
-#[tactic(auto, using(crate::proofs::Backends::backends_are))]
 /// The backends, by number.
 fn all_backends() -> [BackendId; 8]
     ensures { result ≡ all_backends }
@@ -160,6 +159,7 @@ fn group_size(attached: BackendSet, heard: &[Heard], answer: &Answer) -> usize
     more
 }
 
+#[tactic(auto, unfolding(crate::specs::Answers::is_no_larger))]
 fn is_no_larger(attached: BackendSet, all: &[Heard], size: usize, heard: &Heard) -> bool
     ensures { result ≡ is_no_larger attached.bits all.now size heard.now }
 {
@@ -176,6 +176,7 @@ fn are_no_larger(attached: BackendSet, all: &[Heard], size: usize, heard: &[Hear
     is_no_larger(attached, all, size, first) && are_no_larger(attached, all, size, others)
 }
 
+#[tactic(auto, unfolding(crate::specs::Answers::is_kept))]
 fn is_kept(attached: BackendSet, all: &[Heard], heard: &Heard) -> bool
     ensures { result ≡ is_kept attached.bits all.now heard.now }
 {

@@ -78,6 +78,7 @@ fn commit_entered(session: Session, primary: Option<BackendId>) -> Machine
 }
 
 /// The session has the view of a call that was seen or granted.
+#[tactic(auto, unfolding(crate::specs::Rules::granted))]
 fn granted(mut session: Session, point: Point) -> Result<Machine, NoMemory>
     ensures { IfOk result (λ m. m ≡ granted session point) }
 {
@@ -121,6 +122,7 @@ fn granted(mut session: Session, point: Point) -> Result<Machine, NoMemory>
 }
 
 /// The gate's answer to the call that was due.
+#[tactic(auto, unfolding(crate::specs::Rules::called))]
 pub(crate) fn called(
     mut session: Session,
     point: Point,
@@ -187,6 +189,7 @@ fn parted_at(session: Session, point: Point) -> Result<Machine, NoMemory>
 }
 
 /// The gate's answer to a detachment.
+#[tactic(auto, unfolding(crate::specs::Rules::detached))]
 pub(crate) fn detached(
     mut session: Session,
     point: Point,

@@ -1,6 +1,7 @@
 //! Where a chain leads: its beginning, a Look, its end, and what follows it.
 ghost use Rattle.std.specs.Prelude.{◌≡◌, IfOk, Some};
-ghost use Rattle.session_machine.specs.Rules.{due, error_of, done_with, ended, released, begun, begun_at, begun_behind, primary, failing, refused, stranded, stranded_in, started, tag_of, phase_changed, ran, opened, locked, commit_outcome, idle, closed, decided, split, judged, asked, reading_at, chosen, read, looked, looked_at, kind_of};
+ghost use Rattle.session_machine.specs.Answers.{next_of};
+ghost use Rattle.session_machine.specs.Rules.{due, error_of, done_with, ended, released, begun, begun_at, begun_behind, primary, failing, refused, stranded, stranded_in, started, tag_of, phase_changed, ran, opened, locked, commit_outcome, idle, closed, decided, split, judged, asked, reading_at, chosen, read, looked, looked_at};
 
 use crate::answers::{counts, first_other, goes_on, kept, lowest, next_of, reader};
 use crate::codes::no_backend;
@@ -328,6 +329,7 @@ fn judged(session: Session, stage: Stage, best: Option<Heard>) -> Result<Machine
 }
 
 /// A chain at a Look.
+#[tactic(auto, unfolding(crate::specs::Rules::asked))]
 fn asked(session: Session, stage: Stage, next: Option<BackendId>) -> Result<Machine, NoMemory>
     ensures { IfOk result (λ m. m ≡ asked session stage next) }
 {
@@ -374,31 +376,39 @@ fn read(session: Session, work: Work, ticket: u64) -> Result<Machine, NoMemory>
     Ok(closed(true, session, Stage::Reading(work, ticket), answer))
 }
 
-/// A chain that stops where the primary has refused, and one that does not.
-fn kind_of(stage: &Stage) -> ChainKind
-    ensures { result ≡ kind_of stage.now }
+/// A chain of this kind at a Look.
+fn gone_on(session: Session, stage: Stage, kind: ChainKind) -> Result<Machine, NoMemory>
+    ensures { IfOk result (λ m. m ≡ asked session stage (next_of kind session.view.attached.bits
+        session.heard)) }
 {
-    match stage {
-        Stage::Opening(_)
-        | Stage::Reading(_, _)
-        | Stage::Inserting(_, _)
-        | Stage::Committing
-        | Stage::Closing
-        | Stage::RollingBack(_) => ChainKind::All,
-        Stage::Running(_) | Stage::Locking(_, _) => ChainKind::StopAtRefusal,
-    }
+    let next = next_of(kind, session.view.attached, session.heard.as_slice());
+    asked(session, stage, next)
 }
 
 /// A Look that shows attached backends.
 fn looked(session: Session, stage: Stage) -> Result<Machine, NoMemory>
     ensures { IfOk result (λ m. m ≡ looked session stage) }
 {
-    if let Stage::Reading(work, ticket) = stage {
-        return read(session, work, ticket);
+    match stage {
+        Stage::Reading(work, ticket) => read(session, work, ticket),
+        Stage::Opening(work) => gone_on(session, Stage::Opening(work), ChainKind::All),
+        Stage::Running(work) => gone_on(session, Stage::Running(work), ChainKind::StopAtRefusal),
+        Stage::Locking(work, table) => {
+            gone_on(
+                session,
+                Stage::Locking(work, table),
+                ChainKind::StopAtRefusal,
+            )
+        }
+        Stage::Inserting(work, posted) => {
+            gone_on(session, Stage::Inserting(work, posted), ChainKind::All)
+        }
+        Stage::Committing => gone_on(session, Stage::Committing, ChainKind::All),
+        Stage::Closing => gone_on(session, Stage::Closing, ChainKind::All),
+        Stage::RollingBack(ending) => {
+            gone_on(session, Stage::RollingBack(ending), ChainKind::All)
+        }
     }
-    let kind = kind_of(&stage);
-    let next = next_of(kind, session.view.attached, session.heard.as_slice());
-    asked(session, stage, next)
 }
 
 /// A Look.

@@ -6,6 +6,7 @@ use crate::action::SessionEvent;
 use crate::call::{called, detached};
 use crate::chain::due;
 use crate::machine::{Heard, Machine, Point, Session, Stage};
+use crate::order::Order;
 use crate::ordered::ordered;
 use backend_trait::Answer;
 use pool_base::{BackendId, NoMemory};
@@ -55,22 +56,61 @@ fn faulted(session: Session, before: u64, after: u64, point: Point) -> Machine
     }
 }
 
+/// An order, whatever was due.
+fn told(session: Session, point: Point, order: Order) -> Machine
+    ensures { result ≡ Rattle.session_machine.specs.Rules.ordered session point order.moment
+        order.body }
+{
+    let Order { moment, body } = order;
+    ordered(session, &point, moment, body)
+}
+
+/// A reply is given.
+fn rested(session: Session, _point: Point) -> Machine
+    ensures { result ≡ Rattle.session_machine.specs.Rules.due session Point.Resting }
+{
+    due(session, Point::Resting)
+}
+
+/// The session ends, and its number is free.
+fn restarted(session: Session, _point: Point) -> Machine
+    ensures { result ≡ new_machine session.id session.policy }
+{
+    let alloc = session.heard.allocator();
+    Machine::new(alloc, session.id, session.policy)
+}
+
+#[tactic(auto, unfolding(crate::specs::Rules::after_at))]
 fn after_at(session: Session, point: Point, event: SessionEvent) -> Result<Machine, NoMemory>
     ensures { IfOk result (λ m. m ≡ after_at session point event) }
 {
     match event {
-        SessionEvent::Ordered(order) => Ok(ordered(session, point, order)),
-        SessionEvent::Called { answer, .. } => called(session, point, answer),
-        SessionEvent::Posted { .. } => Ok(posted(session, point)),
+        SessionEvent::Ordered(order) => Ok(told(session, point, order)),
+        SessionEvent::Called {
+            call: _call,
+            answer,
+        } => called(session, point, answer),
+        SessionEvent::Posted {
+            b: _b,
+            request: _request,
+        } => Ok(posted(session, point)),
         SessionEvent::Taken { b, answer } => taken(session, b, answer, point),
-        SessionEvent::Faulted { before, after, .. } => Ok(faulted(session, before, after, point)),
-        SessionEvent::Detached { answer, .. } => detached(session, point, answer),
-        SessionEvent::Swapped { .. } => Ok(due(session, point)),
-        SessionEvent::Replied { .. } => Ok(due(session, Point::Resting)),
-        SessionEvent::Ended => {
-            let alloc = session.heard.allocator();
-            Ok(Machine::new(alloc, session.id, session.policy))
-        }
+        SessionEvent::Faulted {
+            b: _b,
+            before,
+            after,
+        } => Ok(faulted(session, before, after, point)),
+        SessionEvent::Detached {
+            b: _b,
+            cause: _cause,
+            answer,
+        } => detached(session, point, answer),
+        SessionEvent::Swapped { b: _b } => Ok(due(session, point)),
+        SessionEvent::Replied {
+            outcome: _outcome,
+            status: _status,
+        } => Ok(rested(session, point)),
+        SessionEvent::Ended => Ok(restarted(session, point)),
     }
 }
 

@@ -25,3 +25,6 @@ pub use next::next_action;
 pub use order::{Class, Order, OrderBody, Verb, Work};
 pub use outcome::{Outcome, Tag};
 pub use status::Status;
+
+#[cfg(test)]
+mod tests;

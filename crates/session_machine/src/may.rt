@@ -338,7 +338,8 @@ fn happens(session: &Session, point: &Point, event: &SessionEvent) -> bool
 
 /// Whether an event may happen.
 pub fn may_happen(m: &Machine, event: &SessionEvent) -> bool
-    ensures { IsTrue result ↔ MayHappen m.now event.now }
+    ensures tests { result ≡ happens m.now.session m.now.point event.now }
+    ensures exactly { IsTrue result ↔ MayHappen m.now event.now }
 {
     happens(&m.session, &m.point, event)
 }

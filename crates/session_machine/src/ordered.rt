@@ -6,7 +6,7 @@ ghost use Rattle.session_machine.specs.Rules.{is_moment, moment_at, entering, st
 use crate::chain::{begun, done_with, due, error_of, idle, refused, started};
 use crate::codes::{in_a_block, moment_out_of_range, outside_a_block};
 use crate::machine::{Ending, GatePhase, Machine, Point, Session, Stage};
-use crate::order::{Order, OrderBody, Work};
+use crate::order::{OrderBody, Work};
 use crate::outcome::{Outcome, Tag};
 use crate::status::Status;
 
@@ -44,6 +44,7 @@ fn entering(session: Session, work: Work) -> Machine
 }
 
 /// A statement, with the moment of its transaction.
+#[tactic(auto, unfolding(crate::specs::Rules::stated_at))]
 fn stated_at(mut session: Session, moment: i64, work: Work) -> Machine
     ensures { result ≡ stated_at session moment work }
 {
@@ -55,6 +56,7 @@ fn stated_at(mut session: Session, moment: i64, work: Work) -> Machine
     entering(session, work)
 }
 
+#[tactic(auto, unfolding(crate::specs::Rules::block_begun))]
 fn block_begun(mut session: Session, moment: i64) -> Machine
     ensures { result ≡ block_begun session moment session.status }
 {
@@ -92,6 +94,7 @@ fn committing(session: Session, outcome: Outcome) -> Machine
     }
 }
 
+#[tactic(auto, unfolding(crate::specs::Rules::block_committed))]
 fn block_committed(session: Session) -> Machine
     ensures { result ≡ block_committed session session.status }
 {
@@ -120,6 +123,7 @@ fn rolled_back(session: Session) -> Machine
     }
 }
 
+#[tactic(auto, unfolding(crate::specs::Rules::block_rolled_back))]
 fn block_rolled_back(session: Session) -> Machine
     ensures { result ≡ block_rolled_back session session.status }
 {
@@ -136,6 +140,7 @@ fn block_rolled_back(session: Session) -> Machine
     }
 }
 
+#[tactic(auto, unfolding(crate::specs::Rules::settled))]
 fn settled(session: Session) -> Machine
     ensures { result ≡ settled session session.status }
 {
@@ -157,8 +162,8 @@ fn leaving(session: Session) -> Machine
     }
 }
 
-fn left_in(session: Session, stage: Stage) -> Machine
-    ensures { result ≡ left_in session stage }
+fn left_in(session: Session, stage: &Stage) -> Machine
+    ensures { result ≡ left_in session stage.now }
 {
     match stage {
         Stage::Opening(_)
@@ -174,8 +179,9 @@ fn left_in(session: Session, stage: Stage) -> Machine
     }
 }
 
-fn left(session: Session, point: Point) -> Machine
-    ensures { result ≡ left session point }
+#[tactic(auto, unfolding(crate::specs::Rules::left))]
+fn left(session: Session, point: &Point) -> Machine
+    ensures { result ≡ left session point.now }
 {
     match point {
         Point::LookDue(stage)
@@ -198,10 +204,10 @@ fn left(session: Session, point: Point) -> Machine
 }
 
 /// An order.
-pub(crate) fn ordered(session: Session, point: Point, order: Order) -> Machine
-    ensures { result ≡ ordered session point order.moment order.body }
+#[tactic(auto, unfolding(crate::specs::Rules::ordered))]
+pub(crate) fn ordered(session: Session, point: &Point, moment: i64, body: OrderBody) -> Machine
+    ensures { result ≡ ordered session point.now moment body }
 {
-    let Order { moment, body } = order;
     match body {
         OrderBody::Statement(work) => {
             let moment = moment_at(&session, moment);
@@ -212,10 +218,8 @@ pub(crate) fn ordered(session: Session, point: Point, order: Order) -> Machine
         OrderBody::Rollback => block_rolled_back(session),
         OrderBody::Settle => settled(session),
         OrderBody::ShowNodes => due(session, Point::ShowDue),
-        OrderBody::Recover(_) => due(session, point),
-        OrderBody::Refuse { code, name } => {
-            refused(false, session, Outcome::Error { code, name })
-        },
+        OrderBody::Recover(_b) => due(session, Point::Resting),
+        OrderBody::Refuse { code, name } => refused(false, session, Outcome::Error { code, name }),
         OrderBody::Leave => left(session, point),
     }
 }

@@ -13,7 +13,9 @@ use pool_base::{
 use std::alloc::Global;
 
 const B0: BackendId = BackendId { number: 0 };
+
 const B1: BackendId = BackendId { number: 1 };
+
 const B2: BackendId = BackendId { number: 2 };
 
 /// What is asked of a backend.
@@ -158,11 +160,7 @@ fn chain(list: &mut Vec<SessionEvent>, alloc: Global, ask: Ask) -> Result<(), No
 }
 
 /// A statement that opens a transaction: thirteen events.
-fn opening(
-    list: &mut Vec<SessionEvent>,
-    alloc: Global,
-    body: OrderBody,
-) -> Result<(), NoMemory> {
+fn opening(list: &mut Vec<SessionEvent>, alloc: Global, body: OrderBody) -> Result<(), NoMemory> {
     list.push(ordered(body))?;
     list.push(granted(GateCall::EnterSnapshot, 7))?;
     chain(list, alloc, Ask::Snapshot)?;
@@ -335,8 +333,11 @@ fn a_block_is_committed_at_all_backends(rt: HostRuntime) {
     assert!(rt; fails_at(alloc, block_committed(alloc), 32, acknowledged));
 }
 
-fn two(alloc: Global, first: SessionEvent, second: SessionEvent)
--> Result<Vec<SessionEvent>, NoMemory> {
+fn two(
+    alloc: Global,
+    first: SessionEvent,
+    second: SessionEvent,
+) -> Result<Vec<SessionEvent>, NoMemory> {
     let mut list = Vec::new(alloc);
     list.push(first)?;
     list.push(second)?;
@@ -421,7 +422,11 @@ fn a_lost_backend_is_detached_with_its_counts(rt: HostRuntime) {
 /// A serial insert that every backend refuses.
 fn serial_refused(alloc: Global) -> Result<Vec<SessionEvent>, NoMemory> {
     let mut list = Vec::new(alloc);
-    opening(&mut list, alloc, statement(Ask::Insert, Class::SerialInsert(0)))?;
+    opening(
+        &mut list,
+        alloc,
+        statement(Ask::Insert, Class::SerialInsert(0)),
+    )?;
     chain(&mut list, alloc, Ask::Lock)?;
     let duplicate = Code { bytes: *b"23505" };
     asked(&mut list, B0, Ask::Insert, Answer::Refused(duplicate), 7)?;
