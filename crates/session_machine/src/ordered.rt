@@ -1,0 +1,225 @@
+//! Where an order leads.
+ghost use Rattle.std.specs.Prelude.{◌≡◌, ◌↔◌, IsTrue, Some};
+ghost use Rattle.pg_values.specs.Range.{IsMoment};
+ghost use Rattle.session_machine.specs.Rules.{is_moment, moment_at, entering, stated_at, block_begun, committing, block_committed, rolled_back, block_rolled_back, settled, leaving, left_in, left, ordered};
+
+use crate::chain::{begun, done_with, due, error_of, idle, refused, started};
+use crate::codes::{in_a_block, moment_out_of_range, outside_a_block};
+use crate::machine::{Ending, GatePhase, Machine, Point, Session, Stage};
+use crate::order::{OrderBody, Work};
+use crate::outcome::{Outcome, Tag};
+use crate::status::Status;
+
+/// Whether a moment is of the years 1 to 9999.
+fn is_moment(moment: i64) -> bool
+    ensures is { result ≡ is_moment moment }
+    ensures means { IsTrue result ↔ IsMoment moment }
+{
+    -63_082_281_600_000_000 <= moment && moment <= 252_455_615_999_999_999
+}
+
+/// The moment of the transaction.
+fn moment_at(session: &Session, ordered: i64) -> i64
+    ensures { result ≡ moment_at session.now.status session.now.gate session.now.moment ordered }
+{
+    match session.status {
+        Status::Idle => match session.gate {
+            GatePhase::Out => ordered,
+            GatePhase::InSnapshot | GatePhase::Live(_, _) | GatePhase::InCommit => session.moment,
+        },
+        Status::InBlock | Status::Failed => session.moment,
+    }
+}
+
+/// A statement that is rewritten.
+fn entering(session: Session, work: Work) -> Machine
+    ensures { result ≡ entering session session.gate work }
+{
+    match session.gate {
+        GatePhase::Out => due(session, Point::EnterDue(work)),
+        GatePhase::InSnapshot | GatePhase::Live(_, _) | GatePhase::InCommit => {
+            started(session, work)
+        }
+    }
+}
+
+/// A statement, with the moment of its transaction.
+#[tactic(auto, unfolding(crate::specs::Rules::stated_at))]
+fn stated_at(mut session: Session, moment: i64, work: Work) -> Machine
+    ensures { result ≡ stated_at session moment work }
+{
+    if !is_moment(moment) {
+        let outcome = error_of(&session, moment_out_of_range());
+        return refused(false, session, outcome);
+    }
+    session.moment = moment;
+    entering(session, work)
+}
+
+#[tactic(auto, unfolding(crate::specs::Rules::block_begun))]
+fn block_begun(mut session: Session, moment: i64) -> Machine
+    ensures { result ≡ block_begun session moment session.status }
+{
+    match session.status {
+        Status::Idle => {
+            session.status = Status::InBlock;
+            session.moment = moment;
+            due(session, Point::ReplyDue(done_with(Tag::Begin)))
+        }
+        Status::InBlock | Status::Failed => {
+            let outcome = Outcome::Done {
+                tag: Tag::Begin,
+                warning: Some(in_a_block()),
+            };
+            due(session, Point::ReplyDue(outcome))
+        }
+    }
+}
+
+/// A transaction commits.
+fn committing(session: Session, outcome: Outcome) -> Machine
+    ensures { result ≡ committing session session.gate outcome }
+{
+    match session.gate {
+        GatePhase::Out | GatePhase::InSnapshot | GatePhase::InCommit => {
+            due(idle(session), Point::ReplyDue(outcome))
+        }
+        GatePhase::Live(changed, _) => {
+            if changed {
+                due(session, Point::EnterCommitDue)
+            } else {
+                begun(session, Stage::Closing)
+            }
+        }
+    }
+}
+
+#[tactic(auto, unfolding(crate::specs::Rules::block_committed))]
+fn block_committed(session: Session) -> Machine
+    ensures { result ≡ block_committed session session.status }
+{
+    match session.status {
+        Status::Idle => {
+            let outcome = Outcome::Done {
+                tag: Tag::Commit,
+                warning: Some(outside_a_block()),
+            };
+            due(session, Point::ReplyDue(outcome))
+        }
+        Status::InBlock => committing(session, done_with(Tag::Commit)),
+        Status::Failed => due(idle(session), Point::ReplyDue(done_with(Tag::Rollback))),
+    }
+}
+
+fn rolled_back(session: Session) -> Machine
+    ensures { result ≡ rolled_back session session.gate }
+{
+    let outcome = done_with(Tag::Rollback);
+    match session.gate {
+        GatePhase::Out => due(idle(session), Point::ReplyDue(outcome)),
+        GatePhase::InSnapshot | GatePhase::Live(_, _) | GatePhase::InCommit => {
+            begun(idle(session), Stage::RollingBack(Ending::Replies(outcome)))
+        }
+    }
+}
+
+#[tactic(auto, unfolding(crate::specs::Rules::block_rolled_back))]
+fn block_rolled_back(session: Session) -> Machine
+    ensures { result ≡ block_rolled_back session session.status }
+{
+    match session.status {
+        Status::Idle => {
+            let outcome = Outcome::Done {
+                tag: Tag::Rollback,
+                warning: Some(outside_a_block()),
+            };
+            due(session, Point::ReplyDue(outcome))
+        }
+        Status::InBlock => rolled_back(session),
+        Status::Failed => due(idle(session), Point::ReplyDue(done_with(Tag::Rollback))),
+    }
+}
+
+#[tactic(auto, unfolding(crate::specs::Rules::settled))]
+fn settled(session: Session) -> Machine
+    ensures { result ≡ settled session session.status }
+{
+    match session.status {
+        Status::Idle => committing(session, Outcome::Settled),
+        Status::InBlock | Status::Failed => due(session, Point::ReplyDue(Outcome::Settled)),
+    }
+}
+
+/// The client is gone.
+fn leaving(session: Session) -> Machine
+    ensures { result ≡ leaving session session.gate }
+{
+    match session.gate {
+        GatePhase::Out => due(session, Point::EndDue),
+        GatePhase::InSnapshot | GatePhase::Live(_, _) | GatePhase::InCommit => {
+            begun(session, Stage::RollingBack(Ending::Leaves))
+        }
+    }
+}
+
+fn left_in(session: Session, stage: &Stage) -> Machine
+    ensures { result ≡ left_in session stage.now }
+{
+    match stage {
+        Stage::Opening(_)
+        | Stage::Reading(_, _)
+        | Stage::Running(_)
+        | Stage::Locking(_, _)
+        | Stage::Inserting(_, _)
+        | Stage::Committing
+        | Stage::Closing => leaving(session),
+        Stage::RollingBack(_) => {
+            due(session, Point::LookDue(Stage::RollingBack(Ending::Leaves)))
+        }
+    }
+}
+
+#[tactic(auto, unfolding(crate::specs::Rules::left))]
+fn left(session: Session, point: &Point) -> Machine
+    ensures { result ≡ left session point.now }
+{
+    match point {
+        Point::LookDue(stage)
+        | Point::PostDue(stage, _)
+        | Point::Waiting(stage, _)
+        | Point::LostDue(stage, _, _, _)
+        | Point::SplitDue(stage, _, _, _, _) => left_in(session, stage),
+        Point::UnwindDue(_) => due(session, Point::UnwindDue(Ending::Leaves)),
+        Point::LeaveCommitDue(_) => due(session, Point::LeaveCommitDue(Ending::Leaves)),
+        Point::FinishDue(_) => due(session, Point::FinishDue(Ending::Leaves)),
+        Point::Resting
+        | Point::EnterDue(_)
+        | Point::ChooseDue(_)
+        | Point::ShowDue
+        | Point::LeaveSnapshotDue(_)
+        | Point::EnterCommitDue
+        | Point::ReplyDue(_)
+        | Point::EndDue => leaving(session),
+    }
+}
+
+/// An order.
+#[tactic(auto, unfolding(crate::specs::Rules::ordered))]
+pub(crate) fn ordered(session: Session, point: &Point, moment: i64, body: OrderBody) -> Machine
+    ensures { result ≡ ordered session point.now moment body }
+{
+    match body {
+        OrderBody::Statement(work) => {
+            let moment = moment_at(&session, moment);
+            stated_at(session, moment, work)
+        }
+        OrderBody::Begin => block_begun(session, moment),
+        OrderBody::Commit => block_committed(session),
+        OrderBody::Rollback => block_rolled_back(session),
+        OrderBody::Settle => settled(session),
+        OrderBody::ShowNodes => due(session, Point::ShowDue),
+        OrderBody::Recover(_b) => due(session, Point::Resting),
+        OrderBody::Refuse { code, name } => refused(false, session, Outcome::Error { code, name }),
+        OrderBody::Leave => left(session, point),
+    }
+}
