@@ -1,15 +1,18 @@
 -- The stages of a statement over the backends: begun, run, ended.
-use Rattle.std.proofs.Common.{◌≡◌, ◌≢◌, ◌⊎◌, ℕ, zero, ◌<◌, ◌≤◌, Bool, true, false, ◌&&◌, nat_lt, if◌then◌else◌, List, [], ◌∷◌, length, refl, sym, ap, ◌∙◌, subst, inl, inr, arith}
+use Rattle.std.proofs.Common.{◌≡◌, ◌≢◌, ◌⊎◌, ℕ, zero, suc, ◌<◌, ◌≤◌, Bool, true, false, ◌&&◌, nat_lt, if◌then◌else◌, List, [], ◌∷◌, ◌++◌, length, map, refl, sym, ap, ◌∙◌, subst, inl, inr, arith}
 use Rattle.std.specs.Prelude.{Option, Some, None, slice_get}
+use Rattle.std.proofs.lemmas.List.{length-map}
 use Rattle.pool_base.specs.Sets.{has}
 use Rattle.backend_trait.specs.declared.checked.Checked.{Checked}
+use Rattle.backend_trait.specs.declared.checked.Checked.TheVariants.{Insert, Select}
 use Rattle.backend_trait.specs.declared.request.Request.{Request}
 use Rattle.backend_trait.specs.declared.request.Request.TheVariants as requests
 use Rattle.backend_trait.specs.declared.answer.Answer.{Answer}
-use Rattle.backend_trait.specs.Rows.{Rows, Changes, laid_over}
-use Rattle.backend_trait.specs.Effect.{Given, Fails, Gives, Wants}
+use Rattle.backend_trait.specs.Rows.{Rows, Changes, no_rows, laid_over}
+use Rattle.backend_trait.specs.Effect.{Given, Fails, Gives, Wants, effect_of}
 use Rattle.backend_trait.specs.Alone.{given_on, IsEffect, rows_left}
-use Rattle.backend_trait.specs.Store.{Store, Transaction, Absent, Alive, Dead, WhereLive, MayPost, begun, given_to, is_refusal}
+use Rattle.backend_trait.proofs.RowLaws.{laid_over-none}
+use Rattle.backend_trait.specs.Store.{Store, blank, Transaction, Absent, Alive, Dead, WhereLive, MayPost, begun, given_to, is_refusal}
 use Rattle.write_path.specs.declared.chain.Chain.{Chain}
 use Rattle.write_path.specs.declared.slots.Taken.{Taken}
 use Rattle.write_path.specs.declared.kind.ChainKind.{ChainKind}
@@ -18,7 +21,7 @@ use Rattle.write_path.specs.Slots.{slot_at, answer_in, is_taken, has_answer, is_
 use Rattle.write_path.specs.Chains.{answers_among, answer_of, has_refused, kind_of, is_waited_for, HaveAllAnswered, IsStopped}
 use Rattle.session_core.specs.declared.ask.Step.{Step}
 use Rattle.session_core.specs.declared.ask.Step.TheVariants as steps
-use Rattle.session_core.specs.Steps.{request_of, last_step}
+use Rattle.session_core.specs.Steps.{request_of, last_step, reach_of}
 use Rattle.session_core.specs.Standing.{IsAlone, Stands, IsAsked}
 use Rattle.session_core.specs.Chains.{AreFirst, MayAllPost, WasAsked, WereAsked}
 use Rattle.session_core.specs.Statements.{IsReady, AreReady, primary_rows}
@@ -135,7 +138,7 @@ module _ (s : ℕ) (rows : Rows) where
             (live.0, subst (λ (step : Step). MayPost st s (request_of step)) (sym (step_of_result answer (result_is result answer changes wants is effect))) live.1)
 
     -- where the statement has a result, no backend stops the chain
-    all_ran : (chain : Chain Answer) (attached count : ℕ) (stores : List Store) → AreFirst attached count → count ≤ 8 → length stores ≡ count → AllRan c (answer_of chain) (has_refused chain) stores
+    all_ran : (chain : Chain Answer) (attached count : ℕ) (stores : List Store) → AreFirst attached count → count ≤ 8 → count ≤ length stores → AllRan c (answer_of chain) (has_refused chain) stores
         → (result : Answer) (changes : Changes) (wants : Wants) → given_on rows c ≡ Gives result changes wants → HaveAllAnswered chain attached ⊎ IsStopped chain attached → HaveAllAnswered chain attached
     all_ran chain attached count stores first few len ran result changes wants is (inl all) = all
     all_ran chain attached count stores first few len ran result changes wants is (inr (kind, (b, lowest, refused))) =
@@ -147,10 +150,10 @@ module _ (s : ℕ) (rows : Rows) where
         ])
 
     -- each store is at rest again, with the rows that the statement leaves
-    pub ended : (chain : Chain Answer) (attached count : ℕ) (answers : ℕ → Option Answer) (refusals : ℕ → Bool) (olds news : List Store) → AreFirst attached count → count ≤ 8 → length olds ≡ count
-        → AllRan c (answer_of chain) (has_refused chain) olds → HaveAllAnswered chain attached ⊎ IsStopped chain attached → IsEffect (given_on rows c) answer
+    pub ended : (chain : Chain Answer) (attached count : ℕ) (answers : ℕ → Option Answer) (refusals : ℕ → Bool) (olds news : List Store) → AreFirst attached count → count ≤ 8 → count ≤ length olds
+        → (count ≡ length olds) ⊎ (rows_left (given_on rows c) rows ≡ rows) → AllRan c (answer_of chain) (has_refused chain) olds → HaveAllAnswered chain attached ⊎ IsStopped chain attached → IsEffect (given_on rows c) answer
         → WereAsked s (request_of (last_step answer)) answers refusals olds news → ((b : ℕ) → b < length news → (a : Answer) × (answers b ≡ Some a)) → AreReady (rows_left (given_on rows c) rows) news
-    ended chain attached count answers refusals olds news first few len ran end effect were all b st st_is =
+    ended chain attached count answers refusals olds news first few len whole ran end effect were all b st st_is =
         let (was, was_there, was_asked) = were b st st_is in
         let (a, a_is) = all b (within news b st st_is) in
         let asked = (asked_there (request_of (last_step answer)) (answers b) (refusals b) was st a a_is was_asked).0 in
@@ -163,13 +166,19 @@ module _ (s : ℕ) (rows : Rows) where
             subst (λ (g : Given). IsReady (rows_left g rows) st) (sym is) (rests s rows st (rolls_back s rows x was st a stands asked'))
         go (Gives result changes wants) is was was_there a asked =
             let asked' = subst (λ (step : Step). IsAsked was s (request_of step) a st) (step_of_result answer (result_is result answer changes wants is effect)) asked in
-            let (own, own_is) = all_have chain attached count first few (all_ran chain attached count olds first few len ran result changes wants is end) b (omega (arith, within olds b was was_there)) in
+            let all_there = all_have chain attached count first few (all_ran chain attached count olds first few len ran result changes wants is end) in
             elim (ran b was was_there) [
               | inl r ↦
                   let alive = subst (λ (refused : Bool). Stands s rows (ran_to refused (given_on rows c) rows) was) (result_is result r.0 changes wants is r.3) r.4 in
                   subst (λ (left : Rows). IsReady left st) (left_by (given_on rows c) rows result changes wants is)
                   (rests s _ st (commits s rows (given_to (given_on rows c) (begun rows)) was st a alive asked'))
-              | inr r ↦ absurd (let e : None ≡ Some own = sym r.0 ∙ own_is in cc)
+              | inr r ↦ elim whole [
+                | inl every ↦
+                    let own = all_there b (omega (arith, every, within olds b was was_there)) in
+                    absurd (let e : None ≡ Some own.0 = sym r.0 ∙ own.1 in cc)
+                | inr same ↦
+                    subst (λ (left : Rows). IsReady left st) (laid_over-none rows ∙ sym same) (rests s _ st (commits s rows (begun rows) was st a r.1 asked'))
+              ]
             ]
 
 module _ (s : ℕ) (rows : Rows) (c : Checked) (attached count : ℕ) (first second : Chain Answer) (olds begun_ones news : List Store) where
@@ -183,7 +192,33 @@ module _ (s : ℕ) (rows : Rows) (c : Checked) (attached count : ℕ) (first sec
       ran
 
 -- the kept answer is the effect
-pub effect_kept : (s : ℕ) (rows : Rows) (c : Checked) (attached count : ℕ) (chain : Chain Answer) (stores : List Store) (answer : Answer) → AreFirst attached count → length stores ≡ count
+pub effect_kept : (s : ℕ) (rows : Rows) (c : Checked) (attached count : ℕ) (chain : Chain Answer) (stores : List Store) (answer : Answer) → AreFirst attached count → count ≤ length stores
     → AllRan s rows c (answer_of chain) (has_refused chain) stores → (b : ℕ) × (b < 8) × (has attached b ≡ true) × (answer_of chain b ≡ Some answer) → IsEffect (given_on rows c) answer
 effect_kept s rows c attached count chain stores answer first len ran (b, below, there_b, is) =
     kept_effect s rows c (answer_of chain) (has_refused chain) stores ran b (omega (arith, (first b below).0 there_b, len)) answer is
+
+-- every backend is asked, or the statement changes no rows
+pub reaches : (c : Checked) (rows : Rows) (count reached : ℕ) → reached ≡ reach_of c count → (reached ≡ count) ⊎ (rows_left (given_on rows c) rows ≡ rows)
+unfolding effect_of
+reaches (Insert key value) rows count reached is = inl is
+reaches (Select key) rows count reached is = inr (laid_over-none rows)
+
+-- stores at rest with the same rows have those of the primary
+pub at_rest : (rows : Rows) (stores : List Store) → 0 < length stores → AreReady rows stores → AreReady (primary_rows stores) stores
+at_rest rows [] some ready = absurd (omega arith)
+at_rest rows (st ∷ stores) some ready = subst (λ (r : Rows). AreReady r (st ∷ stores)) (sym ((ready 0 st refl).rows_are)) ready
+
+pub ready_push : (rows : Rows) (stores : List Store) (st : Store) → AreReady rows stores → IsReady rows st → AreReady rows (stores ++ st ∷ [])
+ready_push rows [] st ready one zero x is = let e : st ≡ x = cc in subst (λ (y : Store). IsReady rows y) e one
+ready_push rows [] st ready one (suc b) x is = absurd (cc)
+ready_push rows (z ∷ stores) st ready one zero x is = ready zero x is
+ready_push rows (z ∷ stores) st ready one (suc b) x is = ready_push rows stores st (λ k y e. ready (suc k) y e) one b x is
+
+-- a blank store is at rest
+pub blank_ready : (st : Store) → st ≡ blank → IsReady no_rows st
+blank_ready st is = subst (λ (x : Store). IsReady no_rows x) (sym is) (record { rows_are = refl; no_transaction = λ o. refl; idle = λ o. refl; not_lost = refl })
+
+pub rest_of : {X : Type 0} (v : X → Store) (xs ys : List X) → ys ≡ xs → 0 < length xs → AreReady no_rows (map v xs) → AreReady (primary_rows (map v ys)) (map v ys)
+rest_of v xs ys is some ready =
+    let len : length (map v ys) ≡ length xs = length-map ys v ∙ ap length is in
+    at_rest no_rows (map v ys) (omega (arith, len, some)) (subst (λ l. AreReady no_rows (map v l)) (sym is) ready)

@@ -10,6 +10,10 @@ use Rattle.session_core.specs.Standing.{IsAlone, IsAsked}
 abbrev pub AreFirst : ℕ → ℕ → Type 0
 AreFirst attached count = (b : ℕ) → b < 8 → (has attached b ≡ true → b < count) × (b < count → has attached b ≡ true)
 
+-- the attached backends are among the stores
+abbrev pub AreThere : ℕ → ℕ → Type 0
+AreThere attached count = (b : ℕ) → b < 8 → has attached b ≡ true → b < count
+
 -- each store may be asked
 abbrev pub MayAllPost : ℕ → Request → List Store → Type 0
 MayAllPost s request stores = (b : ℕ) (st : Store) → slice_get stores b ≡ Some st → IsAlone s st × MayPost st s request

@@ -1,5 +1,7 @@
 -- The request of a step, and the last step of a transaction.
-use Rattle.std.specs.Prelude.{if◌then◌else◌}
+use Rattle.std.specs.Prelude.{ℕ, if◌then◌else◌}
+use Rattle.backend_trait.specs.declared.checked.Checked.{Checked}
+use Rattle.backend_trait.specs.declared.checked.Checked.TheVariants.{Insert, Select}
 use Rattle.backend_trait.specs.declared.answer.Answer.{Answer}
 use Rattle.backend_trait.specs.Store.{is_refusal}
 use Rattle.backend_trait.specs.declared.request.Request.{Request}
@@ -16,3 +18,8 @@ request_of steps.Rollback = requests.Rollback
 -- a refusal is rolled back
 abbrev pub last_step : Answer → Step
 last_step answer = if is_refusal answer then steps.Rollback else steps.Commit
+
+-- how many backends run a statement, of so many: a write runs at each, a read at the primary alone
+abbrev pub reach_of : Checked → ℕ → ℕ
+reach_of (Insert key value) count = count
+reach_of (Select key) count = 1

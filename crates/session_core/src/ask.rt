@@ -4,7 +4,7 @@ ghost use Rattle.backend_trait.specs.Store.{Store, MayPost, is_refusal};
 ghost use Rattle.backend_trait.specs.declared.answer.Answer.{Answer};
 ghost use Rattle.write_path.specs.Chains.{answer_of, has_refused, kind_of, HaveAllAnswered, IsStopped, Takes};
 ghost use Rattle.session_core.specs.Standing.{IsAlone, IsAsked};
-ghost use Rattle.session_core.specs.Chains.{AreFirst, MayAllPost, WereAsked, AskedAt};
+ghost use Rattle.session_core.specs.Chains.{AreThere, MayAllPost, WereAsked, AskedAt};
 ghost use Rattle.session_core.specs.Steps.{request_of};
 
 use backend_trait::{Answer, Backend, Checked, Polled, Posted, Request};
@@ -108,7 +108,7 @@ pub(crate) fn go_down<B: Backend>(
     s: SessionId,
     step: Step,
 ) -> Result<(), NoMemory>
-    requires attached { AreFirst attached.bits (length shelf.old) }
+    requires attached { AreThere attached.bits (length shelf.old) }
     requires few { length shelf.old ≤ 8 }
     requires may { MayAllPost s.number (request_of step) (map B.meaning shelf.old) }
     requires honest { All (λ b. B.is_honest b ≡ true) shelf.old }

@@ -5,3 +5,6 @@ mod ask;
 mod statement;
 
 pub use statement::run_statement;
+
+#[cfg(test)]
+mod tests;

@@ -5,7 +5,7 @@ ghost use Rattle.backend_trait.specs.Alone.{given_on, IsEffect, rows_after};
 ghost use Rattle.write_path.specs.Chains.{answer_of, HaveAllAnswered, IsStopped, holder_of};
 ghost use Rattle.session_core.specs.Statements.{AreReady, primary_rows};
 ghost use Rattle.session_core.specs.Chains.{AreFirst};
-ghost use Rattle.session_core.specs.Steps.{last_step};
+ghost use Rattle.session_core.specs.Steps.{last_step, reach_of};
 
 use crate::ask::{Step, go_down, is_refusal};
 use backend_trait::{Answer, Backend, Checked};
@@ -13,8 +13,8 @@ use pool_base::{BackendId, BackendSet, NoMemory, SessionId};
 use write_path::{Chain, ChainKind, Judged};
 
 /// Runs a statement over the backends, in a transaction of its own that commits: it takes
-/// snapshots,
-/// runs and commits down the chain in rising order. A refusal of the primary is rolled back.
+/// snapshots, runs and commits down the chain in rising order; a read runs at the primary alone.
+/// A refusal of the primary is rolled back.
 ///
 /// After want of memory nothing is said of the backends.
 pub fn run_statement<B: Backend>(
@@ -40,15 +40,31 @@ pub fn run_statement<B: Backend>(
         (λ answer. IsEffect (given_on (primary_rows (map B.meaning shelf.old)) statement) answer) }
     ensures ready { OnOk result (AreReady (rows_after (primary_rows (map B.meaning shelf.old))
         statement) (map B.meaning shelf.new)) }
+    ensures rest { OnOk result (AreReady (primary_rows (map B.meaning shelf.new)) (map B.meaning
+        shelf.new)) }
 {
     let attached = first(shelf.len());
     go_down(chain, ChainKind::All, shelf, attached, s, Step::Begin)?;
+    let asked = first(reach(statement, shelf.len()));
     let run = Step::Run(statement);
-    go_down(chain, ChainKind::StopAtRefusal, shelf, attached, s, run)?;
-    let answer = kept(chain, attached)?;
+    go_down(chain, ChainKind::StopAtRefusal, shelf, asked, s, run)?;
+    let answer = kept(chain, asked)?;
     let last = last_step(&answer);
     go_down(chain, ChainKind::All, shelf, attached, s, last)?;
     Ok(answer)
+}
+
+/// How many backends run the statement: a read runs at the primary alone.
+fn reach(statement: Checked, count: usize) -> usize
+    requires { 0 < count }
+    ensures reach { result ≡ reach_of statement count }
+    ensures some { 0 < result }
+    ensures within { result ≤ count }
+{
+    match statement {
+        Checked::Insert { .. } => count,
+        Checked::Select { .. } => 1,
+    }
 }
 
 /// How a transaction ends after this answer.
