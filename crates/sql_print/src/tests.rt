@@ -68,7 +68,7 @@ fn add<T: Drop>(pairs: &mut List<Pair<T>>, tree: T, text: &'static str) -> Resul
     pairs.push(Pair { tree, text })
 }
 
-fn operators(alloc: Global) -> Result<List<Pair<Expr>>, NoMemory> {
+fn logic(alloc: Global) -> Result<List<Pair<Expr>>, NoMemory> {
     let mut pairs = List::new(alloc);
     let both = Expr::And(two(alloc, named(alloc, "b")?, named(alloc, "c")?)?);
     let or = Expr::Or(two(alloc, named(alloc, "a")?, both)?);
@@ -79,6 +79,11 @@ fn operators(alloc: Global) -> Result<List<Pair<Expr>>, NoMemory> {
     let not = Expr::Not(Boxed::new(alloc, named(alloc, "a")?)?);
     let twice = Expr::Not(Boxed::new(alloc, not)?);
     add(&mut pairs, twice, "NOT (NOT a)")?;
+    Ok(pairs)
+}
+
+fn members(alloc: Global) -> Result<List<Pair<Expr>>, NoMemory> {
+    let mut pairs = List::new(alloc);
     let tested = Expr::IsNull {
         of: Boxed::new(alloc, named(alloc, "a")?)?,
         tests: List::from_slice(alloc, &[true, false])?,
@@ -92,31 +97,32 @@ fn operators(alloc: Global) -> Result<List<Pair<Expr>>, NoMemory> {
         member(alloc, true, entries)?,
         "a NOT IN (NULL, FALSE)",
     )?;
-    let texts = two(
-        alloc,
-        Expr::Str(text(alloc, "it's")?),
-        Expr::Str(text(alloc, "")?),
-    )?;
+    Ok(pairs)
+}
+
+fn arithmetic(alloc: Global) -> Result<List<Pair<Expr>>, NoMemory> {
+    let mut pairs = List::new(alloc);
+    let its = Expr::Str(text(alloc, "it's")?);
+    let texts = two(alloc, its, Expr::Str(text(alloc, "")?))?;
     add(&mut pairs, Expr::Concat(texts), "'it''s' || ''")?;
     let one = sum(alloc, Expr::Int(1), false, Expr::Int(2))?;
     let less = sum(alloc, one, true, minus(alloc, Expr::Int(3))?)?;
     add(&mut pairs, less, "(1 + 2) - (-3)")?;
+    Ok(pairs)
+}
+
+fn products(alloc: Global) -> Result<List<Pair<Expr>>, NoMemory> {
+    let mut pairs = List::new(alloc);
     let factors = [
         (ProductSign::Times, 2),
         (ProductSign::Over, 3),
         (ProductSign::Rest, 4),
     ];
-    add(
-        &mut pairs,
-        product(alloc, Expr::Int(1), &factors)?,
-        "1 * 2 / 3 % 4",
-    )?;
+    let long = product(alloc, Expr::Int(1), &factors)?;
+    add(&mut pairs, long, "1 * 2 / 3 % 4")?;
     let sum = sum(alloc, Expr::Int(1), false, Expr::Int(2))?;
-    add(
-        &mut pairs,
-        product(alloc, sum, &[(ProductSign::Times, 3)])?,
-        "(1 + 2) * 3",
-    )?;
+    let short = product(alloc, sum, &[(ProductSign::Times, 3)])?;
+    add(&mut pairs, short, "(1 + 2) * 3")?;
     Ok(pairs)
 }
 
@@ -139,7 +145,7 @@ fn comparisons(alloc: Global) -> Result<List<Pair<Expr>>, NoMemory> {
     Ok(pairs)
 }
 
-fn leaves(alloc: Global) -> Result<List<Pair<Expr>>, NoMemory> {
+fn numbers(alloc: Global) -> Result<List<Pair<Expr>>, NoMemory> {
     let mut pairs = List::new(alloc);
     add(&mut pairs, minus(alloc, Expr::Int(5))?, "-5")?;
     let twice = minus(alloc, minus(alloc, Expr::Int(0))?)?;
@@ -148,23 +154,27 @@ fn leaves(alloc: Global) -> Result<List<Pair<Expr>>, NoMemory> {
     add(&mut pairs, least, "-9223372036854775808")?;
     let least = minus(alloc, Expr::Int(-9223372036854775808))?;
     add(&mut pairs, least, "-(-9223372036854775808)")?;
-    add(
-        &mut pairs,
-        Expr::Int(9223372036854775807),
-        "9223372036854775807",
-    )?;
+    let greatest = Expr::Int(9223372036854775807);
+    add(&mut pairs, greatest, "9223372036854775807")?;
+    Ok(pairs)
+}
+
+fn leaves(alloc: Global) -> Result<List<Pair<Expr>>, NoMemory> {
+    let mut pairs = List::new(alloc);
     add(&mut pairs, Expr::Bool(true), "TRUE")?;
     add(&mut pairs, Expr::Null, "NULL")?;
     add(&mut pairs, Expr::Param(1000), "$1000")?;
     add(&mut pairs, Expr::CurrentTimestamp, "CURRENT_TIMESTAMP")?;
     add(&mut pairs, Expr::Now, "now()")?;
-    add(
-        &mut pairs,
-        Expr::TransactionTimestamp,
-        "transaction_timestamp()",
-    )?;
+    let transaction = Expr::TransactionTimestamp;
+    add(&mut pairs, transaction, "transaction_timestamp()")?;
     let moment = Expr::Moment(text(alloc, "2000-01-01 00:00:00+00")?);
     add(&mut pairs, moment, "TIMESTAMPTZ '2000-01-01 00:00:00+00'")?;
+    Ok(pairs)
+}
+
+fn names(alloc: Global) -> Result<List<Pair<Expr>>, NoMemory> {
+    let mut pairs = List::new(alloc);
     let qualified = Expr::Column {
         qualifier: Some(text(alloc, "Order")?),
         name: text(alloc, "id")?,
@@ -210,9 +220,14 @@ fn select(alloc: Global, list: SelectList, table: Option<Text>) -> Select {
 fn an_expression_has_its_one_text(rt: HostRuntime) {
     let alloc = rt.alloc();
     let tables = [
-        operators(alloc).expect(&rt, "memory"),
+        logic(alloc).expect(&rt, "memory"),
+        members(alloc).expect(&rt, "memory"),
+        arithmetic(alloc).expect(&rt, "memory"),
+        products(alloc).expect(&rt, "memory"),
         comparisons(alloc).expect(&rt, "memory"),
+        numbers(alloc).expect(&rt, "memory"),
         leaves(alloc).expect(&rt, "memory"),
+        names(alloc).expect(&rt, "memory"),
     ];
     for pairs in tables {
         for pair in pairs.as_slice() {
@@ -262,11 +277,18 @@ fn selects(alloc: Global) -> Result<List<Pair<Statement>>, NoMemory> {
     add(&mut pairs, Statement::Select(all), "SELECT * FROM t")?;
     let mut count = select(alloc, SelectList::Count, table(alloc, "table")?);
     count.filter = Some(Expr::Bool(true));
-    add(
-        &mut pairs,
-        Statement::Select(count),
-        "SELECT count(*) FROM \"table\" WHERE TRUE",
-    )?;
+    let wanted = "SELECT count(*) FROM \"table\" WHERE TRUE";
+    add(&mut pairs, Statement::Select(count), wanted)?;
+    let mut locked = select(alloc, SelectList::Star, table(alloc, "t")?);
+    locked.order = order(alloc, &[("a", false), ("b", true)])?;
+    locked.for_update = true;
+    let wanted = "SELECT * FROM t ORDER BY a, b DESC FOR UPDATE";
+    add(&mut pairs, Statement::Select(locked), wanted)?;
+    Ok(pairs)
+}
+
+fn with_names(alloc: Global) -> Result<List<Pair<Statement>>, NoMemory> {
+    let mut pairs = List::new(alloc);
     let mut items = List::new(alloc);
     items.push(SelectItem {
         expr: named(alloc, "id")?,
@@ -279,25 +301,19 @@ fn selects(alloc: Global) -> Result<List<Pair<Statement>>, NoMemory> {
     let mut whole = select(alloc, SelectList::Items(items), table(alloc, "q")?);
     whole.order = order(alloc, &[("name", true)])?;
     whole.limit = Some(Expr::Int(1));
-    let text = "SELECT id AS n, name FROM q ORDER BY name DESC LIMIT 1";
-    add(&mut pairs, Statement::Select(whole), text)?;
-    let mut locked = select(alloc, SelectList::Star, table(alloc, "t")?);
-    locked.order = order(alloc, &[("a", false), ("b", true)])?;
-    locked.for_update = true;
-    let text = "SELECT * FROM t ORDER BY a, b DESC FOR UPDATE";
-    add(&mut pairs, Statement::Select(locked), text)?;
+    let wanted = "SELECT id AS n, name FROM q ORDER BY name DESC LIMIT 1";
+    add(&mut pairs, Statement::Select(whole), wanted)?;
+    Ok(pairs)
+}
+
+fn limits(alloc: Global) -> Result<List<Pair<Statement>>, NoMemory> {
+    let mut pairs = List::new(alloc);
     let five = limited(alloc, minus(alloc, Expr::Int(5))?)?;
     add(&mut pairs, five, "SELECT * FROM t LIMIT -5")?;
-    add(
-        &mut pairs,
-        limited(alloc, Expr::Null)?,
-        "SELECT * FROM t LIMIT NULL",
-    )?;
-    add(
-        &mut pairs,
-        limited(alloc, Expr::Param(2))?,
-        "SELECT * FROM t LIMIT $2",
-    )?;
+    let null = limited(alloc, Expr::Null)?;
+    add(&mut pairs, null, "SELECT * FROM t LIMIT NULL")?;
+    let param = limited(alloc, Expr::Param(2))?;
+    add(&mut pairs, param, "SELECT * FROM t LIMIT $2")?;
     let least = limited(alloc, Expr::Int(-9223372036854775808))?;
     add(
         &mut pairs,
@@ -307,22 +323,28 @@ fn selects(alloc: Global) -> Result<List<Pair<Statement>>, NoMemory> {
     Ok(pairs)
 }
 
-fn writes(alloc: Global) -> Result<List<Pair<Statement>>, NoMemory> {
+fn inserts(alloc: Global) -> Result<List<Pair<Statement>>, NoMemory> {
     let mut pairs = List::new(alloc);
-    let mut names = List::new(alloc);
-    names.push(text(alloc, "id")?)?;
-    names.push(text(alloc, "desc")?)?;
+    let mut columns = List::new(alloc);
+    columns.push(text(alloc, "id")?)?;
+    columns.push(text(alloc, "desc")?)?;
     let mut rows = List::new(alloc);
     let hara = Expr::Str(text(alloc, "O'Hara")?);
     rows.push(row(alloc, Cell::Given(Expr::Int(1)), Cell::Given(hara))?)?;
-    rows.push(row(alloc, Cell::Given(minus(alloc, Expr::Int(2))?), Cell::Fill)?)?;
+    let two = minus(alloc, Expr::Int(2))?;
+    rows.push(row(alloc, Cell::Given(two), Cell::Fill)?)?;
     let insert = Insert {
         table: text(alloc, "q")?,
-        columns: Some(names),
+        columns: Some(columns),
         rows,
     };
     let wanted = "INSERT INTO q (id, \"desc\") VALUES (1, 'O''Hara'), (-2, DEFAULT)";
     add(&mut pairs, Statement::Insert(insert), wanted)?;
+    Ok(pairs)
+}
+
+fn unnamed_inserts(alloc: Global) -> Result<List<Pair<Statement>>, NoMemory> {
+    let mut pairs = List::new(alloc);
     let mut rows = List::new(alloc);
     rows.push(row(alloc, Cell::Fill, Cell::Given(Expr::Now))?)?;
     let insert = Insert {
@@ -332,6 +354,11 @@ fn writes(alloc: Global) -> Result<List<Pair<Statement>>, NoMemory> {
     };
     let wanted = "INSERT INTO now VALUES (DEFAULT, now())";
     add(&mut pairs, Statement::Insert(insert), wanted)?;
+    Ok(pairs)
+}
+
+fn updates(alloc: Global) -> Result<List<Pair<Statement>>, NoMemory> {
+    let mut pairs = List::new(alloc);
     let mut sets = List::new(alloc);
     sets.push(SetItem {
         column: text(alloc, "v")?,
@@ -349,6 +376,11 @@ fn writes(alloc: Global) -> Result<List<Pair<Statement>>, NoMemory> {
     };
     let wanted = "UPDATE t SET v = v + 1, w = -1 WHERE id = 7";
     add(&mut pairs, Statement::Update(update), wanted)?;
+    Ok(pairs)
+}
+
+fn deletes(alloc: Global) -> Result<List<Pair<Statement>>, NoMemory> {
+    let mut pairs = List::new(alloc);
     let delete = Delete {
         table: text(alloc, "t")?,
         filter: None,
@@ -359,11 +391,13 @@ fn writes(alloc: Global) -> Result<List<Pair<Statement>>, NoMemory> {
         table: text(alloc, "t")?,
         filter: Some(filter),
     };
-    add(
-        &mut pairs,
-        Statement::Delete(delete),
-        "DELETE FROM t WHERE a IN (1, 2)",
-    )?;
+    let wanted = "DELETE FROM t WHERE a IN (1, 2)";
+    add(&mut pairs, Statement::Delete(delete), wanted)?;
+    Ok(pairs)
+}
+
+fn commands(alloc: Global) -> Result<List<Pair<Statement>>, NoMemory> {
+    let mut pairs = List::new(alloc);
     add(&mut pairs, Statement::Begin, "BEGIN")?;
     add(&mut pairs, Statement::Commit, "COMMIT")?;
     add(&mut pairs, Statement::Rollback, "ROLLBACK")?;
@@ -378,7 +412,13 @@ fn a_statement_has_its_one_text(rt: HostRuntime) {
     let alloc = rt.alloc();
     let tables = [
         selects(alloc).expect(&rt, "memory"),
-        writes(alloc).expect(&rt, "memory"),
+        with_names(alloc).expect(&rt, "memory"),
+        limits(alloc).expect(&rt, "memory"),
+        inserts(alloc).expect(&rt, "memory"),
+        unnamed_inserts(alloc).expect(&rt, "memory"),
+        updates(alloc).expect(&rt, "memory"),
+        deletes(alloc).expect(&rt, "memory"),
+        commands(alloc).expect(&rt, "memory"),
     ];
     for pairs in tables {
         for pair in pairs.as_slice() {
