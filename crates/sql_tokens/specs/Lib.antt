@@ -1,1 +1,5 @@
 pub mod Words
+pub mod Bytes
+pub mod Pieces
+pub mod Tokens
+pub mod Calls

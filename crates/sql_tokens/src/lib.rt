@@ -1,10 +1,22 @@
-//! The tokens of a text of SQL.
+//! The tokens of a text of SQL: words, names, numbers, strings, parameters and marks, each with its
+//! place. What is read is the one list of tokens that the text has.
 #![tactic(auto)]
 
+mod bytes;
 mod mark;
+mod name;
+mod number;
+mod piece;
+mod quoted;
+mod reader;
+mod sign;
 mod token;
 mod word;
 
 pub use mark::Mark;
+pub use reader::read_tokens;
 pub use token::{Name, Placed, Token, TokenFault};
-pub use word::Word;
+pub use word::{WORDS, Word, all_words};
+
+#[cfg(test)]
+mod tests;

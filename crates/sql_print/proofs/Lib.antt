@@ -1,0 +1,3 @@
+pub mod QuoteLemmas
+pub mod Forms
+pub mod Steps

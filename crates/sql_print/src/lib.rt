@@ -1,0 +1,15 @@
+//! The one text of a statement.
+#![tactic(auto)]
+
+mod between;
+mod expression;
+mod leaf;
+mod listed;
+mod quoting;
+mod statement;
+mod writer;
+
+pub use statement::print_statement;
+
+#[cfg(test)]
+mod tests;
