@@ -1,7 +1,7 @@
 -- What is read is of the grammar, and what is of the grammar is read, level by level.
-use Rattle.std.proofs.Common.{◌≡◌, ℕ, zero, suc, ◌<◌, Bool as Boolean, true, false, List, [], ◌∷◌, length, Option, Some, None, Ok, refl, ap, subst, ◌∙◌, arith, inl, inr}
+use Rattle.std.proofs.Common.{◌≡◌, ℕ, zero, suc, ◌<◌, List, ◌∷◌, length, Option, Some, None, Ok, refl, ap, subst, ◌∙◌, arith, inl, inr}
 use Rattle.sql_grammar.specs.Grammar.{Form, ChainedOf, part}
-use Rattle.sql_grammar.specs.Reading.{◌>>=◌, Parse, chained}
+use Rattle.sql_grammar.specs.Reading.{◌>>=◌, Parse}
 use Rattle.sql_grammar.proofs.Good.{Has, Any, Good, then_has, has_map, good_chained}
 use Rattle.sql_tokens.specs.declared.mark.Mark.TheVariants as mark
 use Rattle.sql_tokens.specs.declared.token.Name.{Name}
@@ -15,8 +15,8 @@ use Rattle.sql_expr.specs.declared.opening.Function.{Function}
 use Rattle.sql_expr.specs.declared.opening.Opening.{Opening}
 use Rattle.sql_expr.specs.declared.opening.Opening.TheVariants as opening
 use Rattle.sql_expr.specs.Grammar.{and_word, bars, comma, is_word, or_word, or_of, and_of, tests_of, concat_of, sum_of, product_of, list_of, sum_part, product_part, sign, factor_sign, comparison_mark, IsPlain, function_word, PrimOf, number, string, truth, falsehood, null, parameter, column, qualified, parenthesis, current, call, moment, UnOf, negative, prim, ProductOf, SumOf, CatOf, ListOf, MemOf, cat, within, without, CmpOf, mem, compared, NullityOf, TestOf, NotOf, negated, test, AndOf, OrOf, MinusOf, Behind}
-use Rattle.sql_expr.specs.Reading.{after_or, after_and, after_is, after_comma, after_bars, after_sign, after_factor_sign, close_at, in_at, name_at, string_at, nullity_at, function_of, call_with, named_with, prim_with, un_with, product_with, sum_with, cat_with, items_with, list_with, member_with, mem_rest, mem_with, compared_with, cmp_rest, cmp_with, test_with, not_with, and_with, or_with, minus_with, negated_with, behind}
-use Rattle.sql_expr.proofs.Ends.{after_name, after_member, after_comparison, after_not, after_minus, after_least, EndsUn, EndsProduct, EndsSum, EndsCat, EndsMem, EndsCmp, EndsTest, EndsAnd, EndsOr, EndsItems, EndsOf, factor_stops, sign_stops, bars_stop, in_stops, not_stops, comparison_stops, is_stops, and_stops, or_stops, comma_stops, close_stops, or_marks, and_marks, is_marks, comma_marks, bars_marks, sign_marks, factor_marks}
+use Rattle.sql_expr.specs.Reading.{after_or, after_and, after_is, after_comma, after_bars, after_sign, after_factor_sign, close_at, in_at, name_at, string_at, nullity_at, function_of, call_with, named_with, prim_with, un_with, product_with, sum_with, cat_with, items_with, list_with, mem_rest, mem_with, compared_with, cmp_rest, cmp_with, test_with, not_with, and_with, or_with, minus_with, negated_with, behind}
+use Rattle.sql_expr.proofs.Ends.{after_member, after_comparison, after_not, after_minus, after_least, EndsUn, EndsProduct, EndsSum, EndsCat, EndsMem, EndsCmp, EndsTest, EndsAnd, EndsOr, EndsItems, EndsOf, factor_stops, sign_stops, bars_stop, in_stops, not_stops, comparison_stops, is_stops, and_stops, or_stops, comma_stops, close_stops, or_marks, and_marks, is_marks, comma_marks, bars_marks, sign_marks, factor_marks}
 use Rattle.sql_expr.proofs.Pieces.{NameOf, StringOf, CloseOf, InOf, close_takes, in_takes, name_takes, string_takes, good_nullity, good_called, Calls, function_found, function_again}
 
 module _ (B : Opening → Form Token Expr) (b : Opening → Parse Token Expr) (good : (o : Opening) → Good (B o) (b o) (EndsOf o)) where

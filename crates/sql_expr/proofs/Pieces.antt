@@ -1,10 +1,9 @@
 -- What stands for one or two tokens, and how a name calls a function.
-use Rattle.std.proofs.Common.{◌≡◌, ℕ, ◌<◌, Bool as Boolean, true, false, cond, List, [], ◌∷◌, length, Option, Some, None, Ok, refl, ap, arith, inl, inr}
+use Rattle.std.proofs.Common.{◌≡◌, ℕ, ◌<◌, Bool as Boolean, true, false, cond, List, ◌∷◌, length, Option, Some, None, Ok, refl, ap, arith, inl, inr}
 use Rattle.std.specs.Prelude.{codes}
 use Rattle.std.specs.Str.{bytes_eq}
 use Rattle.std.proofs.lemmas.Slice.Eq.{bytes_eq-Decides}
 use Rattle.sql_grammar.specs.Grammar.{Form}
-use Rattle.sql_grammar.specs.Reading.{◌>>=◌, Parse}
 use Rattle.sql_grammar.proofs.Good.{Has, Any, Good, then_has}
 use Rattle.sql_tokens.specs.declared.mark.Mark.TheVariants as mark
 use Rattle.sql_tokens.specs.declared.token.Name.{Name}

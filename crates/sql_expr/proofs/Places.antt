@@ -1,12 +1,11 @@
 -- Each level fails at the first token at which no text of it can go on, or that passes the limit.
-use Rattle.std.proofs.Common.{◌≡◌, ℕ, zero, suc, Bool as Boolean, true, false, List, [], ◌∷◌, length, Option, Some, None, Result, Ok, Err, refl, ap, subst, ◌∙◌, inl, inr, ◌⊎◌}
+use Rattle.std.proofs.Common.{◌≡◌, ℕ, zero, suc, Bool as Boolean, true, false, List, [], ◌∷◌, length, Option, Some, None, Ok, Err, refl, ap, subst, ◌∙◌, inl, inr, ◌⊎◌}
 use Rattle.sql_grammar.specs.declared.fault.Awaited.TheVariants.{Operand, Word}
-use Rattle.sql_grammar.specs.declared.fault.Fault.{Fault}
-use Rattle.sql_grammar.specs.declared.fault.Fault.TheVariants.{Syntax, TooDeep}
+use Rattle.sql_grammar.specs.declared.fault.Fault.TheVariants.{Syntax}
 use Rattle.sql_grammar.specs.Grammar.{Form, ChainedOf, part}
 use Rattle.sql_grammar.specs.Reading.{◌>>=◌, Parse}
 use Rattle.sql_grammar.proofs.Good.{Any}
-use Rattle.sql_grammar.proofs.Told.{head, Told, told_then, told_map, takes, refuses, stops, behind as taking, otherwise, narrowed, loosened, by_none, by_head}
+use Rattle.sql_grammar.proofs.Told.{Told, told_then, told_map, takes, refuses, stops, behind as taking, otherwise, narrowed, loosened, by_none, by_head}
 use Rattle.sql_grammar.proofs.Chains.{chained_told}
 use Rattle.sql_tokens.specs.declared.mark.Mark.TheVariants as mark
 use Rattle.sql_tokens.specs.declared.token.Name.{Name}
@@ -21,7 +20,7 @@ use Rattle.sql_expr.specs.declared.opening.Opening.{Opening}
 use Rattle.sql_expr.specs.declared.opening.Opening.TheVariants as opening
 use Rattle.sql_expr.specs.Grammar.{and_word, bars, comma, is_word, or_word, least, or_of, and_of, tests_of, concat_of, sum_of, product_of, list_of, sum_part, product_part, sign, factor_sign, comparison_mark, function_tree, PrimOf, number, string, truth, falsehood, null, parameter, column, qualified, parenthesis, current, call, moment, UnOf, negative, prim, ProductOf, SumOf, CatOf, ListOf, MemOf, cat, within, without, CmpOf, mem, compared, NullityOf, TestOf, NotOf, negated, test, AndOf, OrOf, MinusOf, Behind}
 use Rattle.sql_expr.specs.Reading.{after_or, after_and, after_is, after_comma, after_bars, after_sign, after_factor_sign, close_at, in_at, name_at, string_at, nullity_at, called_at, function_of, call_with, named_with, prim_with, un_with, product_with, sum_with, cat_with, items_with, list_with, member_with, mem_rest, mem_with, compared_with, cmp_rest, cmp_with, test_with, not_with, and_with, or_with, minus_with, negated_with, behind}
-use Rattle.sql_expr.proofs.Ends.{EndsUn, EndsProduct, EndsSum, EndsCat, EndsMem, EndsCmp, EndsTest, EndsAnd, EndsOr, EndsItems, EndsOf, in_stops, not_stops, close_stops, or_marks, and_marks, is_marks, comma_marks, bars_marks, sign_marks, factor_marks, or_stays, and_stays, is_stays, comma_stays, bars_stay, sign_stays, factor_stays}
+use Rattle.sql_expr.proofs.Ends.{EndsUn, EndsProduct, EndsSum, EndsCat, EndsMem, EndsCmp, EndsTest, EndsAnd, EndsOr, EndsItems, EndsOf, close_stops, or_marks, and_marks, is_marks, comma_marks, bars_marks, sign_marks, factor_marks, or_stays, and_stays, is_stays, comma_stays, bars_stay, sign_stays, factor_stays}
 use Rattle.sql_expr.proofs.Pieces.{NameOf, StringOf, CloseOf, InOf, CalledOf, Calls, function_found}
 use Rattle.sql_expr.proofs.Refusals.{blank, close_told, in_told, name_told, string_told, nullity_told, called_told}
 

@@ -1,16 +1,15 @@
 -- What stands for one or two tokens is refused at the first that does not fit.
-use Rattle.std.proofs.Common.{◌≡◌, ℕ, Bool as Boolean, true, false, List, [], ◌∷◌, length, Ok, Err, refl, ap, inl, inr}
+use Rattle.std.proofs.Common.{◌≡◌, true, false, List, [], ◌∷◌, length, Ok, Err, refl, ap, inl, inr}
 use Rattle.sql_grammar.specs.declared.fault.Awaited.TheVariants.{Word, Arguments, Close}
 use Rattle.sql_grammar.specs.declared.fault.Fault.TheVariants.{Syntax}
 use Rattle.sql_grammar.specs.Reading.{◌>>=◌}
 use Rattle.sql_grammar.proofs.Good.{Any}
-use Rattle.sql_grammar.proofs.Told.{head, Told, told_map, takes, refuses, behind, by_none, by_head}
+use Rattle.sql_grammar.proofs.Told.{Told, told_map, takes, refuses, behind, by_none, by_head}
 use Rattle.sql_tokens.specs.declared.mark.Mark.TheVariants as mark
 use Rattle.sql_tokens.specs.declared.token.Name.{Name}
 use Rattle.sql_tokens.specs.declared.token.Token.{Token}
 use Rattle.sql_tokens.specs.declared.token.Token.TheVariants as token
 use Rattle.sql_tokens.specs.declared.word.Word.TheVariants as word
-use Rattle.sql_tree.specs.declared.expr.Expr.{Expr}
 use Rattle.sql_expr.specs.declared.opening.Function.{Function}
 use Rattle.sql_expr.specs.Grammar.{function_tree, NullityOf}
 use Rattle.sql_expr.specs.Reading.{close_at, in_at, null_at, name_at, string_at, nullity_at, called_at}

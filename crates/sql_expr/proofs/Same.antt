@@ -1,7 +1,7 @@
 -- A reader of expressions that may nest deeper gives the same, but for TooDeep.
-use Rattle.std.proofs.Common.{◌≡◌, ℕ, zero, suc, List, ◌∷◌, Option, Some, None, Ok, refl, inl, inr}
+use Rattle.std.proofs.Common.{ℕ, zero, suc, List, ◌∷◌, Option, Some, None, refl, inl, inr}
 use Rattle.sql_grammar.specs.Grammar.{part}
-use Rattle.sql_grammar.specs.Reading.{◌>>=◌, Parse}
+use Rattle.sql_grammar.specs.Reading.{Parse}
 use Rattle.sql_grammar.proofs.Depth.{Same, after_same, same_then, same_last, same_chained}
 use Rattle.sql_tokens.specs.declared.mark.Mark.TheVariants as mark
 use Rattle.sql_tokens.specs.declared.token.Name.{Name}
@@ -15,7 +15,7 @@ use Rattle.sql_expr.specs.declared.opening.Function.{Function}
 use Rattle.sql_expr.specs.declared.opening.Opening.{Opening}
 use Rattle.sql_expr.specs.declared.opening.Opening.TheVariants as opening
 use Rattle.sql_expr.specs.Grammar.{or_of, and_of, tests_of, concat_of, sum_of, product_of, list_of, sum_part, product_part}
-use Rattle.sql_expr.specs.Reading.{after_or, after_and, after_is, after_comma, after_bars, after_sign, after_factor_sign, in_at, nullity_at, function_of, call_with, named_with, prim_with, un_with, product_with, sum_with, cat_with, items_with, list_with, member_with, mem_rest, mem_with, compared_with, cmp_rest, cmp_with, test_with, not_with, and_with, or_with, minus_with, negated_with, behind}
+use Rattle.sql_expr.specs.Reading.{after_or, after_and, after_is, after_comma, after_bars, after_sign, after_factor_sign, in_at, nullity_at, function_of, call_with, named_with, prim_with, un_with, product_with, sum_with, cat_with, items_with, list_with, mem_rest, mem_with, compared_with, cmp_rest, cmp_with, test_with, not_with, and_with, or_with, minus_with, negated_with, behind}
 
 module _ (b c : Opening → Parse Token Expr) (same : (o : Opening) (ts : List Token) → Same (b o ts) (c o ts)) where
   same_call : (n : Name) (f : Option Function) (ts : List Token) → Same (call_with b n f ts) (call_with c n f ts)

@@ -1,5 +1,5 @@
 -- Reading expressions from left to right, with the first fault that is met.
-use Rattle.std.specs.Prelude.{◌≡◌, ℕ, zero, suc, Bool as Boolean, true, false, cond, List, [], ◌∷◌, length, Option, Some, None, Result, Ok, Err, codes}
+use Rattle.std.specs.Prelude.{ℕ, zero, suc, Bool as Boolean, true, false, cond, List, ◌∷◌, length, Option, Some, None, Result, Ok, Err, codes}
 use Rattle.std.specs.Str.{bytes_eq}
 use Rattle.sql_grammar.specs.declared.fault.Awaited.TheVariants.{Operand, Word, Arguments, Close, End}
 use Rattle.sql_grammar.specs.declared.fault.Fault.{Fault}

@@ -1,5 +1,5 @@
 -- A chain fails at the first token at which no text of it can go on.
-use Rattle.std.proofs.Common.{◌≡◌, Bool, true, List, [], ◌∷◌, None, Result, Ok, refl}
+use Rattle.std.proofs.Common.{◌≡◌, Bool, true, List, [], None, Result, Ok, refl}
 use Rattle.sql_grammar.specs.declared.fault.Fault.{Fault}
 use Rattle.sql_grammar.specs.Grammar.{Form, TailOf, ChainedOf}
 use Rattle.sql_grammar.specs.Reading.{◌>>=◌, Parse, Marks, tails, chained}

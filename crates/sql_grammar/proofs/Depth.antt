@@ -1,5 +1,5 @@
 -- A reader that may nest deeper gives the same, but for TooDeep.
-use Rattle.std.proofs.Common.{◌≡◌, ℕ, zero, suc, List, ◌∷◌, length, Option, Some, None, Result, Ok, Err, refl, sym, subst, ◌∙◌, inl, inr, ◌⊎◌}
+use Rattle.std.proofs.Common.{◌≡◌, ℕ, zero, suc, List, length, Option, Some, None, Result, Ok, Err, refl, sym, subst, ◌∙◌, inl, inr, ◌⊎◌}
 use Rattle.sql_grammar.specs.declared.fault.Fault.{Fault}
 use Rattle.sql_grammar.specs.declared.fault.Fault.TheVariants.{Syntax, TooDeep}
 use Rattle.sql_grammar.specs.Reading.{◌>>=◌, Parse, Marks, tail, tail_step, tails, chained}

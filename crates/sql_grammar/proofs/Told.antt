@@ -5,7 +5,6 @@ use Rattle.sql_grammar.specs.declared.fault.Fault.{Fault}
 use Rattle.sql_grammar.specs.declared.fault.Fault.TheVariants.{Syntax, TooDeep}
 use Rattle.sql_grammar.specs.Grammar.{Form}
 use Rattle.sql_grammar.specs.Reading.{◌>>=◌, Parse}
-use Rattle.sql_grammar.proofs.Good.{Any}
 
 abbrev pub head : {T : Type 0} → List T → Option T
 head [] = None

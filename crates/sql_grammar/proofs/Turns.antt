@@ -6,7 +6,7 @@ use Rattle.sql_grammar.specs.declared.fault.Fault.TheVariants.{Syntax, TooDeep}
 use Rattle.sql_grammar.specs.Grammar.{Form, TailOf}
 use Rattle.sql_grammar.specs.Reading.{◌>>=◌, Parse, Marks, tail, tail_step, tails}
 use Rattle.sql_grammar.proofs.Good.{AreMarks, HasMark, Stops}
-use Rattle.sql_grammar.proofs.Told.{head, same_head, Begun, begun_head, Taken, Refused, Passed, Told}
+use Rattle.sql_grammar.proofs.Told.{head, same_head, Begun, begun_head, Taken, Told}
 
 module _ {T S A B : Type 0} (among : Bool) (marks : Marks T S) (mark : S → T) (make : S → A → B) (R : Form T A) (p : Parse T A) (Ends : List T → Type 0)
     (are : AreMarks marks mark) (told : (ts : List T) → Told among R p Ends ts (p ts)) (nothing : marks [] ≡ None)
