@@ -1,11 +1,11 @@
 -- What stands at the end of bytes: behind a run, behind the first byte, behind a comment or a text in quotes.
-use Rattle.std.proofs.Common.{◌≡◌, ◌∙◌, ◌==◌, ◌&&◌, ◌<◌, ◌≤◌, ◌-◌, ◌+◌, ℕ, Bool, true, false, not, List, [], ◌∷◌, ◌++◌, length, take, drop, Option, Some, None, if◌then◌else◌, refl, sym, ap, arith, length-append, append_assoc}
-use Rattle.std.proofs.lemmas.List.{append-nil, take-append-drop, take_at, drop_at}
+use Rattle.std.proofs.Common.{◌≡◌, ◌∙◌, ◌==◌, ◌&&◌, ◌<◌, ◌≤◌, ◌-◌, ◌+◌, ℕ, Bool, true, false, List, [], ◌∷◌, ◌++◌, length, take, drop, Some, if◌then◌else◌, refl, sym, ap, arith, length-append, append_assoc}
+use Rattle.std.proofs.lemmas.List.{append-nil, take-append-drop}
 use Rattle.sql_tokens.specs.declared.bytes.Class.{Class}
 use Rattle.sql_tokens.specs.declared.bytes.Class.TheVariants.{But}
 use Rattle.sql_tokens.specs.Bytes.{front, behind, begins_with}
 use Rattle.sql_tokens.specs.Pieces.{EndsWith, after_end, next}
-use Rattle.sql_tokens.proofs.Runs.{run_parts, behind_short, before_last, run_dropped}
+use Rattle.sql_tokens.proofs.Runs.{run_parts, before_last, run_dropped}
 
 pub ends_all : (bytes : List ℕ) → EndsWith bytes bytes
 ends_all bytes = ([], refl)

@@ -1,20 +1,13 @@
 -- What the first byte of bytes at the end of a text tells.
-use Rattle.std.proofs.Common.{◌≡◌, ◌==◌, ◌<◌, ◌≤◌, ◌-◌, ◌+◌, ℕ, Bool, true, false, List, [], ◌∷◌, ◌++◌, length, take, drop, slice_index, if◌then◌else◌, refl, sym, ap, subst, lit<, arith}
+use Rattle.std.proofs.Common.{◌≡◌, ◌==◌, ◌<◌, ◌≤◌, ◌-◌, ℕ, Bool, true, false, List, [], ◌∷◌, length, take, drop, slice_index, if◌then◌else◌, refl, sym, subst, lit<, arith}
 use Rattle.std.specs.Prelude.{IsUtf8}
 use Rattle.std.specs.Char.{is_ascii_digit}
 use Rattle.std.proofs.lemmas.Bool.{eqb-true}
-use Rattle.sql_tokens.specs.declared.piece.Piece.{Piece}
 use Rattle.sql_tokens.specs.declared.bytes.Kind.{Kind}
 use Rattle.sql_tokens.specs.Bytes.{begins_name, is_space, is_strange, kind_of, kind_of_sign, kind_of_mark}
-use Rattle.sql_tokens.specs.Pieces.{PieceBy, PieceOf}
 use Rattle.sql_tokens.specs.Calls.{EndsText, IsTextBehind}
 use Rattle.sql_tokens.proofs.Runs.{tail_is}
 use Rattle.sql_tokens.proofs.Quotes.{text_behind}
-
-pub piece_from : (bytes : List ℕ) (p : Piece) (r : List ℕ) → 1 ≤ length bytes
-    → PieceBy (kind_of (slice_index bytes 0)) bytes (take (length bytes - 1) (drop 1 bytes)) p r → PieceOf bytes p r
-piece_from [] p r some x = absurd (omega arith)
-piece_from (b ∷ rest) p r some x = subst (λ (xs : List ℕ). PieceBy (kind_of b) (b ∷ rest) xs p r) (tail_is b rest) x
 
 module _ (bytes : List ℕ) where
   chosen : (t : Bool) (k l : Kind) → (t ≡ true → IsTextBehind k bytes) → IsTextBehind l bytes → IsTextBehind (if t then k else l) bytes

@@ -1,6 +1,5 @@
 -- Reading the pieces of a text one after the other; a text has one list of tokens.
 use Rattle.std.proofs.Common.{◌≡◌, ◌≢◌, ◌∙◌, ◌<◌, ◌≤◌, ◌-◌, ◌+◌, ℕ, zero, suc, List, [], ◌∷◌, ◌++◌, length, refl, sym, ap, subst, arith, length-append, append_assoc, Result, Ok, Err, IfOk}
-use Rattle.std.specs.Prelude.{IsUtf8}
 use Rattle.std.proofs.lemmas.List.{append-nil}
 use Rattle.sql_tokens.specs.declared.token.Token.{Token as AnyToken}
 use Rattle.sql_tokens.specs.declared.token.Token.TheVariants.{Fault}
@@ -8,7 +7,7 @@ use Rattle.sql_tokens.specs.declared.token.Placed.{Placed}
 use Rattle.sql_tokens.specs.declared.piece.Piece.{Piece}
 use Rattle.sql_tokens.specs.declared.piece.Piece.TheVariants.{Gap, Token}
 use Rattle.sql_tokens.specs.Pieces.{PieceOf, EndsWith}
-use Rattle.sql_tokens.specs.Tokens.{Gaps, TokenOf, TokensFrom, TokensOf, read_behind, past_limit}
+use Rattle.sql_tokens.specs.Tokens.{Gaps, TokensFrom, TokensOf, read_behind, past_limit}
 use Rattle.sql_tokens.proofs.Ends.{ends_all, ends_on, ends_none, ends_short, ends_shorter}
 use Rattle.sql_tokens.proofs.Once.{piece_once, piece_ends}
 

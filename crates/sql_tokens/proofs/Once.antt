@@ -1,21 +1,21 @@
 -- A text begins with one piece alone, and is the end of what follows the piece.
-use Rattle.std.proofs.Common.{◌≡◌, ◌∙◌, ◌==◌, ◌||◌, ◌<◌, ◌+◌, ◌⊎◌, inl, inr, ℕ, Bool, true, false, List, [], ◌∷◌, ◌++◌, length, take, drop, Option, Some, None, if◌then◌else◌, refl, sym, ap, subst, arith}
+use Rattle.std.proofs.Common.{◌≡◌, ◌∙◌, ◌==◌, ◌||◌, inl, inr, ℕ, Bool, true, false, List, [], ◌∷◌, take, drop, Option, Some, None, if◌then◌else◌, refl, sym, ap}
 use Rattle.std.specs.Prelude.{MatchBool, MatchOption, bytes_eq, codes, ◌&&◌}
-use Rattle.std.specs.Char.{is_ascii_digit, is_ascii_alphabetic}
-use Rattle.std.proofs.lemmas.Bool.{or_left, or_right}
+use Rattle.std.specs.Char.{is_ascii_digit}
+use Rattle.std.proofs.lemmas.Bool.{or_left}
 use Rattle.sql_tokens.specs.declared.mark.Mark.{Mark as AnyMark}
 use Rattle.sql_tokens.specs.declared.mark.Mark.TheVariants as marks
 use Rattle.sql_tokens.specs.declared.token.TokenFault.TheVariants.{Bad, Run}
 use Rattle.sql_tokens.specs.declared.token.Token.{Token as AnyToken}
 use Rattle.sql_tokens.specs.declared.token.Token.TheVariants.{Str, Mark as MarkToken, Word as WordToken, Fault}
 use Rattle.sql_tokens.specs.declared.piece.Piece.{Piece}
-use Rattle.sql_tokens.specs.declared.piece.Piece.TheVariants.{Gap, Token}
+use Rattle.sql_tokens.specs.declared.piece.Piece.TheVariants.{Token}
 use Rattle.sql_tokens.specs.declared.bytes.Class.{Class}
 use Rattle.sql_tokens.specs.declared.bytes.Class.TheVariants as classes
 use Rattle.sql_tokens.specs.declared.bytes.Kind.{Kind}
 use Rattle.sql_tokens.specs.declared.bytes.Kind.TheVariants as kinds
 use Rattle.sql_tokens.specs.Bytes.{front, behind, has, begins_with, begins_name, is_space, is_strange, kind_of, kind_of_sign, kind_of_mark}
-use Rattle.sql_tokens.specs.Pieces.{Reads, Skips, IsCalled, NameOf, NumberOf, DotOf, ParamOf, RunOf, Closes, QuotedOf, quoted_name, next, after_end, BlockOf, MinusOf, SlashOf, LessOf, GreaterOf, PieceBy, PieceOf, EndsWith}
+use Rattle.sql_tokens.specs.Pieces.{Reads, Skips, IsCalled, NameOf, RunOf, QuotedOf, quoted_name, next, after_end, BlockOf, MinusOf, SlashOf, LessOf, GreaterOf, PieceBy, PieceOf, EndsWith}
 use Rattle.sql_tokens.proofs.Words.{spelled_once}
 use Rattle.sql_tokens.proofs.Quotes.{closes_once, closes_last}
 use Rattle.sql_tokens.proofs.Ends.{ends_all, ends_none, ends_first, ends_run, ends_on, ends_same, ends_next, ends_comment}

@@ -1,5 +1,5 @@
 -- Every reserved word stands in the table of words, and no two are spelled alike.
-use Rattle.std.proofs.Common.{◌≡◌, ◌∙◌, ◌≢◌, ℕ, ◌<◌, ◌+◌, arith, inl, inr, get_or, Bool, true, false, List, [], ◌∷◌, length, Option, Some, None, if◌then◌else◌, sym, ap, refl, lit<}
+use Rattle.std.proofs.Common.{◌≡◌, ◌∙◌, ◌≢◌, ℕ, ◌<◌, ◌+◌, arith, inl, inr, get_or, true, false, List, [], ◌∷◌, length, Option, Some, None, if◌then◌else◌, sym, ap, refl, lit<}
 use Rattle.std.specs.Prelude.{Contains, bytes_eq}
 use Rattle.std.proofs.lemmas.Bool.{cases_eq, true≢false}
 use Rattle.std.proofs.lemmas.List.{get_or_default}

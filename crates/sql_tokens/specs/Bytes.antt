@@ -1,5 +1,5 @@
 -- Classes of bytes, what the first byte of a text tells, and the longest run of a class at its front.
-use Rattle.std.specs.Prelude.{◌≡◌, ◌==◌, ◌||◌, ℕ, Bool, true, false, not, List, [], ◌∷◌, ◌++◌, if◌then◌else◌}
+use Rattle.std.specs.Prelude.{◌==◌, ◌||◌, ℕ, Bool, false, not, List, [], ◌∷◌, if◌then◌else◌}
 use Rattle.std.specs.Char.{is_ascii_digit, is_ascii_alphabetic}
 use Rattle.sql_tokens.specs.declared.mark.Mark.TheVariants as marks
 use Rattle.sql_tokens.specs.declared.bytes.Class.{Class}

@@ -1,8 +1,7 @@
 -- What a text begins with: a gap, which is a space or a comment, or a token; and what follows it.
-use Rattle.std.specs.Prelude.{◌≡◌, ◌≢◌, ◌==◌, ◌||◌, ◌&&◌, ◌⊎◌, ◌+◌, ◌-◌, ◌*◌, ◌^◌, ℕ, zero, suc, pos, nat_lt, nat_le, Bool, true, false, List, [], ◌∷◌, ◌++◌, length, take, drop, map, flat_map, codes, bytes_eq, Option, Some, None, MatchBool, MatchOption, if◌then◌else◌}
+use Rattle.std.specs.Prelude.{◌≡◌, ◌≢◌, ◌==◌, ◌||◌, ◌&&◌, ◌⊎◌, ◌+◌, ◌-◌, ◌*◌, ◌^◌, ℕ, pos, nat_lt, nat_le, Bool, true, false, List, [], ◌∷◌, ◌++◌, length, take, drop, map, flat_map, codes, bytes_eq, Option, Some, None, MatchBool, MatchOption, if◌then◌else◌}
 use Rattle.std.specs.Char.{is_ascii_digit, to_ascii_lowercase}
 use Rattle.sql_tokens.specs.declared.word.Word.{Word as ReservedWord}
-use Rattle.sql_tokens.specs.declared.mark.Mark.{Mark as AnyMark}
 use Rattle.sql_tokens.specs.declared.mark.Mark.TheVariants.{Bars, Unequal, Minus, Slash, Dot, Less, AtMost, Greater, AtLeast}
 use Rattle.sql_tokens.specs.declared.token.Token.{Token as AnyToken}
 use Rattle.sql_tokens.specs.declared.token.Token.TheVariants.{Word, Mark, Name, Number, Least, Str, Param, Fault}

@@ -1,4 +1,4 @@
-use Rattle.std.proofs.Common.{◌≡◌, ◌≢◌, ◌+◌, ◌<◌, ℕ, arith, ap, ◌∙◌, sym, below_more}
+use Rattle.std.proofs.Common.{arith, ap, ◌∙◌, sym}
 use Rattle.sql_tokens.specs.Words.{spelling}
 use Rattle.sql_tokens.proofs.Words.{not_spelled}
 use Rattle.sql_tokens.proofs.name.word_of.Goals as goal

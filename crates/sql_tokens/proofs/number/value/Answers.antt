@@ -1,4 +1,4 @@
-use Rattle.std.proofs.Common.{◌≡◌, ◌-◌, ◌+◌, ◌*◌, ◌^◌, min, slice_index, arith, rules, sym, ◌∙◌}
+use Rattle.std.proofs.Common.{◌≡◌, ◌-◌, ◌+◌, ◌*◌, ◌^◌, min, slice_index, arith, sym, ◌∙◌}
 use Rattle.sql_tokens.proofs.Numbers.{one_more, no_more, stops, ends}
 use Rattle.sql_tokens.proofs.number.value.Goals as goal
 

@@ -1,4 +1,4 @@
-use Rattle.std.proofs.Common.{ℕ, List, ◌-◌, length, take, drop, subst, sym}
+use Rattle.std.proofs.Common.{◌-◌, length, take, drop, subst, sym}
 use Rattle.sql_tokens.specs.declared.bytes.Kind.{Kind}
 use Rattle.sql_tokens.specs.Calls.{IsTextBehind}
 use Rattle.sql_tokens.proofs.FirstByte.{text_from}

@@ -2,7 +2,7 @@ use Rattle.std.proofs.Common.{List, length, arith, subst, sym, ap, refl, ◌∙�
 use Rattle.std.proofs.lemmas.Bool.{eqb-true}
 use Rattle.std.proofs.lemmas.List.{nil_from_length}
 use Rattle.sql_tokens.specs.declared.piece.Piece.{Piece}
-use Rattle.sql_tokens.specs.declared.piece.Piece.TheVariants.{Gap, Token}
+use Rattle.sql_tokens.specs.declared.piece.Piece.TheVariants.{Gap}
 use Rattle.sql_tokens.specs.declared.token.Placed.{Placed}
 use Rattle.sql_tokens.specs.Pieces.{PieceOf}
 use Rattle.sql_tokens.proofs.Loop.{Going, starts, skips, takes, full, ends, behind_piece, token_shorter}

@@ -1,4 +1,4 @@
-use Rattle.std.proofs.Common.{◌≤◌, length, ap, arith}
+use Rattle.std.proofs.Common.{length, ap, arith}
 use Rattle.sql_tokens.specs.declared.bytes.Class.TheVariants.{But}
 use Rattle.sql_tokens.proofs.Runs.{behind_short}
 use Rattle.sql_tokens.proofs.Ends.{next_is}
