@@ -9,7 +9,7 @@ use Rattle.sql_grammar.specs.declared.fault.ReadError.{ReadError}
 use Rattle.sql_grammar.specs.declared.fault.ReadError.TheVariants as errors
 use Rattle.sql_grammar.specs.Grammar.{Form, NoneGoesOn, IsPlace, IsTooDeep}
 use Rattle.sql_grammar.specs.Reading.{◌>>=◌, Gives, Parse, end_at, whole_of}
-use Rattle.sql_grammar.proofs.Good.{Has, Good}
+use Rattle.sql_grammar.proofs.Good.{Has}
 use Rattle.sql_grammar.proofs.Told.{head, Begun, Taken, Passed, Told}
 use Rattle.sql_grammar.proofs.Depth.{IsDeep, Same, past, stays_past}
 
@@ -20,9 +20,14 @@ past_is (suc k) d = ap suc (past_is k d) ∙ omega arith
 both : (a b : ℕ) → past a b ≡ past b a
 both a b = past_is a b ∙ (let e : a + b ≡ b + a = omega arith in e) ∙ sym (past_is b a)
 
+-- What the reader p takes is of the form R, and what is of it is read, where what follows is one of Ends. A text may be empty.
+pub record Reads {T A : Type 0} (R : Form T A) (p : Parse T A) (Ends : List T → Type 0) : Type 0 where
+  pub takes : (ts : List T) → Has (p ts) (R ts)
+  pub again : (ts : List T) (a : A) (rest : List T) → R ts a rest → Ends rest → p ts ≡ Ok (a, rest)
+
 -- Of and at: the texts and the reader, at a number of nestings; Within is of the forms that may nest one deeper.
 module _ {T A : Type 0} (Of : ℕ → Form T A) (at : ℕ → Parse T A) (Ends : List T → Type 0) (awaited : Awaited)
-    (good : (d : ℕ) → Good (Of d) (at d) Ends)
+    (reads : (d : ℕ) → Reads (Of d) (at d) Ends)
     (told : (d : ℕ) (ts : List T) → Told true (Of (suc d)) (at d) Ends ts (at d ts))
     (same : (d : ℕ) (ts : List T) → Same (at d ts) (at (suc d) ts))
     (ends : Ends []) where
@@ -48,11 +53,11 @@ module _ {T A : Type 0} (Of : ℕ → Form T A) (at : ℕ → Parse T A) (Ends :
   by_read ts d (Err e) h = tt
 
   pub whole_takes : (d : ℕ) (ts : List T) → IfOk (whole_at d ts) (λ a. Texts d ts a)
-  whole_takes d ts = by_read ts d (at d ts) ((good d).takes ts)
+  whole_takes d ts = by_read ts d (at d ts) ((reads d).takes ts)
 
   pub whole_again : (d : ℕ) (ts : List T) (a : A) → Texts d ts a → whole_at d ts ≡ Ok a
   unfolding finish
-  whole_again d ts a h = ap finish ((good d).again ts a [] h ends)
+  whole_again d ts a h = ap finish ((reads d).again ts a [] h ends)
 
   not_deep : (r : Result (A × List T) Fault) (n : ℕ) (w : Awaited) → (r >>= λ x. end_at awaited x.0 x.1) ≡ Err (Syntax n w) → IsDeep r → ⊥
   not_deep (Ok x) n w e h = h
@@ -63,7 +68,7 @@ module _ {T A : Type 0} (Of : ℕ → Form T A) (at : ℕ → Parse T A) (Ends :
   none_of : (d : ℕ) (ts : List T) (a : A) (n : ℕ) (w : Awaited) → whole_at d ts ≡ Err (Syntax n w) → Derives ts a → ⊥
   unfolding finish
   none_of d ts a n w is h =
-      let b : at h.0 ts ≡ Ok (a, []) = (good h.0).again ts a [] h.1 ends in
+      let b : at h.0 ts ≡ Ok (a, []) = (reads h.0).again ts a [] h.1 ends in
       let r1 : at d ts ≡ at (past h.0 d) ts = stays_past (λ m. at m ts) (λ m. same m ts) h.0 d (not_deep (at d ts) n w is) in
       let r2 : at h.0 ts ≡ at (past d h.0) ts = stays_past (λ m. at m ts) (λ m. same m ts) d h.0 (λ x. subst IsDeep b x) in
       let j : at d ts ≡ Ok (a, []) = r1 ∙ ap (λ (m : ℕ). at m ts) (both h.0 d) ∙ sym r2 ∙ b in

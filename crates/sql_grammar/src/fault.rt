@@ -17,8 +17,18 @@ pub enum Awaited {
     Arguments,
     /// The `)` of a parenthesis of an expression, or an operator.
     Close,
-    /// The end of an expression, or an operator.
+    /// The end of an expression or of a statement, or an operator.
     End,
+    /// What a statement that has begun goes on with.
+    Statement,
+    /// The name with which an item of ORDER BY begins.
+    Item,
+    /// The `*` of `count(`.
+    Star,
+    /// VALUES, or the columns before it.
+    Values,
+    /// The number of a backend.
+    Backend,
 }
 
 /// The first fault of a list of tokens, with the number of tokens from it to the end.
