@@ -1,5 +1,5 @@
 //! What runs statements.
-ghost use Rattle.std.specs.Prelude.{◌≡◌, IfOk};
+ghost use Rattle.std.specs.Prelude.{◌≡◌, ℕ, IfOk, OnOk};
 ghost use Rattle.backend_trait.specs.Rows.{Rows};
 ghost use Rattle.backend_trait.specs.Alone.{IsEffect};
 ghost use Rattle.play.specs.Replies.{given_on, rows_after};
@@ -13,10 +13,19 @@ pub trait Database {
     /// The committed rows.
     ghost rows: { Self → Rows };
 
-    /// Runs a statement.
+    /// How many copies of them it has.
+    ghost copies: { Self → ℕ };
+
+    /// Whether it is ready for a statement.
+    ghost is_ready: { Self → Type 0 };
+
+    /// Runs a statement. After want of memory it may be ready no more.
     fn run(&mut self, statement: Statement) -> Result<Answer, NoMemory>
+        requires { is_ready self.old }
         ensures answer { IfOk result
             (λ answer. IsEffect (given_on (rows self.old) statement) answer) }
         ensures rows { IfOk result
-            (λ answer. rows self.new ≡ rows_after (rows self.old) statement) };
+            (λ answer. rows self.new ≡ rows_after (rows self.old) statement) }
+        ensures copies { OnOk result (copies self.new ≡ copies self.old) }
+        ensures ready { OnOk result (is_ready self.new) };
 }

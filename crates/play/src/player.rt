@@ -44,11 +44,14 @@ pub fn play<D: Database, O: Sink>(
     requires grammar { AllByRecursion IsOfGrammar (map line_of script.now) }
     requires played { ArePlayed (map line_of script.now) }
     requires fits { RowsFit (D.rows database.old) }
+    requires ready { D.is_ready database.old }
     // Its whole transcript, and the rows that it leaves.
     ensures all { OnOk result ((deeds : Sequence Deed) → AreDone (map line_of script.now) deeds
         → Appends (O.taken out.old) (O.taken out.new) (transcript_of (D.rows database.old) deeds)) }
     ensures rows { OnOk result ((deeds : Sequence Deed) → AreDone (map line_of script.now) deeds
         → D.rows database.new ≡ final_rows (D.rows database.old) deeds) }
+    ensures copies { OnOk result (D.copies database.new ≡ D.copies database.old) }
+    ensures ready { OnOk result (D.is_ready database.new) }
 
     // After a fault a front of it was written.
     ensures front { OnErr result ((deeds : Sequence Deed) → AreDone (map line_of script.now) deeds
@@ -77,6 +80,7 @@ fn play_line<D: Database, O: Sink>(
     requires grammar { IsOfGrammar (line_of line.now) }
     requires played { IsPlayed (line_of line.now) }
     requires fits { RowsFit (D.rows database.old) }
+    requires ready { D.is_ready database.old }
     ensures online { IfOk result (λ after. (deed : Deed) → Does (line_of line.now) deed
         → after ≡ connected online deed) }
     ensures all { OnOk result ((deed : Deed) → Does (line_of line.now) deed
@@ -85,6 +89,8 @@ fn play_line<D: Database, O: Sink>(
     ensures rows { OnOk result ((deed : Deed) → Does (line_of line.now) deed
         → D.rows database.new ≡ rows_then online (D.rows database.old) deed) }
     ensures fits { OnOk result (RowsFit (D.rows database.new)) }
+    ensures copies { OnOk result (D.copies database.new ≡ D.copies database.old) }
+    ensures ready { OnOk result (D.is_ready database.new) }
     ensures front { OnErr result ((deed : Deed) → Does (line_of line.now) deed
         → AppendsFront (O.taken out.old) (O.taken out.new) (echo deed ++ shown online (D.rows
         database.old) deed)) }
@@ -108,6 +114,7 @@ fn show<D: Database, O: Sink>(
     requires grammar { IsOfGrammar (line_of line.now) }
     requires played { IsPlayed (line_of line.now) }
     requires fits { RowsFit (D.rows database.old) }
+    requires ready { D.is_ready database.old }
     ensures online { IfOk result (λ after. (deed : Deed) → Does (line_of line.now) deed
         → after ≡ connected online deed) }
     ensures all { OnOk result ((deed : Deed) → Does (line_of line.now) deed
@@ -115,6 +122,8 @@ fn show<D: Database, O: Sink>(
     ensures rows { OnOk result ((deed : Deed) → Does (line_of line.now) deed
         → D.rows database.new ≡ rows_then online (D.rows database.old) deed) }
     ensures fits { OnOk result (RowsFit (D.rows database.new)) }
+    ensures copies { OnOk result (D.copies database.new ≡ D.copies database.old) }
+    ensures ready { OnOk result (D.is_ready database.new) }
     ensures front { OnErr result ((deed : Deed) → Does (line_of line.now) deed
         → AppendsFront (O.taken out.old) (O.taken out.new) (shown online (D.rows database.old)
         deed)) }
@@ -186,6 +195,7 @@ fn ask<D: Database, O: Sink>(
 ) -> Result<bool, PlayFault>
     requires query { Fits (sent.Query text.now) }
     requires fits { RowsFit (D.rows database.old) }
+    requires ready { D.is_ready database.old }
     ensures online { IfOk result (λ after. (asked : Option Statement) → IsAsked text.now asked
         → after ≡ online) }
     ensures all { OnOk result ((asked : Option Statement) → IsAsked text.now asked
@@ -194,6 +204,8 @@ fn ask<D: Database, O: Sink>(
     ensures rows { OnOk result ((asked : Option Statement) → IsAsked text.now asked
         → D.rows database.new ≡ rows_then_query online (D.rows database.old) asked) }
     ensures fits { OnOk result (RowsFit (D.rows database.new)) }
+    ensures copies { OnOk result (D.copies database.new ≡ D.copies database.old) }
+    ensures ready { OnOk result (D.is_ready database.new) }
     ensures front { OnErr result ((asked : Option Statement) → IsAsked text.now asked
         → AppendsFront (O.taken out.old) (O.taken out.new) (shown_query online (D.rows
         database.old) asked)) }
@@ -231,11 +243,14 @@ fn leave<D: Database, O: Sink>(
     out: &mut O,
 ) -> Result<bool, PlayFault>
     requires fits { RowsFit (D.rows database.old) }
+    requires ready { D.is_ready database.old }
     ensures online { IfOk result (λ after. after ≡ false) }
     ensures all { OnOk result (Appends (O.taken out.old) (O.taken out.new) (shown_leave
         online)) }
     ensures rows { OnOk result (D.rows database.new ≡ D.rows database.old) }
     ensures fits { OnOk result (RowsFit (D.rows database.new)) }
+    ensures copies { OnOk result (D.copies database.new ≡ D.copies database.old) }
+    ensures ready { OnOk result (D.is_ready database.new) }
     ensures front { OnErr result (AppendsFront (O.taken out.old) (O.taken out.new) (shown_leave
         online)) }
     ensures cause { IfErr result (λ e. e ≡ faults.SinkFailed

@@ -61,7 +61,8 @@ pub(crate) fn serve<S: Database>(
     database: &mut S,
     output: &mut List<u8>,
 ) -> Result<bool, NoMemory>
-    requires { RowsFit (S.rows database.old) }
+    requires fits { RowsFit (S.rows database.old) }
+    requires ready { S.is_ready database.old }
     ensures query { IfOk result (λ online. (text : List ℕ) (asked : Option Statement)
         → HoldsClient input.now (sent.Query text) → IsAsked text asked
         → (online ≡ true) × Sent output.old output.new (replies_to (S.rows database.old) asked)
@@ -69,6 +70,8 @@ pub(crate) fn serve<S: Database>(
     ensures terminate { IfOk result (λ online. HoldsClient input.now sent.Terminate
         → (online ≡ false) × (S.rows database.new ≡ S.rows database.old)) }
     ensures kept { OnOk result (RowsFit (S.rows database.new)) }
+    ensures copies { OnOk result (S.copies database.new ≡ S.copies database.old) }
+    ensures ready { OnOk result (S.is_ready database.new) }
 {
     let read = read_client(alloc, input)?;
     match query_in(&read) {
@@ -97,11 +100,14 @@ fn answer_query<S: Database>(
     database: &mut S,
     output: &mut List<u8>,
 ) -> Result<bool, NoMemory>
-    requires { RowsFit (S.rows database.old) }
+    requires fits { RowsFit (S.rows database.old) }
+    requires ready { S.is_ready database.old }
     ensures query { IfOk result (λ online. (asked : Option Statement) → IsAsked text.now asked
         → (online ≡ true) × Sent output.old output.new (replies_to (S.rows database.old) asked)
         × (S.rows database.new ≡ rows_left_by (S.rows database.old) asked)) }
     ensures kept { OnOk result (RowsFit (S.rows database.new)) }
+    ensures copies { OnOk result (S.copies database.new ≡ S.copies database.old) }
+    ensures ready { OnOk result (S.is_ready database.new) }
 {
     if text.is_empty() {
         answer_nothing(output)?;
@@ -126,12 +132,15 @@ fn answer_statement<S: Database>(
     database: &mut S,
     output: &mut List<u8>,
 ) -> Result<bool, NoMemory>
-    requires { RowsFit (S.rows database.old) }
+    requires fits { RowsFit (S.rows database.old) }
+    requires ready { S.is_ready database.old }
     ensures query { IfOk result (λ online. (statement : Statement) → Spells text.now statement
         → (online ≡ true)
         × Sent output.old output.new (replies_to (S.rows database.old) (Some statement))
         × (S.rows database.new ≡ rows_left_by (S.rows database.old) (Some statement))) }
     ensures kept { OnOk result (RowsFit (S.rows database.new)) }
+    ensures copies { OnOk result (S.copies database.new ≡ S.copies database.old) }
+    ensures ready { OnOk result (S.is_ready database.new) }
 {
     let Some(statement) = read_statement(text) else {
         return Ok(false);

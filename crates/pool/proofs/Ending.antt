@@ -1,10 +1,11 @@
 -- What each stage says of the end of the run.
-use Rattle.std.proofs.Common.{◌≡◌, ◌≢◌, ℕ, ◌≤◌, length, true, List, [], ◌∷◌, refl, sym, ◌∙◌, subst}
+use Rattle.std.proofs.Common.{◌≡◌, ◌≢◌, ℕ, ◌<◌, ◌≤◌, length, true, List, [], ◌∷◌, refl, sym, ◌∙◌, subst}
 use Rattle.std.specs.Prelude.{Option, Some, None, Result, Ok, Err, IfOk, MatchOption}
 use Rattle.std.specs.FinMap as fin
 use Rattle.pool_base.specs.Outside.{Appends}
 use Rattle.pool_base.proofs.Sinking.{rose_after}
-use Rattle.backend_trait.specs.Rows.{Rows, no_rows}
+use Rattle.backend_trait.specs.Rows.{no_rows}
+use Rattle.backend_trait.specs.Store.{Store}
 use Rattle.backend_trait.specs.Keys.{place_order}
 use Rattle.pgproto.specs.Line.{Line}
 use Rattle.play.specs.Script.{Deed, AreDone, IsSession, ArePlayed}
@@ -34,7 +35,7 @@ said SinkFailed bytes a b n m other p = absurd (other refl)
 said NoMemory bytes a b n m other p = (refl, p)
 said NotBuilt bytes a b n m other p = (refl, p)
 
-pub said_no_command : (s : Status) (a b : Option (List ℕ)) (n m : ℕ) (x y : Rows) → Says NoCommand s no_command a b n m → NoCommandEnds s (outside n m a b x y)
+pub said_no_command : (s : Status) (a b : Option (List ℕ)) (n m : ℕ) (x y : List Store) → Says NoCommand s no_command a b n m → NoCommandEnds s (outside n m a b x y)
 said_no_command Done a b n m x y p = let e : NoCommand ≡ Done = p.0 in absurd (cc)
 said_no_command NoCommand a b n m x y p = p.1
 said_no_command Refused a b n m x y p = let e : NoCommand ≡ Refused = p.0 in absurd (cc)
@@ -44,7 +45,7 @@ said_no_command SinkFailed a b n m x y p = p
 said_no_command NoMemory a b n m x y p = let e : NoCommand ≡ NoMemory = p.0 in absurd (cc)
 said_no_command NotBuilt a b n m x y p = let e : NoCommand ≡ NotBuilt = p.0 in absurd (cc)
 
-pub said_unbuilt : (s : Status) (a b : Option (List ℕ)) (n m : ℕ) (x y : Rows) → Says NotBuilt s not_built a b n m → UnbuiltEnds s (outside n m a b x y)
+pub said_unbuilt : (s : Status) (a b : Option (List ℕ)) (n m : ℕ) (x y : List Store) → Says NotBuilt s not_built a b n m → UnbuiltEnds s (outside n m a b x y)
 said_unbuilt Done a b n m x y p = let e : NotBuilt ≡ Done = p.0 in absurd (cc)
 said_unbuilt NoCommand a b n m x y p = let e : NotBuilt ≡ NoCommand = p.0 in absurd (cc)
 said_unbuilt Refused a b n m x y p = let e : NotBuilt ≡ Refused = p.0 in absurd (cc)
@@ -54,7 +55,7 @@ said_unbuilt SinkFailed a b n m x y p = p
 said_unbuilt NoMemory a b n m x y p = let e : NotBuilt ≡ NoMemory = p.0 in absurd (cc)
 said_unbuilt NotBuilt a b n m x y p = p.1
 
-pub said_refused : (s : Status) (bytes : List ℕ) (a b : Option (List ℕ)) (n m : ℕ) (x y : Rows) → Says Refused s bytes a b n m → RefusedEnds Refused bytes s (outside n m a b x y)
+pub said_refused : (s : Status) (bytes : List ℕ) (a b : Option (List ℕ)) (n m : ℕ) (x y : List Store) → Says Refused s bytes a b n m → RefusedEnds Refused bytes s (outside n m a b x y)
 said_refused Done bytes a b n m x y p = let e : Refused ≡ Done = p.0 in absurd (cc)
 said_refused NoCommand bytes a b n m x y p = let e : Refused ≡ NoCommand = p.0 in absurd (cc)
 said_refused Refused bytes a b n m x y p = p
@@ -64,7 +65,7 @@ said_refused SinkFailed bytes a b n m x y p = p
 said_refused NoMemory bytes a b n m x y p = let e : Refused ≡ NoMemory = p.0 in absurd (cc)
 said_refused NotBuilt bytes a b n m x y p = let e : Refused ≡ NotBuilt = p.0 in absurd (cc)
 
-pub said_script_refused : (s : Status) (bytes : List ℕ) (a b : Option (List ℕ)) (n m : ℕ) (x y : Rows) → Says ScriptRefused s bytes a b n m → RefusedEnds ScriptRefused bytes s (outside n m a b x y)
+pub said_script_refused : (s : Status) (bytes : List ℕ) (a b : Option (List ℕ)) (n m : ℕ) (x y : List Store) → Says ScriptRefused s bytes a b n m → RefusedEnds ScriptRefused bytes s (outside n m a b x y)
 said_script_refused Done bytes a b n m x y p = let e : ScriptRefused ≡ Done = p.0 in absurd (cc)
 said_script_refused NoCommand bytes a b n m x y p = let e : ScriptRefused ≡ NoCommand = p.0 in absurd (cc)
 said_script_refused Refused bytes a b n m x y p = let e : ScriptRefused ≡ Refused = p.0 in absurd (cc)
@@ -74,7 +75,7 @@ said_script_refused SinkFailed bytes a b n m x y p = p
 said_script_refused NoMemory bytes a b n m x y p = let e : ScriptRefused ≡ NoMemory = p.0 in absurd (cc)
 said_script_refused NotBuilt bytes a b n m x y p = let e : ScriptRefused ≡ NotBuilt = p.0 in absurd (cc)
 
-pub fault_unread : (s : Status) (before after n m : ℕ) (a : Option (List ℕ)) (x y : Rows) → IsFault before after s → UnreadEnds before after s (outside n m a a x y)
+pub fault_unread : (s : Status) (before after n m : ℕ) (a : Option (List ℕ)) (x y : List Store) → IsFault before after s → UnreadEnds before after s (outside n m a a x y)
 fault_unread Done before after n m a x y p = p
 fault_unread NoCommand before after n m a x y p = p
 fault_unread Refused before after n m a x y p = p
@@ -124,7 +125,7 @@ config_read contents later a b c command text s o same h is e =
 
 -- the configuration's text has a fault, or memory was refused while it was read
 pub config_fault : (fault : ConfigFault) (contents : List ℕ → Told) (before : ℕ) (command : Command) (text : List ℕ) (s : Status) (o : Outside) → configuration.Says text (Err fault)
-    → ((config : Config) → IsConfiguration text config → IsAnswer config (Err fault)) → o.rows_after ≡ o.rows_before
+    → ((config : Config) → IsConfiguration text config → IsAnswer config (Err fault)) → o.stores_after ≡ o.stores_before
     → (fault ≡ faults.NoMemory → (s ≡ NoMemory) × (o.has ≡ o.had)) → (fault ≢ faults.NoMemory → RefusedEnds Refused (fault_line fault) s o) → ConfigEnds contents before before command text s o
 config_fault faults.NoMemory contents before command text s o says found rows memory refuses = let m = memory refl in unparsed m.0 m.1
 config_fault (faults.BadLine n) contents before command text s o says found rows memory refuses =
@@ -137,7 +138,7 @@ config_fault (faults.Missing name) contents before command text s o says found r
     faulty (faults.Missing name) says (λ config is. let e : faults.Missing name ≡ faults.NoMemory = found config is in absurd (cc)) rows (refuses (λ e. absurd (cc)))
 
 -- memory was refused before anything was done
-pub memory_ends : (command : Option Command) (contents : List ℕ → Told) (before n : ℕ) (a : Option (List ℕ)) (x : Rows) → WordsEnd command contents before before NoMemory (outside n n a a x x)
+pub memory_ends : (command : Option Command) (contents : List ℕ → Told) (before n : ℕ) (a : Option (List ℕ)) (x : List Store) → WordsEnd command contents before before NoMemory (outside n n a a x x)
 memory_ends None contents before n a x = refl
 memory_ends (Some command) contents before n a x = unread refl
 
@@ -150,6 +151,6 @@ pub none_fit : RowsFit no_rows
 none_fit = λ place row found. let never : None ≡ Some row = sym (fin.get-empty place_order place) ∙ found in absurd (cc)
 
 -- what is built is asked for
-pub is_built : (command : Command) (config : Config) (schema script : Option (List ℕ)) (lines : List Line) → (is_plain command ≡ true) × ((length config.nodes ≡ 1) × (schema ≡ Some built_schema)) → IsReadAs script lines
+pub is_built : (command : Command) (config : Config) (schema script : Option (List ℕ)) (lines : List Line) → (is_plain command ≡ true) × (((0 < length config.nodes) × (length config.nodes ≤ 3)) × (schema ≡ Some built_schema)) → IsReadAs script lines
     → (is : IsSession lines) → IsBuilt command config schema script is.deeds
-is_built command config schema script lines b reads is = record { plain = b.0; one_backend = b.1.0; schema_is = b.1.1; lines = lines; reads = reads; done = is.done; one = is.one }
+is_built command config schema script lines b reads is = record { plain = b.0; some_backend = b.1.0.0; few_backends = b.1.0.1; schema_is = b.1.1; lines = lines; reads = reads; done = is.done; one = is.one }

@@ -1,3 +1,4 @@
+pub mod Shelves
 pub mod Ending
 pub mod Numbers
 pub mod ScriptNumbers

@@ -16,7 +16,7 @@ use Rattle.pool.specs.declared.status.Status.TheVariants.{Done, NoCommand, Refus
 use Rattle.pool.specs.Texts.{IsRead, config_name}
 use Rattle.pool.specs.Ends.{Outside, NoCommandEnds, RefusedEnds, UnreadEnds, UnbuiltEnds, ScriptEnds, TextsEnds, refused, built, unbuilt, unchecked, RestEnds, unread_rest, read_rest, SaysNone}
 use Rattle.pool.specs.Ends.{ConfigEnds, configured, faulty, unparsed, CommandEnds, unread, long, read, WordsEnd, Returns, Played}
-use Rattle.pool.specs.Ends.{IsRefusedText, Cause, too_long, has_fault, ConfigRefused, config_too_long, fault_line}
+use Rattle.pool.specs.Ends.{IsRefusedText, Cause, too_long, has_fault, PlayedOver, ConfigRefused, config_too_long, fault_line}
 
 -- the numbers are different
 pub is_script_refused : (s : Status) → code_of s ≡ 3 → s ≡ ScriptRefused
@@ -82,7 +82,7 @@ is_sink NotBuilt h = cc
 -- status 4
 files_texts : (command : Command) (config : Config) (schema script : Option (List ℕ)) (s : Status) (o : Outside) → s ≡ FilesFailed → TextsEnds command config schema script s o → ⊥
 files_texts command config schema script s o is (refused bytes why rows f) = subst (λ s. RefusedEnds ScriptRefused bytes s o) is f
-files_texts command config schema script s o is (built deeds b f) = subst (λ s. ScriptEnds deeds s o) is f
+files_texts command config schema script s o is (built deeds b f) = subst (λ s. ScriptEnds (length config.nodes) deeds s o) is f
 files_texts command config schema script s o is (unbuilt stands none f) = subst (λ s. UnbuiltEnds s o) is f
 files_texts command config schema script s o is (unchecked memory same) = let never : FilesFailed ≡ NoMemory = sym is ∙ memory in absurd (cc)
 
@@ -110,7 +110,7 @@ files_rose words contents x y number o r four = files_words (command_of words) c
 -- status 5
 sink_texts : (command : Command) (config : Config) (schema script : Option (List ℕ)) (s : Status) (o : Outside) → s ≡ SinkFailed → TextsEnds command config schema script s o → Rose o.faults_before o.faults_after
 sink_texts command config schema script s o is (refused bytes why rows f) = (subst (λ s. RefusedEnds ScriptRefused bytes s o) is f).0
-sink_texts command config schema script s o is (built deeds b f) = (subst (λ s. ScriptEnds deeds s o) is f).0
+sink_texts command config schema script s o is (built deeds b f) = (subst (λ s. ScriptEnds (length config.nodes) deeds s o) is f).0
 sink_texts command config schema script s o is (unbuilt stands none f) = (subst (λ s. UnbuiltEnds s o) is f).0
 sink_texts command config schema script s o is (unchecked memory same) = let never : SinkFailed ≡ NoMemory = sym is ∙ memory in absurd (cc)
 
@@ -138,7 +138,7 @@ sink_rose words contents x y number o r five = sink_words (command_of words) con
 -- status 1
 none_texts : (command : Command) (config : Config) (schema script : Option (List ℕ)) (s : Status) (o : Outside) → s ≡ NoCommand → TextsEnds command config schema script s o → ⊥
 none_texts command config schema script s o is (refused bytes why rows f) = subst (λ s. RefusedEnds ScriptRefused bytes s o) is f
-none_texts command config schema script s o is (built deeds b f) = subst (λ s. ScriptEnds deeds s o) is f
+none_texts command config schema script s o is (built deeds b f) = subst (λ s. ScriptEnds (length config.nodes) deeds s o) is f
 none_texts command config schema script s o is (unbuilt stands none f) = subst (λ s. UnbuiltEnds s o) is f
 none_texts command config schema script s o is (unchecked memory same) = let never : NoCommand ≡ NoMemory = sym is ∙ memory in absurd (cc)
 
@@ -182,7 +182,7 @@ no_command_always words contents x y number o r is =
 -- status 2: the configuration is refused
 refused_texts : (command : Command) (config : Config) (schema script : Option (List ℕ)) (s : Status) (o : Outside) → s ≡ Refused → TextsEnds command config schema script s o → ⊥
 refused_texts command config schema script s o is (refused bytes why rows f) = let e : RefusedEnds ScriptRefused bytes Refused o = subst (λ s. RefusedEnds ScriptRefused bytes s o) is f in let never : ScriptRefused ≡ Refused = e.0 in absurd (cc)
-refused_texts command config schema script s o is (built deeds b f) = subst (λ s. ScriptEnds deeds s o) is f
+refused_texts command config schema script s o is (built deeds b f) = subst (λ s. ScriptEnds (length config.nodes) deeds s o) is f
 refused_texts command config schema script s o is (unbuilt stands none f) = subst (λ s. UnbuiltEnds s o) is f
 refused_texts command config schema script s o is (unchecked memory same) = let never : Refused ≡ NoMemory = sym is ∙ memory in absurd (cc)
 
@@ -272,12 +272,12 @@ refuses words contents x y number o r command text named tells is =
     subst (λ n. Refuses x y n o) (sym r.is) (command_refuses contents x y command text r.status o tells is (subst (λ c. WordsEnd c contents x y r.status o) named r.ends))
 
 -- status 0
-done_texts : (command : Command) (config : Config) (schema script : Option (List ℕ)) (text : List ℕ) (s : Status) (o : Outside) → s ≡ Done → script ≡ Some text → TextsEnds command config schema script s o → Played text o
+done_texts : (command : Command) (config : Config) (schema script : Option (List ℕ)) (text : List ℕ) (s : Status) (o : Outside) → s ≡ Done → script ≡ Some text → TextsEnds command config schema script s o → PlayedOver config text o
 done_texts command config schema script text s o is tells (refused bytes why rows f) = absurd (subst (λ s. RefusedEnds ScriptRefused bytes s o) is f)
 done_texts command config schema script text s o is tells (built deeds b f) =
-    let ends : ScriptEnds deeds Done o = subst (λ s. ScriptEnds deeds s o) is f in
+    let ends : ScriptEnds (length config.nodes) deeds Done o = subst (λ s. ScriptEnds (length config.nodes) deeds s o) is f in
     let same : b.reads.text ≡ text = (let e : Some b.reads.text ≡ Some text = sym b.reads.is ∙ tells in cc) in
-    record { lines = b.lines; says = subst (λ t. IsScript t b.lines) same b.reads.says; deeds = deeds; done = b.done; one = b.one; wrote = ends.0; rows = ends.1 }
+    record { lines = b.lines; says = subst (λ t. IsScript t b.lines) same b.reads.says; deeds = deeds; done = b.done; one = b.one; some = b.some_backend; wrote = ends.0; rows = ends.1 }
 done_texts command config schema script text s o is tells (unbuilt stands none f) = absurd (subst (λ s. UnbuiltEnds s o) is f)
 done_texts command config schema script text s o is tells (unchecked memory same) = let never : Done ≡ NoMemory = sym is ∙ memory in absurd (cc)
 
@@ -293,24 +293,25 @@ some_script command config schema script s o is (unchecked memory same) none = l
 
 -- the command plays a script of that name
 done_rest : (contents : List ℕ → Told) (x y : ℕ) (a b c : List ℕ) (journal : Bool) (config : Config) (text : List ℕ) (s : Status) (o : Outside) → s ≡ Done → contents c ≡ content text
-    → RestEnds contents x y (Play a b c journal) config s o → Played text o
+    → RestEnds contents x y (Play a b c journal) config s o → PlayedOver config text o
 done_rest contents x y a b c journal config text s o is tells (unread_rest e) = absurd (subst (λ s. UnreadEnds x y s o) is e)
 done_rest contents x y a b c journal config text s o is tells (read_rest schema script d e f) =
     done_texts (Play a b c journal) config schema script text s o is (read_some (contents c) 4194304 script text tells (some_script (Play a b c journal) config schema script s o is f) e) f
 
-done_config : (contents : List ℕ → Told) (x y : ℕ) (a b c : List ℕ) (journal : Bool) (got text : List ℕ) (s : Status) (o : Outside) → s ≡ Done → contents c ≡ content text
-    → ConfigEnds contents x y (Play a b c journal) got s o → Played text o
-done_config contents x y a b c journal got text s o is tells (configured config said e) = done_rest contents x y a b c journal config text s o is tells e
-done_config contents x y a b c journal got text s o is tells (faulty fault first none rows e) = absurd (subst (λ s. RefusedEnds Refused (fault_line fault) s o) is e)
-done_config contents x y a b c journal got text s o is tells (unparsed memory same) = let never : Done ≡ NoMemory = sym is ∙ memory in absurd (cc)
+done_config : (contents : List ℕ → Told) (x y : ℕ) (a b c : List ℕ) (journal : Bool) (got text : List ℕ) (s : Status) (o : Outside) → s ≡ Done → contents c ≡ content text → IsTold (contents a) got
+    → ConfigEnds contents x y (Play a b c journal) got s o → Played (contents a) text o
+done_config contents x y a b c journal got text s o is tells read_so (configured config said e) =
+    record { config_text = got; tells = read_so; config = config; configured = said; over = done_rest contents x y a b c journal config text s o is tells e }
+done_config contents x y a b c journal got text s o is tells read_so (faulty fault first none rows e) = absurd (subst (λ s. RefusedEnds Refused (fault_line fault) s o) is e)
+done_config contents x y a b c journal got text s o is tells read_so (unparsed memory same) = let never : Done ≡ NoMemory = sym is ∙ memory in absurd (cc)
 
 done_command : (contents : List ℕ → Told) (x y : ℕ) (a b c : List ℕ) (journal : Bool) (text : List ℕ) (s : Status) (o : Outside) → s ≡ Done → contents c ≡ content text
-    → CommandEnds contents x y (Play a b c journal) s o → Played text o
+    → CommandEnds contents x y (Play a b c journal) s o → Played (contents a) text o
 done_command contents x y a b c journal text s o is tells (unread e) = absurd (subst (λ s. UnreadEnds x y s o) is e)
 done_command contents x y a b c journal text s o is tells (long d rows e) = absurd (subst (λ s. RefusedEnds Refused config_too_long s o) is e)
-done_command contents x y a b c journal text s o is tells (read got d e) = done_config contents x y a b c journal got text s o is tells e
+done_command contents x y a b c journal text s o is tells (read got d e) = done_config contents x y a b c journal got text s o is tells d.0 e
 
 pub played : (words : List (List ℕ)) (contents : List ℕ → Told) (x y number : ℕ) (o : Outside) → Returns words contents x y number o → number ≡ 0
-    → (config schema script text : List ℕ) (journal : Bool) → command_of words ≡ Some (Play config schema script journal) → contents script ≡ content text → Played text o
+    → (config schema script text : List ℕ) (journal : Bool) → command_of words ≡ Some (Play config schema script journal) → contents script ≡ content text → Played (contents config) text o
 played words contents x y number o r zero_is config schema script text journal is tells =
     done_command contents x y config schema script journal text r.status o (is_done r.status (sym r.is ∙ zero_is)) tells (subst (λ c. WordsEnd c contents x y r.status o) is r.ends)

@@ -23,7 +23,7 @@ texts_refused : (words : List (List ℕ)) (contents : List ℕ → Told) (comman
     → IsScriptRead contents command script → TextsEnds command config schema script s o → ScriptIsRefused words contents o
 texts_refused words contents command config schema script s o named is r (refused bytes why rows f) =
     record { command = command; is = named; script = script; read = r; bytes = bytes; cause = why; wrote = (subst (λ s. RefusedEnds ScriptRefused bytes s o) is f).1; rows = rows }
-texts_refused words contents command config schema script s o named is r (built deeds b f) = absurd (subst (λ s. ScriptEnds deeds s o) is f)
+texts_refused words contents command config schema script s o named is r (built deeds b f) = absurd (subst (λ s. ScriptEnds (length config.nodes) deeds s o) is f)
 texts_refused words contents command config schema script s o named is r (unbuilt stands none f) = absurd (subst (λ s. UnbuiltEnds s o) is f)
 texts_refused words contents command config schema script s o named is r (unchecked memory same) = let never : ScriptRefused ≡ NoMemory = sym is ∙ memory in absurd (cc)
 

@@ -1,5 +1,5 @@
 -- What is read of a script, and whether that asks for what is built.
-use Rattle.std.proofs.Common.{◌≡◌, ℕ, ◌≤◌, Bool, true, false, List, length, map, refl, sym, ap, ◌∙◌, subst}
+use Rattle.std.proofs.Common.{◌≡◌, ℕ, ◌<◌, ◌≤◌, Bool, true, false, List, length, map, refl, sym, ap, ◌∙◌, subst}
 use Rattle.std.specs.Prelude.{Option, Some, None, Result, Ok, Err}
 use Rattle.std.proofs.lemmas.Bool.{false≢true}
 use Rattle.pgproto.specs.Line.{Line, line_of}
@@ -31,10 +31,10 @@ none_without (Serve x y) config schema script none deeds b = false≢true b.plai
 
 -- what else is built, and that the lines are of one session
 abbrev pub Others : Command → Config → Option (List ℕ) → Type 0
-Others command config schema = (is_plain command ≡ true) × ((length config.nodes ≡ 1) × (schema ≡ Some built_schema))
+Others command config schema = (is_plain command ≡ true) × (((0 < length config.nodes) × (length config.nodes ≤ 3)) × (schema ≡ Some built_schema))
 
 pub others_of : (command : Command) (config : Config) (schema script : Option (List ℕ)) (deeds : List Deed) → IsBuilt command config schema script deeds → Others command config schema
-others_of command config schema script deeds b = (b.plain, (b.one_backend, b.schema_is))
+others_of command config schema script deeds b = (b.plain, ((b.some_backend, b.few_backends), b.schema_is))
 
 pub session_of : (command : Command) (config : Config) (schema script : Option (List ℕ)) (lines : List Line) (deeds : List Deed) → IsReading script lines → IsBuilt command config schema script deeds → IsSession lines
 session_of command config schema script lines deeds r b = subst IsSession (sym (r.only b.lines b.reads)) (record { deeds = deeds; done = b.done; one = b.one })

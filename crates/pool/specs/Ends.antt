@@ -1,7 +1,8 @@
 -- How a run may end: for each case, each status with what was written, or that it never comes.
 use Rattle.std.specs.Prelude.{◌≡◌, ◌<◌, ◌⊎◌, ℕ, length, List, ◌++◌, Option, Some, None, codes}
 use Rattle.pool_base.specs.Outside.{Rose, Appends, AppendsFront, Told, IsTold, IsLonger}
-use Rattle.backend_trait.specs.Rows.{Rows}
+use Rattle.backend_trait.specs.Rows.{no_rows}
+use Rattle.backend_trait.specs.Store.{Store}
 use Rattle.pgproto.specs.Line.{Line}
 use Rattle.pgproto.specs.Script.{IsScript}
 use Rattle.play.specs.Script.{Deed, AreDone, IsOneSession}
@@ -16,6 +17,7 @@ use Rattle.pool_config.specs.Printed.{shown}
 use Rattle.pool.specs.declared.status.Status.TheVariants.{Done, NoCommand, Refused, ScriptRefused, FilesFailed, SinkFailed, NoMemory, NotBuilt}
 use Rattle.pool.specs.Status.{code_of}
 use Rattle.pool.specs.Scripts.{ScriptCause, Stands, IsRefusedScript, has_script}
+use Rattle.pool.specs.Shelf.{HaveRows}
 use Rattle.pool.specs.Texts.{config_name, schema_name, IsRead, IsScriptRead, IsBuilt, line}
 
 abbrev pub no_command : List ℕ
@@ -30,17 +32,17 @@ fault_line fault = line (codes "pool: " ++ shown fault)
 abbrev pub not_built : List ℕ
 not_built = line (codes "pool: not built yet")
 
--- what lies outside, before the run and after it: the sink's faults and bytes, and the committed rows
+-- what lies outside, before the run and after it: the sink's faults and bytes, and the stores of the shelf
 pub record Outside : Type 0 where
   pub faults_before : ℕ
   pub faults_after : ℕ
   pub had : Option (List ℕ)
   pub has : Option (List ℕ)
-  pub rows_before : Rows
-  pub rows_after : Rows
+  pub stores_before : List Store
+  pub stores_after : List Store
 
-abbrev pub outside : ℕ → ℕ → Option (List ℕ) → Option (List ℕ) → Rows → Rows → Outside
-outside n m a b x y = record { faults_before = n; faults_after = m; had = a; has = b; rows_before = x; rows_after = y }
+abbrev pub outside : ℕ → ℕ → Option (List ℕ) → Option (List ℕ) → List Store → List Store → Outside
+outside n m a b x y = record { faults_before = n; faults_after = m; had = a; has = b; stores_before = x; stores_after = y }
 
 -- the sink failed, and has a front of the bytes
 abbrev pub Fails : Outside → List ℕ → Type 0
@@ -90,31 +92,40 @@ UnbuiltEnds SinkFailed o = Fails o not_built
 UnbuiltEnds NoMemory o = ⊥
 UnbuiltEnds NotBuilt o = Appends o.had o.has not_built
 
--- the script is played
-abbrev pub ScriptEnds : List Deed → Status → Outside → Type 0
-ScriptEnds deeds Done o = Appends o.had o.has (transcript_of o.rows_before deeds) × (o.rows_after ≡ final_rows o.rows_before deeds)
-ScriptEnds deeds NoCommand o = ⊥
-ScriptEnds deeds Refused o = ⊥
-ScriptEnds deeds ScriptRefused o = ⊥
-ScriptEnds deeds FilesFailed o = ⊥
-ScriptEnds deeds SinkFailed o = Fails o (transcript_of o.rows_before deeds)
-ScriptEnds deeds NoMemory o = AppendsFront o.had o.has (transcript_of o.rows_before deeds)
-ScriptEnds deeds NotBuilt o = ⊥
+-- the script is played over so many backends
+abbrev pub ScriptEnds : ℕ → List Deed → Status → Outside → Type 0
+ScriptEnds count deeds Done o = Appends o.had o.has (transcript_of no_rows deeds) × HaveRows count (final_rows no_rows deeds) o.stores_after
+ScriptEnds count deeds NoCommand o = ⊥
+ScriptEnds count deeds Refused o = ⊥
+ScriptEnds count deeds ScriptRefused o = ⊥
+ScriptEnds count deeds FilesFailed o = ⊥
+ScriptEnds count deeds SinkFailed o = Fails o (transcript_of no_rows deeds)
+ScriptEnds count deeds NoMemory o = AppendsFront o.had o.has (transcript_of no_rows deeds)
+ScriptEnds count deeds NotBuilt o = ⊥
 
--- a script of this text was played to its end
-pub record Played (text : List ℕ) (o : Outside) : Type 0 where
+-- a script of this text was played to its end, over the backends of the configuration: what was written is the transcript of one store, and each backend has its rows
+pub record PlayedOver (config : Config) (text : List ℕ) (o : Outside) : Type 0 where
   pub lines : List Line
   pub says : IsScript text lines
   pub deeds : List Deed
   pub done : AreDone lines deeds
   pub one : IsOneSession deeds
-  pub wrote : Appends o.had o.has (transcript_of o.rows_before deeds)
-  pub rows : o.rows_after ≡ final_rows o.rows_before deeds
+  pub some : 0 < length config.nodes
+  pub wrote : Appends o.had o.has (transcript_of no_rows deeds)
+  pub rows : HaveRows (length config.nodes) (final_rows no_rows deeds) o.stores_after
+
+-- and the configuration is that of its file
+pub record Played (told : Told) (text : List ℕ) (o : Outside) : Type 0 where
+  pub config_text : List ℕ
+  pub tells : IsTold told config_text
+  pub config : Config
+  pub configured : IsConfiguration config_text config
+  pub over : PlayedOver config text o
 
 -- all texts of the command were read: the script is refused and nothing else is done, it is played, or it stands and asks for what is not built
 pub data TextsEnds (command : Command) (config : Config) (schema script : Option (List ℕ)) (status : Status) (o : Outside) : Type 0 where
-  refused : (bytes : List ℕ) → ScriptCause command script bytes → o.rows_after ≡ o.rows_before → RefusedEnds ScriptRefused bytes status o → TextsEnds command config schema script status o
-  built : (deeds : List Deed) → IsBuilt command config schema script deeds → ScriptEnds deeds status o → TextsEnds command config schema script status o
+  refused : (bytes : List ℕ) → ScriptCause command script bytes → o.stores_after ≡ o.stores_before → RefusedEnds ScriptRefused bytes status o → TextsEnds command config schema script status o
+  built : (deeds : List Deed) → IsBuilt command config schema script deeds → ScriptEnds (length config.nodes) deeds status o → TextsEnds command config schema script status o
   unbuilt : Stands command script → ((deeds : List Deed) → IsBuilt command config schema script deeds → ⊥) → UnbuiltEnds status o → TextsEnds command config schema script status o
   unchecked : status ≡ NoMemory → o.has ≡ o.had → TextsEnds command config schema script status o
 
@@ -131,13 +142,13 @@ SaysNone text = (config : Config) → IsConfiguration text config → ⊥
 -- the text of the configuration was read: it says a configuration, or it has a first fault and nothing else is done
 pub data ConfigEnds (contents : List ℕ → Told) (before after : ℕ) (command : Command) (text : List ℕ) (status : Status) (o : Outside) : Type 0 where
   configured : (config : Config) → IsConfiguration text config → RestEnds contents before after command config status o → ConfigEnds contents before after command text status o
-  faulty : (fault : ConfigFault) → IsFault text fault → SaysNone text → o.rows_after ≡ o.rows_before → RefusedEnds Refused (fault_line fault) status o → ConfigEnds contents before after command text status o
+  faulty : (fault : ConfigFault) → IsFault text fault → SaysNone text → o.stores_after ≡ o.stores_before → RefusedEnds Refused (fault_line fault) status o → ConfigEnds contents before after command text status o
   unparsed : status ≡ NoMemory → o.has ≡ o.had → ConfigEnds contents before after command text status o
 
 -- the words are a command: its configuration was not read, is too long, or was read
 pub data CommandEnds (contents : List ℕ → Told) (before after : ℕ) (command : Command) (status : Status) (o : Outside) : Type 0 where
   unread : UnreadEnds before after status o → CommandEnds contents before after command status o
-  long : IsRead (contents (config_name command)) 65536 None → o.rows_after ≡ o.rows_before → RefusedEnds Refused config_too_long status o → CommandEnds contents before after command status o
+  long : IsRead (contents (config_name command)) 65536 None → o.stores_after ≡ o.stores_before → RefusedEnds Refused config_too_long status o → CommandEnds contents before after command status o
   read : (text : List ℕ) → IsRead (contents (config_name command)) 65536 (Some text) → ConfigEnds contents before after command text status o → CommandEnds contents before after command status o
 
 abbrev pub WordsEnd : Option Command → (List ℕ → Told) → ℕ → ℕ → Status → Outside → Type 0
@@ -169,7 +180,7 @@ pub record ConfigRefused (words : List (List ℕ)) (contents : List ℕ → Told
   pub bytes : List ℕ
   pub cause : Cause (contents (config_name command)) bytes
   pub wrote : Appends o.had o.has bytes
-  pub rows : o.rows_after ≡ o.rows_before
+  pub rows : o.stores_after ≡ o.stores_before
 
 -- the script that the command names was refused, its line was written, and nothing else was done
 pub record ScriptIsRefused (words : List (List ℕ)) (contents : List ℕ → Told) (o : Outside) : Type 0 where
@@ -180,7 +191,7 @@ pub record ScriptIsRefused (words : List (List ℕ)) (contents : List ℕ → To
   pub bytes : List ℕ
   pub cause : ScriptCause command script bytes
   pub wrote : Appends o.had o.has bytes
-  pub rows : o.rows_after ≡ o.rows_before
+  pub rows : o.stores_after ≡ o.stores_before
 
 -- a line that is to be written, and the status that it comes with
 abbrev pub Says : Status → Status → List ℕ → Option (List ℕ) → Option (List ℕ) → ℕ → ℕ → Type 0

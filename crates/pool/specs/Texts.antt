@@ -1,5 +1,5 @@
 -- The texts that a command names, what is read of them, and what is built.
-use Rattle.std.specs.Prelude.{◌≡◌, ◌≤◌, ℕ, Bool, true, false, not, List, [], ◌∷◌, ◌++◌, Option, Some, None, length, codes}
+use Rattle.std.specs.Prelude.{◌≡◌, ◌<◌, ◌≤◌, ℕ, Bool, true, false, not, List, [], ◌∷◌, ◌++◌, Option, Some, None, length, codes}
 use Rattle.pool_base.specs.Outside.{Told, IsTold, IsLonger}
 use Rattle.pgproto.specs.Line.{Line}
 use Rattle.play.specs.Script.{Deed, AreDone, IsOneSession}
@@ -44,10 +44,11 @@ is_plain (Serve config schema) = false
 unfoldable pub built_schema : List ℕ
 built_schema = line (codes "CREATE TABLE t (id int4 PRIMARY KEY, v int8);")
 
--- what is built is asked for: a script that has one session do this, over one backend with that schema, without the journal
+-- what is built is asked for: a script that has one session do this, over one to three backends with that schema, without the journal
 pub record IsBuilt (command : Command) (config : Config) (schema script : Option (List ℕ)) (deeds : List Deed) : Type 0 where
   pub plain : is_plain command ≡ true
-  pub one_backend : length config.nodes ≡ 1
+  pub some_backend : 0 < length config.nodes
+  pub few_backends : length config.nodes ≤ 3
   pub schema_is : schema ≡ Some built_schema
   pub lines : List Line
   pub reads : IsReadAs script lines

@@ -1,105 +1,116 @@
 //! From the words to the status.
-ghost use Rattle.std.specs.Prelude.{◌≡◌, ◌≢◌, ◌≤◌, length, List as Sequence, map, IfSome};
+ghost use Rattle.std.specs.Prelude.{◌≡◌, ◌≢◌, ◌<◌, ◌≤◌, length, List as Sequence, map, take, IfSome};
 ghost use Rattle.std.specs.List.{AllByRecursion};
 ghost use Rattle.pgproto.specs.Line.{line_of};
 ghost use Rattle.pgproto.specs.Spelling.{IsOfGrammar};
-ghost use Rattle.play.specs.Replies.{RowsFit};
 ghost use Rattle.play.specs.Script.{AreDone, Deed, IsSession};
 ghost use Rattle.pool.specs.Scripts.{IsReading, bad_line};
 ghost use Rattle.pool.specs.Ends.{outside, CommandEnds, ConfigEnds, RefusedEnds, RestEnds, TextsEnds, ScriptEnds, Ends, Returns, Says, fault_line};
-ghost use Rattle.backend_trait.specs.Rows.{Rows};
+ghost use Rattle.backend_trait.specs.Rows.{no_rows};
+ghost use Rattle.backend_trait.specs.Store.{Store};
+ghost use Rattle.session_core.specs.Statements.{primary_rows};
+ghost use Rattle.pool.specs.Shelf.{AreBackends, AreFresh};
 ghost use Rattle.pool_config.specs.declared.fault.ConfigFault.TheVariants as faults;
 ghost use Rattle.pool.specs.declared.status.Status.TheVariants as status;
 ghost use Rattle.pool.specs.declared.status.Status.TheVariants.{Refused, ScriptRefused, SinkFailed};
 
+use crate::backends::Backends;
 use crate::scripts::{ScriptStop, bad_line, read_lines};
 use crate::status::Status;
 use crate::texts::{Texts, are_built, fault_line, read_config, read_texts};
+use backend_trait::Backend;
 use pgproto::{Script, ScriptLine, lines_of_grammar};
-use play::{Database, PlayFault, is_session, play};
-use pool_base::{Files, Sink, write_all};
+use play::{PlayFault, is_session, play};
+use pool_base::{Files, SessionId, Sink, write_all};
 use pool_command::{Command, read_words};
 use pool_config::{Config, ConfigFault, parse_config};
 use std::alloc::Global;
+use std::mem;
+use write_path::Chain;
 
 /// Runs the command of the words: its output goes to `out`, and its status is the result.
-pub fn run<F: Files, O: Sink, D: Database>(
+pub fn run<F: Files, O: Sink, B: Backend>(
     alloc: Global,
     words: &[&str],
     files: &mut F,
     out: &mut O,
-    database: &mut D,
+    shelf: &mut Vec<B>,
 ) -> u8
-    requires { RowsFit (D.rows database.old) }
+    requires enough { 3 ≤ length shelf.old.items }
+    requires fresh { AreFresh B.meaning B.is_honest B.is_prompt B.is_steady shelf.old.items }
     // Each status comes with its cause, and with what was written.
     ensures { Returns (map
         (λ w. w.now) words.now) (F.contents files.old) (F.fault_count files.old) (F.fault_count
         files.new) result (outside (O.fault_count out.old) (O.fault_count out.new) (O.taken
-        out.old) (O.taken out.new) (D.rows database.old) (D.rows database.new)) }
+        out.old) (O.taken out.new) (map B.meaning shelf.old.items) (map B.meaning
+        shelf.new.items)) }
 {
-    run_words(alloc, words, files, out, database).code()
+    run_words(alloc, words, files, out, shelf).code()
 }
 
-fn run_words<F: Files, O: Sink, D: Database>(
+fn run_words<F: Files, O: Sink, B: Backend>(
     alloc: Global,
     words: &[&str],
     files: &mut F,
     out: &mut O,
-    database: &mut D,
+    shelf: &mut Vec<B>,
 ) -> Status
-    requires { RowsFit (D.rows database.old) }
+    requires enough { 3 ≤ length shelf.old.items }
+    requires fresh { AreFresh B.meaning B.is_honest B.is_prompt B.is_steady shelf.old.items }
     ensures { Ends (map
         (λ w. w.now) words.now) (F.contents files.old) (F.fault_count files.old) (F.fault_count
         files.new) result (outside
         (O.fault_count out.old) (O.fault_count out.new) (O.taken out.old) (O.taken out.new)
-        (D.rows database.old) (D.rows database.new)) }
+        (map B.meaning shelf.old.items) (map B.meaning shelf.new.items)) }
 {
     match read_words(alloc, words) {
         Err(_) => Status::NoMemory,
         Ok(None) => say(out, b"pool: the words are no command\n", Status::NoCommand),
-        Ok(Some(command)) => run_command(alloc, &command, files, out, database),
+        Ok(Some(command)) => run_command(alloc, &command, files, out, shelf),
     }
 }
 
-fn run_command<F: Files, O: Sink, D: Database>(
+fn run_command<F: Files, O: Sink, B: Backend>(
     alloc: Global,
     command: &Command,
     files: &mut F,
     out: &mut O,
-    database: &mut D,
+    shelf: &mut Vec<B>,
 ) -> Status
-    requires { RowsFit (D.rows database.old) }
+    requires enough { 3 ≤ length shelf.old.items }
+    requires fresh { AreFresh B.meaning B.is_honest B.is_prompt B.is_steady shelf.old.items }
     ensures { CommandEnds (F.contents files.old) (F.fault_count files.old) (F.fault_count
         files.new) command.now result (outside
         (O.fault_count out.old) (O.fault_count out.new) (O.taken out.old) (O.taken out.new)
-        (D.rows database.old) (D.rows database.new)) }
+        (map B.meaning shelf.old.items) (map B.meaning shelf.new.items)) }
 {
     match read_config(alloc, command, files) {
         Err(status) => status,
         Ok(None) => say(out, b"pool: configuration is too long\n", Status::Refused),
-        Ok(Some(text)) => run_config(alloc, command, text.as_slice(), files, out, database),
+        Ok(Some(text)) => run_config(alloc, command, text.as_slice(), files, out, shelf),
     }
 }
 
 /// Goes on with the text of the configuration.
-fn run_config<F: Files, O: Sink, D: Database>(
+fn run_config<F: Files, O: Sink, B: Backend>(
     alloc: Global,
     command: &Command,
     text: &[u8],
     files: &mut F,
     out: &mut O,
-    database: &mut D,
+    shelf: &mut Vec<B>,
 ) -> Status
     requires short { length text.now ≤ 65536 }
-    requires fits { RowsFit (D.rows database.old) }
+    requires enough { 3 ≤ length shelf.old.items }
+    requires fresh { AreFresh B.meaning B.is_honest B.is_prompt B.is_steady shelf.old.items }
     ensures { ConfigEnds (F.contents files.old) (F.fault_count files.old) (F.fault_count
         files.new) command.now text.now result (outside
         (O.fault_count out.old) (O.fault_count out.new) (O.taken out.old) (O.taken out.new)
-        (D.rows database.old) (D.rows database.new)) }
+        (map B.meaning shelf.old.items) (map B.meaning shelf.new.items)) }
 {
     match parse_config(alloc, text) {
         Err(fault) => run_fault(alloc, &fault, out),
-        Ok(config) => run_rest(alloc, command, &config, files, out, database),
+        Ok(config) => run_rest(alloc, command, &config, files, out, shelf),
     }
 }
 
@@ -107,9 +118,9 @@ fn run_config<F: Files, O: Sink, D: Database>(
 fn run_fault<O: Sink>(alloc: Global, fault: &ConfigFault, out: &mut O) -> Status
     ensures memory { fault.now ≡ faults.NoMemory → (result ≡ status.NoMemory)
         × (O.taken out.new ≡ O.taken out.old) }
-    ensures refuses { fault.now ≢ faults.NoMemory → (rows : Rows) → RefusedEnds Refused (fault_line
-        fault.now) result (outside (O.fault_count out.old) (O.fault_count out.new)
-        (O.taken out.old) (O.taken out.new) rows rows) }
+    ensures refuses { fault.now ≢ faults.NoMemory → (stores : Sequence Store)
+        → RefusedEnds Refused (fault_line fault.now) result (outside (O.fault_count out.old)
+        (O.fault_count out.new) (O.taken out.old) (O.taken out.new) stores stores) }
 {
     match fault {
         ConfigFault::NoMemory => Status::NoMemory,
@@ -119,9 +130,9 @@ fn run_fault<O: Sink>(alloc: Global, fault: &ConfigFault, out: &mut O) -> Status
 
 /// Writes the line of a configuration's fault.
 fn refuse<O: Sink>(alloc: Global, fault: &ConfigFault, out: &mut O) -> Status
-    ensures { (rows : Rows) → RefusedEnds Refused (fault_line fault.now) result (outside
+    ensures { (stores : Sequence Store) → RefusedEnds Refused (fault_line fault.now) result (outside
         (O.fault_count out.old) (O.fault_count out.new) (O.taken out.old) (O.taken out.new)
-        rows rows) }
+        stores stores) }
 {
     match fault_line(alloc, fault) {
         Err(_) => Status::NoMemory,
@@ -130,39 +141,41 @@ fn refuse<O: Sink>(alloc: Global, fault: &ConfigFault, out: &mut O) -> Status
 }
 
 /// Goes on with the configuration.
-fn run_rest<F: Files, O: Sink, D: Database>(
+fn run_rest<F: Files, O: Sink, B: Backend>(
     alloc: Global,
     command: &Command,
     config: &Config,
     files: &mut F,
     out: &mut O,
-    database: &mut D,
+    shelf: &mut Vec<B>,
 ) -> Status
-    requires { RowsFit (D.rows database.old) }
+    requires enough { 3 ≤ length shelf.old.items }
+    requires fresh { AreFresh B.meaning B.is_honest B.is_prompt B.is_steady shelf.old.items }
     ensures { RestEnds (F.contents files.old) (F.fault_count files.old) (F.fault_count
         files.new) command.now config.now result (outside
         (O.fault_count out.old) (O.fault_count out.new) (O.taken out.old) (O.taken out.new)
-        (D.rows database.old) (D.rows database.new)) }
+        (map B.meaning shelf.old.items) (map B.meaning shelf.new.items)) }
 {
     match read_texts(alloc, command, files) {
         Err(status) => status,
-        Ok(texts) => run_texts(alloc, command, config, &texts, out, database),
+        Ok(texts) => run_texts(alloc, command, config, &texts, out, shelf),
     }
 }
 
-fn run_texts<O: Sink, D: Database>(
+fn run_texts<O: Sink, B: Backend>(
     alloc: Global,
     command: &Command,
     config: &Config,
     texts: &Texts,
     out: &mut O,
-    database: &mut D,
+    shelf: &mut Vec<B>,
 ) -> Status
     requires short { IfSome texts.now.script (λ text. length text ≤ 4194304) }
-    requires fits { RowsFit (D.rows database.old) }
+    requires enough { 3 ≤ length shelf.old.items }
+    requires fresh { AreFresh B.meaning B.is_honest B.is_prompt B.is_steady shelf.old.items }
     ensures { TextsEnds command.now config.now texts.now.schema texts.now.script result (outside
         (O.fault_count out.old) (O.fault_count out.new) (O.taken out.old) (O.taken out.new)
-        (D.rows database.old) (D.rows database.new)) }
+        (map B.meaning shelf.old.items) (map B.meaning shelf.new.items)) }
 {
     match read_lines(alloc, command, &texts.script) {
         Err(ScriptStop::NoMemory) => Status::NoMemory,
@@ -171,15 +184,15 @@ fn run_texts<O: Sink, D: Database>(
         }
         Err(ScriptStop::BadLine(number)) => refuse_line(alloc, number, out),
         Ok(None) => say(out, b"pool: not built yet\n", Status::NotBuilt),
-        Ok(Some(lines)) => run_lines(alloc, command, config, texts, &lines, out, database),
+        Ok(Some(lines)) => run_lines(alloc, command, config, texts, &lines, out, shelf),
     }
 }
 
 /// Writes which line of the script is bad.
 fn refuse_line<O: Sink>(alloc: Global, number: u32, out: &mut O) -> Status
-    ensures { (rows : Rows) → RefusedEnds ScriptRefused (bad_line number) result (outside
-        (O.fault_count out.old) (O.fault_count out.new) (O.taken out.old) (O.taken out.new)
-        rows rows) }
+    ensures { (stores : Sequence Store) → RefusedEnds ScriptRefused (bad_line number) result
+        (outside (O.fault_count out.old) (O.fault_count out.new) (O.taken out.old)
+        (O.taken out.new) stores stores) }
 {
     match bad_line(alloc, number) {
         Err(_) => Status::NoMemory,
@@ -188,43 +201,84 @@ fn refuse_line<O: Sink>(alloc: Global, number: u32, out: &mut O) -> Status
 }
 
 /// Plays the script, if all that was read asks for what is built.
-fn run_lines<O: Sink, D: Database>(
+fn run_lines<O: Sink, B: Backend>(
     alloc: Global,
     command: &Command,
     config: &Config,
     texts: &Texts,
     lines: &Script,
     out: &mut O,
-    database: &mut D,
+    shelf: &mut Vec<B>,
 ) -> Status
     requires read { IsReading texts.now.script (map line_of lines.now) }
-    requires fits { RowsFit (D.rows database.old) }
+    requires enough { 3 ≤ length shelf.old.items }
+    requires fresh { AreFresh B.meaning B.is_honest B.is_prompt B.is_steady shelf.old.items }
     ensures { TextsEnds command.now config.now texts.now.schema texts.now.script result (outside
         (O.fault_count out.old) (O.fault_count out.new) (O.taken out.old) (O.taken out.new)
-        (D.rows database.old) (D.rows database.new)) }
+        (map B.meaning shelf.old.items) (map B.meaning shelf.new.items)) }
 {
     if are_built(command, config, &texts.schema) && is_session(lines.as_slice()) {
         lines_of_grammar();
-        run_script(alloc, lines.as_slice(), out, database)
+        let count = config.nodes.len();
+        run_script(alloc, lines.as_slice(), count, out, shelf)
     } else {
         say(out, b"pool: not built yet\n", Status::NotBuilt)
     }
 }
 
-fn run_script<O: Sink, D: Database>(
+/// Plays a script over the first boxes of the shelf, as many as the configuration has backends.
+fn run_script<O: Sink, B: Backend>(
     alloc: Global,
     script: &[ScriptLine],
+    count: usize,
     out: &mut O,
-    database: &mut D,
+    shelf: &mut Vec<B>,
 ) -> Status
     requires grammar { AllByRecursion IsOfGrammar (map line_of script.now) }
     requires session { IsSession (map line_of script.now) }
-    requires fits { RowsFit (D.rows database.old) }
+    requires some { 0 < count }
+    requires few { count ≤ 3 }
+    requires enough { 3 ≤ length shelf.old.items }
+    requires fresh { AreFresh B.meaning B.is_honest B.is_prompt B.is_steady shelf.old.items }
     ensures { (deeds : Sequence Deed) → AreDone (map line_of script.now) deeds
-        → ScriptEnds deeds result (outside (O.fault_count out.old) (O.fault_count out.new)
-        (O.taken out.old) (O.taken out.new) (D.rows database.old) (D.rows database.new)) }
+        → ScriptEnds count deeds result (outside (O.fault_count out.old) (O.fault_count out.new)
+        (O.taken out.old) (O.taken out.new) (map B.meaning shelf.old.items) (map B.meaning
+        shelf.new.items)) }
 {
-    match play(alloc, script, database, out) {
+    let Ok(chain) = Chain::new(alloc) else {
+        return Status::NoMemory;
+    };
+    let held = mem::replace(shelf, Vec::new(alloc));
+    let mut backends = Backends {
+        chain,
+        shelf: held,
+        count,
+        session: SessionId { number: 1 },
+    };
+    let status = play_over(alloc, script, out, &mut backends);
+    *shelf = backends.shelf;
+    status
+}
+
+/// Plays a script over backends without rows.
+fn play_over<O: Sink, B: Backend>(
+    alloc: Global,
+    script: &[ScriptLine],
+    out: &mut O,
+    backends: &mut Backends<B>,
+) -> Status
+    requires grammar { AllByRecursion IsOfGrammar (map line_of script.now) }
+    requires session { IsSession (map line_of script.now) }
+    requires ready { AreBackends B.meaning B.is_honest B.is_prompt B.is_steady backends.old.count
+        (take backends.old.count backends.old.shelf.items) }
+    requires none { primary_rows (map B.meaning (take backends.old.count
+        backends.old.shelf.items)) ≡ no_rows }
+    ensures { (deeds : Sequence Deed) → AreDone (map line_of script.now) deeds
+        → ScriptEnds backends.old.count deeds result (outside (O.fault_count out.old)
+        (O.fault_count out.new) (O.taken out.old) (O.taken out.new) (map B.meaning
+        backends.old.shelf.items) (map B.meaning backends.new.shelf.items)) }
+{
+    match play(alloc, script, backends, out) {
         Ok(()) => Status::Done,
         Err(PlayFault::NoMemory) => Status::NoMemory,
         Err(PlayFault::SinkFailed) => Status::SinkFailed,

@@ -1,6 +1,10 @@
+use crate::shelf::put;
 use crate::top::pool_run;
-use model_store::SingleStore;
+use backend_trait::{Backend, Row};
+use model_store::MemoryStore;
+use pg_values::Value;
 use pool_base::{List, MemoryFiles, MemorySink, NoMemory, Text};
+use std::alloc::Global;
 use std::test::Fail;
 
 const CONFIG: &str = "backend_clustering_mode = 'snapshot_isolation'\nbackend_hostname0 = 'a'\n\
@@ -48,18 +52,60 @@ fn files(
     Ok(MemoryFiles::new(names, contents, fails))
 }
 
-/// Runs the words over files and a store without rows, and gives the status and what was written.
-fn run(
-    rt: &impl AllocGlobal,
+/// What a run has left: its status, what was written, and whether each store has the one row.
+#[derive(Drop)]
+struct Ran {
+    code: u8,
+    output: List<u8>,
+    each_has_the_row: bool,
+}
+
+/// Runs the words over files and three stores without rows.
+fn run_over_three(
+    alloc: Global,
     words: &[&str],
     mut files: MemoryFiles,
     sink_fails: &[u64],
-) -> Result<(u8, List<u8>), NoMemory> {
-    let alloc = rt.alloc();
+) -> Result<Ran, NoMemory> {
     let mut out = MemorySink::new(alloc, List::from_slice(alloc, sink_fails)?);
-    let mut store = SingleStore::new(alloc);
-    let code = pool_run(alloc, words, &mut files, &mut out, &mut store);
-    Ok((code, List::from_slice(alloc, out.taken_bytes())?))
+    let mut shelf: Vec<Box<dyn Backend>> = Vec::new(alloc);
+    put(&mut shelf, Box::new(alloc, MemoryStore::new(alloc)?)?)?;
+    put(&mut shelf, Box::new(alloc, MemoryStore::new(alloc)?)?)?;
+    put(&mut shelf, Box::new(alloc, MemoryStore::new(alloc)?)?)?;
+    let code = pool_run(alloc, words, &mut files, &mut out, &mut shelf);
+    let output = List::from_slice(alloc, out.taken_bytes())?;
+    let each_has_the_row = have_the_row(alloc, shelf.as_slice())?;
+    Ok(Ran {
+        code,
+        output,
+        each_has_the_row,
+    })
+}
+
+/// Whether each backend has one row in table 0: 1, 10.
+fn have_the_row<B: Backend>(alloc: Global, shelf: &[B]) -> Result<bool, NoMemory> {
+    let mut cells = List::new(alloc);
+    cells.push(Value::Int4(1))?;
+    cells.push(Value::Int8(10))?;
+    let mut expected = List::new(alloc);
+    expected.push(Row { cells })?;
+    for one in shelf {
+        if one.rows_of(0)? != expected {
+            return Ok(false);
+        }
+    }
+    Ok(true)
+}
+
+/// Runs the words over files and three stores without rows: the status and what was written.
+fn run(
+    rt: &impl AllocGlobal,
+    words: &[&str],
+    files: MemoryFiles,
+    sink_fails: &[u64],
+) -> Result<(u8, List<u8>), NoMemory> {
+    let Ran { code, output, .. } = run_over_three(rt.alloc(), words, files, sink_fails)?;
+    Ok((code, output))
 }
 
 /// Plays a script over one backend.
@@ -311,11 +357,49 @@ fn comments_and_a_weight_change_no_transcript(rt: HostRuntime) -> Result<(), Fai
     Ok(())
 }
 
+/// A configuration of so many backends.
+fn config_of(rt: &impl AllocGlobal, count: u32) -> Result<String, NoMemory> {
+    let mut config = String::new(rt.alloc());
+    config.push_str("backend_clustering_mode = 'snapshot_isolation'\n")?;
+    for number in 0..count {
+        let line = format!(in rt.alloc(); "backend_hostname{number} = 'a'\n")?;
+        config.push_str(line.as_str())?;
+        let line = format!(in rt.alloc(); "backend_port{number} = 5432\n")?;
+        config.push_str(line.as_str())?;
+    }
+    Ok(config)
+}
+
 #[test]
-fn two_backends_are_not_built(rt: HostRuntime) -> Result<(), Fail> {
-    let config = "backend_clustering_mode = 'snapshot_isolation'\nbackend_hostname0 = 'a'\n\
-        backend_port0 = 5432\nbackend_hostname1 = 'b'\nbackend_port1 = 5433\n";
-    let files = files(&rt, config, SCRIPT, &[])?;
+fn three_backends_give_the_transcript_of_one_and_each_has_the_row(
+    rt: HostRuntime,
+) -> Result<(), Fail> {
+    let config = config_of(&rt, 3)?;
+    let files = files(&rt, config.as_str(), SCRIPT, &[])?;
+    let left = run_over_three(rt.alloc(), &PLAY, files, &[])?;
+    assert_eq!(rt; left.code, 0);
+    assert_eq!(rt; left.output.as_slice(), TRANSCRIPT.as_bytes());
+    assert!(rt; left.each_has_the_row);
+    Ok(())
+}
+
+#[test]
+fn boxes_beyond_the_configuration_get_no_row(rt: HostRuntime) -> Result<(), Fail> {
+    for count in [1, 2] {
+        let config = config_of(&rt, count)?;
+        let files = files(&rt, config.as_str(), SCRIPT, &[])?;
+        let left = run_over_three(rt.alloc(), &PLAY, files, &[])?;
+        assert_eq!(rt; left.code, 0);
+        assert_eq!(rt; left.output.as_slice(), TRANSCRIPT.as_bytes());
+        assert!(rt; !left.each_has_the_row);
+    }
+    Ok(())
+}
+
+#[test]
+fn four_backends_are_not_built(rt: HostRuntime) -> Result<(), Fail> {
+    let config = config_of(&rt, 4)?;
+    let files = files(&rt, config.as_str(), SCRIPT, &[])?;
     let (code, output) = run(&rt, &PLAY, files, &[])?;
     assert_eq!(rt; code, 9);
     assert_eq!(rt; output.as_slice(), b"pool: not built yet\n".as_slice());

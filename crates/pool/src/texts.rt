@@ -1,5 +1,5 @@
 //! The texts that a command names, and what is built.
-ghost use Rattle.std.specs.Prelude.{◌≡◌, ◌≤◌, ℕ, List as Sequence, Some, IsTrue, ◌↔◌, ◌++◌, IfOk, IfErr, IfSome, length, true, string_bytes};
+ghost use Rattle.std.specs.Prelude.{◌≡◌, ◌<◌, ◌≤◌, ℕ, List as Sequence, Some, IsTrue, ◌↔◌, ◌++◌, IfOk, IfErr, IfSome, length, true, string_bytes};
 ghost use Rattle.pool.specs.Texts.{config_name, schema_name, is_plain, IsRead, IsScriptRead, built_schema};
 ghost use Rattle.pool.specs.Reading.{IsFault};
 ghost use Rattle.pool.specs.Ends.{fault_line};
@@ -127,9 +127,17 @@ pub fn fault_line(alloc: Global, fault: &ConfigFault) -> Result<String, NoMemory
 #[tactic(auto, unfolding(crate::specs::Texts::built_schema))]
 pub fn are_built(command: &Command, config: &Config, schema: &Option<List<u8>>) -> bool
     ensures { IsTrue result ↔ ((is_plain command.now ≡ true)
-        × ((length config.now.nodes ≡ 1) × (schema.now ≡ Some built_schema))) }
+        × (((0 < length config.now.nodes) × (length config.now.nodes ≤ 3))
+        × (schema.now ≡ Some built_schema))) }
 {
-    is_plain(command) && config.nodes.len() == 1 && is_text(schema, SCHEMA.as_bytes())
+    is_plain(command) && are_few(config.nodes.len()) && is_text(schema, SCHEMA.as_bytes())
+}
+
+/// Whether so many backends are built: one to three.
+fn are_few(count: usize) -> bool
+    ensures { IsTrue result ↔ ((0 < count) × (count ≤ 3)) }
+{
+    0 < count && count <= 3
 }
 
 /// Whether the command is to play a script without its journal.

@@ -1,8 +1,7 @@
 //! The top call.
-ghost use Rattle.std.specs.Prelude.{◌≡◌, ◌⊎◌, ℕ, Bool, List as Sequence, Some, None, map};
+ghost use Rattle.std.specs.Prelude.{◌≡◌, ◌≤◌, ◌⊎◌, ℕ, Bool, List as Sequence, Some, None, All, true, length, map};
 ghost use Rattle.pool_base.specs.Outside.{Rose, content};
-ghost use Rattle.backend_trait.specs.Rows.{no_rows};
-ghost use Rattle.model_store.specs.Committed.{committed_rows};
+ghost use Rattle.backend_trait.specs.Store.{blank};
 ghost use Rattle.pool_command.specs.Command.{command_of};
 ghost use Rattle.pool_command.specs.declared.command.Command.{Command};
 ghost use Rattle.pool_command.specs.declared.command.Command.TheVariants.{Play};
@@ -10,12 +9,10 @@ ghost use Rattle.pool.specs.Texts.{config_name};
 ghost use Rattle.pool.specs.Scripts.{IsRefusedScript};
 ghost use Rattle.pool.specs.Ends.{outside, Returns, Played, ConfigRefused, IsRefusedText, ScriptIsRefused};
 
-use crate::memory::InMemory;
 use crate::running::run;
-use model_store::SingleStore;
+use backend_trait::Backend;
 use pool_base::{Files, Sink};
 use std::alloc::Global;
-use std::mem;
 
 /// Runs the command of the words: its output goes to `out`, and its status is the result.
 pub fn pool_run<F: Files, O: Sink>(
@@ -23,22 +20,30 @@ pub fn pool_run<F: Files, O: Sink>(
     words: &[&str],
     files: &mut F,
     out: &mut O,
-    store: &mut SingleStore,
+    shelf: &mut Vec<Box<dyn Backend>>,
 ) -> u8
-    requires { committed_rows store.old ≡ no_rows }
+    // Boxes enough, each a blank store that is honest, prompt and steady.
+    requires enough { 3 ≤ length shelf.old.items }
+    requires blank_each { All (λ x. meaning x ≡ blank) shelf.old.items }
+    requires honest { All (λ x. is_honest x ≡ true) shelf.old.items }
+    requires prompt { All (λ x. is_prompt x ≡ true) shelf.old.items }
+    requires steady { All (λ x. is_steady x ≡ true) shelf.old.items }
+
     // Each status comes with its cause, and with what was written.
     ensures ends { Returns (map (λ w. w.now) words.now) (F.contents files.old)
         (F.fault_count files.old) (F.fault_count files.new) result
         (outside (O.fault_count out.old) (O.fault_count out.new) (O.taken out.old)
-        (O.taken out.new) (committed_rows store.old) (committed_rows store.new)) }
+        (O.taken out.new) (map (λ x. meaning x) shelf.old.items)
+        (map (λ x. meaning x) shelf.new.items)) }
 
-    // Status 0: the transcript of the script that the file contains, and the rows that it leaves.
+    // Status 0: the transcript of one store for the script that the file contains, and each
+    // backend, the first boxes, has the rows that it leaves.
     ensures played { result ≡ 0 → (config schema script text : Sequence ℕ) (journal : Bool)
         → command_of (map (λ w. w.now) words.now) ≡ Some (Play config schema script journal)
         → F.contents files.old script ≡ content text
-        → Played text (outside (O.fault_count out.old) (O.fault_count out.new)
-        (O.taken out.old) (O.taken out.new) (committed_rows store.old)
-        (committed_rows store.new)) }
+        → Played (F.contents files.old config) text (outside (O.fault_count out.old)
+        (O.fault_count out.new) (O.taken out.old) (O.taken out.new)
+        (map (λ x. meaning x) shelf.old.items) (map (λ x. meaning x) shelf.new.items)) }
     // Status 1: exactly where the words are no command, unless its line could not be written or
     // memory was refused while they were read.
     ensures no_command { result ≡ 1 → command_of (map (λ w. w.now) words.now) ≡ None }
@@ -48,8 +53,8 @@ pub fn pool_run<F: Files, O: Sink>(
     // not read, its line could not be written, or memory was refused.
     ensures refused { result ≡ 2 → ConfigRefused (map (λ w. w.now) words.now)
         (F.contents files.old) (outside (O.fault_count out.old) (O.fault_count out.new)
-        (O.taken out.old) (O.taken out.new) (committed_rows store.old)
-        (committed_rows store.new)) }
+        (O.taken out.old) (O.taken out.new) (map (λ x. meaning x) shelf.old.items)
+        (map (λ x. meaning x) shelf.new.items)) }
     ensures accepted { result ≡ 2 → (command : Command) (text : Sequence ℕ)
         → command_of (map (λ w. w.now) words.now) ≡ Some command
         → F.contents files.old (config_name command) ≡ content text → IsRefusedText text }
@@ -63,8 +68,8 @@ pub fn pool_run<F: Files, O: Sink>(
     // configuration is, a file was not read, its line could not be written, or memory was refused.
     ensures script_refused { result ≡ 3 → ScriptIsRefused (map (λ w. w.now) words.now)
         (F.contents files.old) (outside (O.fault_count out.old) (O.fault_count out.new)
-        (O.taken out.old) (O.taken out.new) (committed_rows store.old)
-        (committed_rows store.new)) }
+        (O.taken out.old) (O.taken out.new) (map (λ x. meaning x) shelf.old.items)
+        (map (λ x. meaning x) shelf.new.items)) }
     ensures script_accepted { result ≡ 3 → (config schema script text : Sequence ℕ)
         (journal : Bool)
         → command_of (map (λ w. w.now) words.now) ≡ Some (Play config schema script journal)
@@ -80,26 +85,5 @@ pub fn pool_run<F: Files, O: Sink>(
     ensures files { result ≡ 4 → Rose (F.fault_count files.old) (F.fault_count files.new) }
     ensures sink { result ≡ 5 → Rose (O.fault_count out.old) (O.fault_count out.new) }
 {
-    run_in_memory(alloc, words, files, out, store)
-}
-
-fn run_in_memory<F: Files, O: Sink>(
-    alloc: Global,
-    words: &[&str],
-    files: &mut F,
-    out: &mut O,
-    store: &mut SingleStore,
-) -> u8
-    requires { committed_rows store.old ≡ no_rows }
-    ensures { Returns (map (λ w. w.now) words.now) (F.contents files.old)
-        (F.fault_count files.old) (F.fault_count files.new) result
-        (outside (O.fault_count out.old) (O.fault_count out.new) (O.taken out.old)
-        (O.taken out.new) (committed_rows store.old) (committed_rows store.new)) }
-{
-    let held = mem::replace(store, SingleStore::new(alloc));
-    let mut database = InMemory { store: held };
-    let code = run(alloc, words, files, out, &mut database);
-    let InMemory { store: after } = database;
-    *store = after;
-    code
+    run(alloc, words, files, out, shelf)
 }

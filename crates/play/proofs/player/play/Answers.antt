@@ -1,4 +1,4 @@
-use Rattle.std.proofs.Common.{◌≤◌, ◌+◌, ℕ, List, ◌∷◌, drop, map, length, ap, arith}
+use Rattle.std.proofs.Common.{◌≤◌, ◌+◌, ℕ, List, ◌∷◌, drop, map, length, refl, ap, ◌∙◌, arith}
 use Rattle.pgproto.specs.Line.{Line, line_of}
 use Rattle.play.proofs.Asking.{whatever}
 use Rattle.play.proofs.ScriptLemmas.{drop_here, drop_none}
@@ -11,6 +11,8 @@ loop-line-init g c = record {
   grammar = c.requires.grammar;
   played = c.requires.played;
   fits = c.requires.fits;
+  copies = refl;
+  ready = c.requires.ready;
   later = omega arith;
 }
 
@@ -48,6 +50,8 @@ loop-line-preserved g c =
       grammar = (here_of_grammar (map line_of (drop i script)) (line_of c.line-item.result) (map line_of (drop (i + 1) script)) here c.loop-line.invariant.grammar).1;
       played = (here_played (map line_of (drop i script)) (line_of c.line-item.result) (map line_of (drop (i + 1) script)) here c.loop-line.invariant.played).1;
       fits = c.in_ok-online.ensures.fits;
+      copies = c.in_ok-online.ensures.copies ∙ c.loop-line.invariant.copies;
+      ready = c.in_ok-online.ensures.ready;
       later = (let a : g.O.Sink.fault_count c.args.out.now ≤ g.O.Sink.fault_count c.loop-line.out = c.loop-line.invariant.later in let b : g.O.Sink.fault_count c.loop-line.out ≤ g.O.Sink.fault_count c.play_line.new.out = c.play_line.ensures.later in omega arith);
     }
 

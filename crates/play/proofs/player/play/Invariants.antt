@@ -1,4 +1,4 @@
-use Rattle.std.proofs.Common.{◌≤◌, drop, map}
+use Rattle.std.proofs.Common.{◌≡◌, ◌≤◌, drop, map}
 use Rattle.std.specs.List.{AllByRecursion}
 use Rattle.pgproto.specs.Line.{line_of}
 use Rattle.pgproto.specs.Spelling.{IsOfGrammar}
@@ -13,5 +13,7 @@ invariant-loop-line g l = record {
   grammar : AllByRecursion IsOfGrammar (map line_of (drop l.line-index l.script));
   played : ArePlayed (map line_of (drop l.line-index l.script));
   fits : RowsFit (g.D.Database.rows l.database);
+  copies : g.D.Database.copies l.database ≡ g.D.Database.copies l.fn.database;
+  ready : g.D.Database.is_ready l.database;
   later : g.O.Sink.fault_count l.fn.out ≤ g.O.Sink.fault_count l.out;
 }

@@ -10,7 +10,7 @@ use Rattle.play.proofs.Effects.{answer_fits, replies_are, rows_fit}
 use Rattle.play.proofs.session.answer_statement.Goals as goal
 
 pub send_answer-requires : goal.send_answer-requires
-send_answer-requires g c = answer_fits (g.S.Database.rows c.args.database.now) c.in-Some.statement c.in_ok-answer.answer c.requires c.in_ok-answer.ensures.answer
+send_answer-requires g c = answer_fits (g.S.Database.rows c.args.database.now) c.in-Some.statement c.in_ok-answer.answer c.requires.fits c.in_ok-answer.ensures.answer
 
 pub send-requires : goal.send-requires
 send-requires g c = ready_fits
@@ -33,4 +33,4 @@ returns-clause-query g c = λ statement spelled.
     )
 
 pub returns-clause-kept : goal.returns-clause-kept
-returns-clause-kept g c = subst RowsFit (sym c.in_ok-answer.ensures.rows) (rows_fit (g.S.Database.rows c.args.database.now) c.in-Some.statement c.args.text.now c.in-Some.ensures.found c.requires)
+returns-clause-kept g c = subst RowsFit (sym c.in_ok-answer.ensures.rows) (rows_fit (g.S.Database.rows c.args.database.now) c.in-Some.statement c.args.text.now c.in-Some.ensures.found c.requires.fits)

@@ -8,5 +8,7 @@ returns g c = record {
       let never : None ≡ Some text = c.in-None.ensures ∙ ap query_in (c.in_ok-read.ensures.exact ∙ holds) in
       absurd (cc);
   terminate = λ holds. (refl, refl);
-  kept = c.requires;
+  kept = c.requires.fits;
+  copies = refl;
+  ready = c.requires.ready;
 }

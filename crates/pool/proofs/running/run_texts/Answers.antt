@@ -1,4 +1,4 @@
-use Rattle.std.proofs.Common.{refl}
+use Rattle.std.proofs.Common.{refl, map}
 use Rattle.pool.specs.Scripts.{bad_line, script_too_long, without}
 use Rattle.pool.specs.Ends.{refused, unbuilt}
 use Rattle.pool.proofs.Ending.{said_unbuilt, said_script_refused}
@@ -9,22 +9,22 @@ pub returns-in-Err-TooLong : goal.returns-in-Err-TooLong
 returns-in-Err-TooLong g c =
     let taken = g.O.Sink.taken in
     let count = g.O.Sink.fault_count in
-    let rows = g.D.Database.rows c.args.database.now in
+    let stores = map g.B.Backend.meaning c.args.shelf.now.items in
     refused script_too_long (too_long_at c.args.command.now c.args.texts.now.script c.in-Err-TooLong.field-0 c.in-Err-TooLong.field-0-is c.in-Err-TooLong.ensures) refl
-    (said_script_refused c.say.result script_too_long (taken c.args.out.now) (taken c.say.new.out) (count c.args.out.now) (count c.say.new.out) rows rows c.say.ensures)
+    (said_script_refused c.say.result script_too_long (taken c.args.out.now) (taken c.say.new.out) (count c.args.out.now) (count c.say.new.out) stores stores c.say.ensures)
 
 pub returns-in-Err-BadLine : goal.returns-in-Err-BadLine
 returns-in-Err-BadLine g c =
     refused (bad_line c.in-Err-BadLine.number) (bad_line_at c.args.command.now c.args.texts.now.script c.in-Err-BadLine.field-0 c.in-Err-BadLine.number c.in-Err-BadLine.field-0-is c.in-Err-BadLine.ensures) refl
-    (c.refuse_line.ensures (g.D.Database.rows c.args.database.now))
+    (c.refuse_line.ensures (map g.B.Backend.meaning c.args.shelf.now.items))
 
 pub returns-in-Ok-None : goal.returns-in-Ok-None
 returns-in-Ok-None g c =
     let taken = g.O.Sink.taken in
     let count = g.O.Sink.fault_count in
-    let rows = g.D.Database.rows c.args.database.now in
+    let stores = map g.B.Backend.meaning c.args.shelf.now.items in
     let command = c.args.command.now in
     let script = c.args.texts.now.script in
     let has_none = none_at command script c.in-Ok-None.field-0 c.in-Ok-None.field-0-is c.in-Ok-None.ensures in
     unbuilt (without has_none) (none_without command c.args.config.now c.args.texts.now.schema script has_none)
-    (said_unbuilt c.say-in-Ok-None.result (taken c.args.out.now) (taken c.say-in-Ok-None.new.out) (count c.args.out.now) (count c.say-in-Ok-None.new.out) rows rows c.say-in-Ok-None.ensures)
+    (said_unbuilt c.say-in-Ok-None.result (taken c.args.out.now) (taken c.say-in-Ok-None.new.out) (count c.args.out.now) (count c.say-in-Ok-None.new.out) stores stores c.say-in-Ok-None.ensures)
