@@ -1,3 +1,6 @@
+ghost use Rattle.std.specs.Prelude.{◌≡◌, ◌≤◌, All, length, true};
+ghost use Rattle.backend_trait.specs.Store.{blank};
+
 use crate::shelf::put;
 use crate::top::pool_run;
 use backend_trait::{Backend, Row};
@@ -64,15 +67,32 @@ struct Ran {
 fn run_over_three(
     alloc: Global,
     words: &[&str],
-    mut files: MemoryFiles,
+    files: MemoryFiles,
     sink_fails: &[u64],
 ) -> Result<Ran, NoMemory> {
-    let mut out = MemorySink::new(alloc, List::from_slice(alloc, sink_fails)?);
     let mut shelf: Vec<Box<dyn Backend>> = Vec::new(alloc);
     put(&mut shelf, Box::new(alloc, MemoryStore::new(alloc)?)?)?;
     put(&mut shelf, Box::new(alloc, MemoryStore::new(alloc)?)?)?;
     put(&mut shelf, Box::new(alloc, MemoryStore::new(alloc)?)?)?;
-    let code = pool_run(alloc, words, &mut files, &mut out, &mut shelf);
+    run_over(alloc, words, files, sink_fails, &mut shelf)
+}
+
+/// Runs the words over files and a shelf.
+fn run_over(
+    alloc: Global,
+    words: &[&str],
+    mut files: MemoryFiles,
+    sink_fails: &[u64],
+    shelf: &mut Vec<Box<dyn Backend>>,
+) -> Result<Ran, NoMemory>
+    requires enough { 3 ≤ length shelf.old.items }
+    requires blank_each { All (λ x. meaning x ≡ blank) shelf.old.items }
+    requires honest { All (λ x. is_honest x ≡ true) shelf.old.items }
+    requires prompt { All (λ x. is_prompt x ≡ true) shelf.old.items }
+    requires steady { All (λ x. is_steady x ≡ true) shelf.old.items }
+{
+    let mut out = MemorySink::new(alloc, List::from_slice(alloc, sink_fails)?);
+    let code = pool_run(alloc, words, &mut files, &mut out, shelf);
     let output = List::from_slice(alloc, out.taken_bytes())?;
     let each_has_the_row = have_the_row(alloc, shelf.as_slice())?;
     Ok(Ran {
