@@ -36,60 +36,94 @@ fn text(alloc: Global, given: &str) -> Result<Text, NoMemory> {
     Text::from_str(alloc, given)
 }
 
-/// Expressions of each form, no two of which say the same.
-fn forms(alloc: Global) -> Result<List<Expr>, NoMemory> {
-    let mut made = List::new(alloc);
+fn logic(alloc: Global, made: &mut List<Expr>) -> Result<(), NoMemory> {
     made.push(Expr::Or(numbers(alloc, &[1, 2])?))?;
     made.push(Expr::Or(numbers(alloc, &[2, 1])?))?;
     made.push(Expr::And(numbers(alloc, &[1, 2])?))?;
     made.push(Expr::And(numbers(alloc, &[1, 2, 2])?))?;
-    made.push(Expr::Not(boxed(alloc, 1)?))?;
-    made.push(Expr::IsNull {
+    made.push(Expr::Not(boxed(alloc, 1)?))
+}
+
+fn null_test(alloc: Global, tests: &[bool]) -> Result<Expr, NoMemory> {
+    Ok(Expr::IsNull {
         of: boxed(alloc, 1)?,
-        tests: List::from_slice(alloc, &[true, false])?,
-    })?;
-    made.push(Expr::IsNull {
+        tests: List::from_slice(alloc, tests)?,
+    })
+}
+
+fn comparison(alloc: Global, how: Comparison, left: i64, right: i64) -> Result<Expr, NoMemory> {
+    Ok(Expr::Compare(how, boxed(alloc, left)?, boxed(alloc, right)?))
+}
+
+fn member(alloc: Global, negated: bool) -> Result<Expr, NoMemory> {
+    Ok(Expr::Member {
         of: boxed(alloc, 1)?,
-        tests: List::from_slice(alloc, &[false, true])?,
-    })?;
-    made.push(Expr::Compare(Comparison::Less, boxed(alloc, 1)?, boxed(alloc, 2)?))?;
-    made.push(Expr::Compare(Comparison::Less, boxed(alloc, 2)?, boxed(alloc, 1)?))?;
-    made.push(Expr::Compare(Comparison::AtMost, boxed(alloc, 1)?, boxed(alloc, 2)?))?;
-    made.push(Expr::Member {
-        of: boxed(alloc, 1)?,
-        negated: false,
+        negated,
         list: numbers(alloc, &[2])?,
-    })?;
-    made.push(Expr::Member {
-        of: boxed(alloc, 1)?,
-        negated: true,
-        list: numbers(alloc, &[2])?,
-    })?;
+    })
+}
+
+fn tests_of_values(alloc: Global, made: &mut List<Expr>) -> Result<(), NoMemory> {
+    made.push(null_test(alloc, &[true, false])?)?;
+    made.push(null_test(alloc, &[false, true])?)?;
+    made.push(comparison(alloc, Comparison::Less, 1, 2)?)?;
+    made.push(comparison(alloc, Comparison::Less, 2, 1)?)?;
+    made.push(comparison(alloc, Comparison::AtMost, 1, 2)?)?;
+    made.push(member(alloc, false)?)?;
+    made.push(member(alloc, true)?)
+}
+
+fn sum(alloc: Global, minus: bool) -> Result<Expr, NoMemory> {
+    Ok(Expr::Sum(boxed(alloc, 1)?, summands(alloc, minus)?))
+}
+
+fn product(alloc: Global, sign: ProductSign) -> Result<Expr, NoMemory> {
+    Ok(Expr::Product(boxed(alloc, 1)?, factors(alloc, sign)?))
+}
+
+fn arithmetic(alloc: Global, made: &mut List<Expr>) -> Result<(), NoMemory> {
     made.push(Expr::Concat(numbers(alloc, &[1, 2])?))?;
-    made.push(Expr::Sum(boxed(alloc, 1)?, summands(alloc, false)?))?;
-    made.push(Expr::Sum(boxed(alloc, 1)?, summands(alloc, true)?))?;
-    made.push(Expr::Product(boxed(alloc, 1)?, factors(alloc, ProductSign::Over)?))?;
-    made.push(Expr::Product(boxed(alloc, 1)?, factors(alloc, ProductSign::Rest)?))?;
-    made.push(Expr::Minus(boxed(alloc, 1)?))?;
+    made.push(sum(alloc, false)?)?;
+    made.push(sum(alloc, true)?)?;
+    made.push(product(alloc, ProductSign::Over)?)?;
+    made.push(product(alloc, ProductSign::Rest)?)?;
+    made.push(Expr::Minus(boxed(alloc, 1)?))
+}
+
+fn constants(alloc: Global, made: &mut List<Expr>) -> Result<(), NoMemory> {
     made.push(Expr::Int(1))?;
     made.push(Expr::Int(-9223372036854775808))?;
     made.push(Expr::Str(text(alloc, "1")?))?;
     made.push(Expr::Moment(text(alloc, "1")?))?;
     made.push(Expr::Bool(true))?;
     made.push(Expr::Bool(false))?;
-    made.push(Expr::Null)?;
+    made.push(Expr::Null)
+}
+
+fn column(alloc: Global, qualifier: Option<Text>) -> Result<Expr, NoMemory> {
+    Ok(Expr::Column {
+        qualifier,
+        name: text(alloc, "v")?,
+    })
+}
+
+fn names(alloc: Global, made: &mut List<Expr>) -> Result<(), NoMemory> {
     made.push(Expr::Param(1))?;
-    made.push(Expr::Column {
-        qualifier: None,
-        name: text(alloc, "v")?,
-    })?;
-    made.push(Expr::Column {
-        qualifier: Some(text(alloc, "t")?),
-        name: text(alloc, "v")?,
-    })?;
+    made.push(column(alloc, None)?)?;
+    made.push(column(alloc, Some(text(alloc, "t")?))?)?;
     made.push(Expr::CurrentTimestamp)?;
     made.push(Expr::Now)?;
-    made.push(Expr::TransactionTimestamp)?;
+    made.push(Expr::TransactionTimestamp)
+}
+
+/// Expressions of each form, no two of which say the same.
+fn forms(alloc: Global) -> Result<List<Expr>, NoMemory> {
+    let mut made = List::new(alloc);
+    logic(alloc, &mut made)?;
+    tests_of_values(alloc, &mut made)?;
+    arithmetic(alloc, &mut made)?;
+    constants(alloc, &mut made)?;
+    names(alloc, &mut made)?;
     Ok(made)
 }
 
@@ -171,29 +205,41 @@ fn delete(alloc: Global, filter: Option<Expr>) -> Result<Statement, NoMemory> {
     }))
 }
 
-/// Statements of each form, no two of which say the same.
-fn statements(alloc: Global) -> Result<List<Statement>, NoMemory> {
-    let mut made = List::new(alloc);
+fn selects(alloc: Global, made: &mut List<Statement>) -> Result<(), NoMemory> {
     made.push(select(alloc, None, false)?)?;
     made.push(select(alloc, None, true)?)?;
     made.push(select(alloc, Some(Expr::Int(1)), false)?)?;
     made.push(select(alloc, Some(Expr::Null), false)?)?;
     made.push(all_of(alloc, SelectList::Star, false)?)?;
     made.push(all_of(alloc, SelectList::Star, true)?)?;
-    made.push(all_of(alloc, SelectList::Count, false)?)?;
+    made.push(all_of(alloc, SelectList::Count, false)?)
+}
+
+fn writes(alloc: Global, made: &mut List<Statement>) -> Result<(), NoMemory> {
     made.push(insert(alloc, true, Cell::Fill)?)?;
     made.push(insert(alloc, false, Cell::Fill)?)?;
     made.push(insert(alloc, true, Cell::Given(Expr::Null))?)?;
     made.push(update(alloc, 1)?)?;
     made.push(update(alloc, 2)?)?;
     made.push(delete(alloc, None)?)?;
-    made.push(delete(alloc, Some(Expr::Bool(false)))?)?;
+    made.push(delete(alloc, Some(Expr::Bool(false)))?)
+}
+
+fn commands(made: &mut List<Statement>) -> Result<(), NoMemory> {
     made.push(Statement::Begin)?;
     made.push(Statement::Commit)?;
     made.push(Statement::Rollback)?;
     made.push(Statement::ShowNodes)?;
     made.push(Statement::Recover(0))?;
-    made.push(Statement::Recover(255))?;
+    made.push(Statement::Recover(255))
+}
+
+/// Statements of each form, no two of which say the same.
+fn statements(alloc: Global) -> Result<List<Statement>, NoMemory> {
+    let mut made = List::new(alloc);
+    selects(alloc, &mut made)?;
+    writes(alloc, &mut made)?;
+    commands(&mut made)?;
     Ok(made)
 }
 
