@@ -7,4 +7,3 @@ pub mod StoreLaws
 pub mod ActLaws
 pub mod RowLaws
 pub mod NewLaws
-pub mod TableLaws

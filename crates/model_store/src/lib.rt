@@ -11,14 +11,9 @@ mod room;
 mod rows;
 mod seat;
 mod serving;
-mod single;
 mod store;
 mod transaction;
 mod verdict;
 mod waiting;
 
-pub use single::SingleStore;
 pub use store::MemoryStore;
-
-#[cfg(test)]
-mod tests;
