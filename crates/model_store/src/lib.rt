@@ -1,9 +1,11 @@
 //! A database in memory: a log of committed change sets, and a seat for each session.
 #![tactic(auto)]
 
+mod asking;
 mod backend;
 mod change;
 mod conflict;
+mod cycle;
 mod grant;
 mod log;
 mod phase;
