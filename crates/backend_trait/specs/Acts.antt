@@ -14,8 +14,8 @@ use Rattle.backend_trait.specs.declared.answer.Polled.{Polled}
 use Rattle.backend_trait.specs.declared.answer.Polled.TheVariants as polls
 use Rattle.backend_trait.specs.Keys.{Place}
 use Rattle.backend_trait.specs.Rows.{with_at}
-use Rattle.backend_trait.specs.Effect.{Wants, Conflicts, Given, Fails, Gives, effect_of, table_in}
-use Rattle.backend_trait.specs.Store.{Live, Pending, Store, WhereLive, view_of, held_by, table_lock, acted, lost_by, line_of, line_acted}
+use Rattle.backend_trait.specs.Effect.{Wants, nothing, both_wants, Conflicts, Given, Fails, Gives, effect_of, table_in}
+use Rattle.backend_trait.specs.Store.{Live, Transaction, Absent, Alive, Dead, Pending, Store, WhereLive, view_of, held_by, table_lock, acted, lost_by, line_of, line_acted}
 
 -- a count rose, or stands where it can rise no more
 abbrev pub Rose : ℕ → ℕ → Type 0
@@ -44,15 +44,58 @@ abbrev pub MayGive : Store → ℕ → Live → Answer → Given → Type 0
 MayGive st s t answer (Fails code) = ⊥
 MayGive st s t answer (Gives result changes wants) = (answer ≡ result) × IsFresh wants t × IsFree st s wants
 
--- a refusal: the effect's code, a stale place, a deadlock, or want of memory
-abbrev pub MayRefuse : Bool → Live → ℕ → Code → Given → Type 0
+-- a refusal: the effect's code, a stale place, a deadlock where another has crossed, or want of memory
+abbrev pub MayRefuse : Type 0 → Live → ℕ → Code → Given → Type 0
 MayRefuse crossed t table code (Fails bytes) = (code.bytes ≡ bytes) ⊎ IsOutOfMemory code
 MayRefuse crossed t table code (Gives result changes wants) =
     ((code.bytes ≡ codes "40001") × IsStale wants t)
-    ⊎ (((code.bytes ≡ codes "40P01") × (crossed ≡ true) × (t.held.tables table ≡ false)) ⊎ IsOutOfMemory code)
+    ⊎ (((code.bytes ≡ codes "40P01") × crossed × (t.held.tables table ≡ false)) ⊎ IsOutOfMemory code)
 
 abbrev pub given_of : Store → Checked → Live → Given
 given_of st checked t = (effect_of checked (view_of t) (st.next (table_in checked))).given
+
+-- what a session's request asks for: what its result wants, or the lock of its table
+abbrev pub wants_in : Given → Wants
+wants_in (Fails code) = nothing
+wants_in (Gives result changes wants) = wants
+
+abbrev pub wants_of_run : Store → Checked → Transaction → Wants
+wants_of_run st checked Absent = nothing
+wants_of_run st checked (Alive t) = wants_in (given_of st checked t)
+wants_of_run st checked Dead = nothing
+
+abbrev pub asked_by : Store → ℕ → Request → Wants
+asked_by st s requests.TakeSnapshot = nothing
+asked_by st s (requests.Run checked) = wants_of_run st checked (st.transaction s)
+asked_by st s (requests.Lock table) = table_lock table
+asked_by st s requests.Commit = nothing
+asked_by st s requests.Rollback = nothing
+asked_by st s (requests.ReadSerial table) = nothing
+asked_by st s (requests.SetSerial table n) = nothing
+
+-- whether the session has the lock of the table that its request is for
+abbrev pub has_lock : Store → ℕ → Request → Bool
+has_lock st s requests.TakeSnapshot = false
+has_lock st s (requests.Run checked) = (held_by (st.transaction s)).tables (table_in checked)
+has_lock st s (requests.Lock table) = (held_by (st.transaction s)).tables table
+has_lock st s requests.Commit = false
+has_lock st s requests.Rollback = false
+has_lock st s (requests.ReadSerial table) = false
+has_lock st s (requests.SetSerial table n) = false
+
+-- another session crosses the request: it has not the lock that its own is for, and asks for what
+-- conflicts with what this one holds or asks for
+pub record Crosses (st : Store) (s : ℕ) (request : Request) : Type 0 where
+  pub other : ℕ
+  pub another : other ≢ s
+  pub its : Pending
+  pub waits : st.pending other ≡ Some its
+  pub unlocked : has_lock st other its.request ≡ false
+  pub conflict : Conflicts (asked_by st other its.request) (both_wants (asked_by st s request) (held_by (st.transaction s)))
+
+-- one has crossed it since its post, or crosses it now
+abbrev pub IsCrossed : Store → ℕ → Pending → Type 0
+IsCrossed st s p = (p.crossed ≡ true) ⊎ Crosses st s p.request
 
 abbrev pub MaySnapshot : Answer → Type 0
 MaySnapshot answers.Began = Unit {0}
@@ -63,7 +106,7 @@ MaySnapshot answers.Done = ⊥
 MaySnapshot (answers.Serial n) = ⊥
 MaySnapshot (answers.Refused code) = IsOutOfMemory code
 
-abbrev pub MayRun : Store → ℕ → Bool → Checked → Answer → Type 0
+abbrev pub MayRun : Store → ℕ → Type 0 → Checked → Answer → Type 0
 MayRun st s crossed checked answers.Began = ⊥
 MayRun st s crossed checked (answers.Rows rows) = WhereLive (st.transaction s) (λ t. MayGive st s t (answers.Rows rows) (given_of st checked t))
 MayRun st s crossed checked (answers.Count n) = WhereLive (st.transaction s) (λ t. MayGive st s t (answers.Count n) (given_of st checked t))
@@ -72,14 +115,14 @@ MayRun st s crossed checked answers.Done = ⊥
 MayRun st s crossed checked (answers.Serial n) = ⊥
 MayRun st s crossed checked (answers.Refused code) = WhereLive (st.transaction s) (λ t. MayRefuse crossed t (table_in checked) code (given_of st checked t))
 
-abbrev pub MayLock : Store → ℕ → Bool → ℕ → Answer → Type 0
+abbrev pub MayLock : Store → ℕ → Type 0 → ℕ → Answer → Type 0
 MayLock st s crossed table answers.Began = ⊥
 MayLock st s crossed table (answers.Rows rows) = ⊥
 MayLock st s crossed table (answers.Count n) = ⊥
 MayLock st s crossed table answers.Locked = WhereLive (st.transaction s) (λ t. IsFree st s (table_lock table))
 MayLock st s crossed table answers.Done = ⊥
 MayLock st s crossed table (answers.Serial n) = ⊥
-MayLock st s crossed table (answers.Refused code) = (code.bytes ≡ codes "40P01") × (crossed ≡ true)
+MayLock st s crossed table (answers.Refused code) = (code.bytes ≡ codes "40P01") × crossed
 
 abbrev pub IsDone : Answer → Type 0
 IsDone answer = answer ≡ answers.Done
@@ -88,8 +131,8 @@ IsDone answer = answer ≡ answers.Done
 abbrev pub MayAnswer : Store → ℕ → Pending → Answer → Type 0
 MayAnswer st s p answer = elim p.request [
   | requests.TakeSnapshot ↦ MaySnapshot answer
-  | requests.Run checked ↦ MayRun st s p.crossed checked answer
-  | requests.Lock table ↦ MayLock st s p.crossed table answer
+  | requests.Run checked ↦ MayRun st s (IsCrossed st s p) checked answer
+  | requests.Lock table ↦ MayLock st s (IsCrossed st s p) table answer
   | requests.Commit ↦ WhereLive (st.transaction s) (λ t. IsDone answer)
   | requests.Rollback ↦ IsDone answer
   | requests.ReadSerial table ↦ (n : ℤ) × (st.next table ≡ Some n) × (answer ≡ answers.Serial n)
@@ -129,7 +172,48 @@ abbrev pub WhereSome : {A : Type 0} → Option A → (A → Type 0) → Type 0
 WhereSome None P = ⊥
 WhereSome (Some x) P = P x
 
--- a prompt backend waits only where it must, and refuses for no want of memory
+-- the session's pending request waits for another session: it has no code, nothing that it wants is
+-- stale, and the other holds what conflicts
+abbrev pub WaitsInRun : Wants → Live → Given → Type 0
+WaitsInRun held t (Fails code) = ⊥
+WaitsInRun held t (Gives result changes wants) = IsFresh wants t × Conflicts wants held
+
+abbrev pub WaitsIn : Store → ℕ → Wants → Request → Type 0
+WaitsIn st s held requests.TakeSnapshot = ⊥
+WaitsIn st s held (requests.Run checked) = WhereLive (st.transaction s) (λ t. WaitsInRun held t (given_of st checked t))
+WaitsIn st s held (requests.Lock table) = WhereLive (st.transaction s) (λ t. Conflicts (table_lock table) held)
+WaitsIn st s held requests.Commit = ⊥
+WaitsIn st s held requests.Rollback = ⊥
+WaitsIn st s held (requests.ReadSerial table) = ⊥
+WaitsIn st s held (requests.SetSerial table n) = ⊥
+
+abbrev pub WaitsFor : Store → ℕ → ℕ → Type 0
+WaitsFor st s o = (o ≢ s) × WhereSome (st.pending s) (λ p. WaitsIn st s (held_by (st.transaction o)) p.request)
+
+-- each waits for the next, from the first over those between to the last
+abbrev pub IsPath : Store → ℕ → List ℕ → ℕ → Type 0
+IsPath st first [] last = WaitsFor st first last
+IsPath st first (o ∷ between) last = WaitsFor st first o × IsPath st o between last
+
+abbrev pub Leads : Store → ℕ → ℕ → Type 0
+Leads st first last = (between : List ℕ) × IsPath st first between last
+
+-- its waiting closes a cycle of waits
+abbrev pub IsInCycle : Store → ℕ → Type 0
+IsInCycle st s = Leads st s s
+
+abbrev pub IsDeadlock : Answer → Type 0
+IsDeadlock answers.Began = ⊥
+IsDeadlock (answers.Rows rows) = ⊥
+IsDeadlock (answers.Count n) = ⊥
+IsDeadlock answers.Locked = ⊥
+IsDeadlock answers.Done = ⊥
+IsDeadlock (answers.Serial n) = ⊥
+IsDeadlock (answers.Refused code) = code.bytes ≡ codes "40P01"
+
+-- a prompt backend refuses for no want of memory, and tells of a deadlock where waiting would close a
+-- cycle; it waits where the request has to, and closes none. So, of an honest one, the first decides of:
+-- the code, a stale place, a result, a cycle, else it waits
 abbrev pub IsPromptAnswer : Answer → Type 0
 IsPromptAnswer answers.Began = Unit {0}
 IsPromptAnswer (answers.Rows rows) = Unit {0}
@@ -140,8 +224,8 @@ IsPromptAnswer (answers.Serial n) = Unit {0}
 IsPromptAnswer (answers.Refused code) = ¬ (IsOutOfMemory code)
 
 abbrev pub IsPromptly : Store → ℕ → Polled → Type 0
-IsPromptly st s (polls.Answered answer) = IsPromptAnswer answer
-IsPromptly st s polls.NotYet = (st.lost ≡ false) × WhereSome (st.pending s) (λ p. MustWait st s p.request)
+IsPromptly st s (polls.Answered answer) = IsPromptAnswer answer × (IsDeadlock answer → IsInCycle st s)
+IsPromptly st s polls.NotYet = (st.lost ≡ false) × WhereSome (st.pending s) (λ p. MustWait st s p.request) × ¬ (IsInCycle st s)
 IsPromptly st s polls.Lost = Unit {0}
 IsPromptly st s polls.NoMemory = ⊥
 

@@ -7,4 +7,6 @@ pub mod StoreLaws
 pub mod ActLaws
 pub mod RowLaws
 pub mod NewLaws
-pub mod TableLaws
+pub mod CycleLaws
+pub mod ApartLaws
+pub mod WalkLaws

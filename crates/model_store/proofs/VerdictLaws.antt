@@ -29,7 +29,7 @@ use Rattle.model_store.specs.Conflicts.{held_in, IsHeldElsewhere}
 use Rattle.model_store.specs.Verdicts.{MayGo, FitsRun, FitsLock, Fits}
 use Rattle.model_store.proofs.ConflictLaws.{one_and_same, is_itself}
 
-held_same : (log : List ChangeSet) (x : Option Seat) → held_by (transaction_in log x) ≡ held_in x
+pub held_same : (log : List ChangeSet) (x : Option Seat) → held_by (transaction_in log x) ≡ held_in x
 held_same log None = refl
 held_same log (Some seat) = go seat.phase
   where
@@ -44,21 +44,21 @@ taken log seats lost s wants (o, other, conflict) = (o, other, subst (λ (held :
 pub free : (log : List ChangeSet) (seats : List Seat) (lost : Bool) (s : ℕ) (wants : Wants) → ¬ (IsHeldElsewhere seats s wants) → IsFree (store_of log seats lost) s wants
 free log seats lost s wants none o other conflict = none (o, other, subst (λ (held : Wants). Conflicts wants held) (held_same log (slice_get seats o)) conflict)
 
-nothing_conflicts : (held : Wants) → Conflicts nothing held → ⊥
+pub nothing_conflicts : (held : Wants) → Conflicts nothing held → ⊥
 nothing_conflicts held (same_place p a b) = let f : false ≡ true = a in cc
 nothing_conflicts held (same_table t a b) = let f : false ≡ true = a in cc
 nothing_conflicts held (table_left p a b) = let f : false ≡ true = a in cc
 nothing_conflicts held (table_right p a b) = let f : false ≡ true = a in cc
 
-fresh : (log : List ChangeSet) (work : Work) (key : ℤ) → has_changed (drop work.mark log) (place_of key) ≡ false → IsFresh (one_place (place_of key)) (live_of log work)
+pub fresh : (log : List ChangeSet) (work : Work) (key : ℤ) → has_changed (drop work.mark log) (place_of key) ≡ false → IsFresh (one_place (place_of key)) (live_of log work)
 fresh log work key none p e = ap (has_changed (drop work.mark log)) (sym (one_and_same (place_of key) p e)) ∙ none
 
 -- a row that is there, and one that is not
-none_of : (key : ℤ) (o : Option Row) (found : Option ℤ) → o ≡ option_map (row_of key) found → is_some found ≡ false → o ≡ None
+pub none_of : (key : ℤ) (o : Option Row) (found : Option ℤ) → o ≡ option_map (row_of key) found → is_some found ≡ false → o ≡ None
 none_of key o None is e = is
 none_of key o (Some v) is e = absurd (cc)
 
-some_of : (key : ℤ) (o : Option Row) (found : Option ℤ) → o ≡ option_map (row_of key) found → is_some found ≡ true → (row : Row) × (o ≡ Some row)
+pub some_of : (key : ℤ) (o : Option Row) (found : Option ℤ) → o ≡ option_map (row_of key) found → is_some found ≡ true → (row : Row) × (o ≡ Some row)
 some_of key o None is e = absurd (cc)
 some_of key o (Some v) is e = (row_of key v, is)
 
@@ -68,15 +68,21 @@ module _ (log : List ChangeSet) (seats : List Seat) (at : ℕ) (work : Work) (ke
       → FitsRun (store_of log seats false) at (live_of log work) 0 (insert_given key value o) (verdicts.Refused code)
   known_refused o found code is there bytes =
       let row = some_of key o found is there in
-      subst (λ (x : Option Row). FitsRun (store_of log seats false) at (live_of log work) 0 (insert_given key value x) (verdicts.Refused code)) (sym row.1)
-      (inl bytes, λ oom. let t : codes "23505" ≡ codes "53200" = sym bytes ∙ oom in let n : 50 ≡ 53 = ap (λ l. get_or l 0 0) t in absurd (omega arith))
+      subst (λ (x : Option Row). FitsRun (store_of log seats false) at (live_of log work) 0 (insert_given key value x) (verdicts.Refused code)) (sym row.1) (
+        inl bytes,
+        λ oom. let t : codes "23505" ≡ codes "53200" = sym bytes ∙ oom in let n : 50 ≡ 53 = ap (λ l. get_or l 0 0) t in absurd (omega arith),
+        λ cycle. let t : codes "23505" ≡ codes "40P01" = sym bytes ∙ cycle in let n : 50 ≡ 52 = ap (λ l. get_or l 0 0) t in absurd (omega arith),
+      )
 
   -- a stale key is refused
   pub stale_refused : (o : Option Row) (found : Option ℤ) (code : Code) → o ≡ option_map (row_of key) found → is_some found ≡ false → has_changed (drop work.mark log) (place_of key) ≡ true → code.bytes ≡ codes "40001"
       → FitsRun (store_of log seats false) at (live_of log work) 0 (insert_given key value o) (verdicts.Refused code)
   stale_refused o found code is none changed bytes =
-      subst (λ (x : Option Row). FitsRun (store_of log seats false) at (live_of log work) 0 (insert_given key value x) (verdicts.Refused code)) (sym (none_of key o found is none))
-      (inl (bytes, (place_of key, is_itself (place_of key), changed)), λ oom. let t : codes "40001" ≡ codes "53200" = sym bytes ∙ oom in let n : 52 ≡ 53 = ap (λ l. get_or l 0 0) t in absurd (omega arith))
+      subst (λ (x : Option Row). FitsRun (store_of log seats false) at (live_of log work) 0 (insert_given key value x) (verdicts.Refused code)) (sym (none_of key o found is none)) (
+        inl (bytes, (place_of key, is_itself (place_of key), changed)),
+        λ oom. let t : codes "40001" ≡ codes "53200" = sym bytes ∙ oom in let n : 52 ≡ 53 = ap (λ l. get_or l 0 0) t in absurd (omega arith),
+        λ cycle. let t : codes "40001" ≡ codes "40P01" = sym bytes ∙ cycle in let n : 48 ≡ 80 = ap (λ l. get_or l 2 0) t in absurd (omega arith),
+      )
 
   -- a key that another holds is waited for
   pub held_waits : (o : Option Row) (found : Option ℤ) → o ≡ option_map (row_of key) found → is_some found ≡ false → has_changed (drop work.mark log) (place_of key) ≡ false → IsHeldElsewhere seats at (one_place (place_of key))

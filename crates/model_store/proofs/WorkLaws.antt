@@ -83,7 +83,7 @@ with_lock_live log before n below = λ i. record {
 pub with_lock_live_at : (log : List ChangeSet) (before : Work) (at n : ℕ) → at ≡ n → n < length before.locks → live_by log before.mark before.own.changes.items (set before.locks at true) ≡ with_lock n (live_of log before)
 with_lock_live_at log before at n same below = ap (λ j. live_by log before.mark before.own.changes.items (set before.locks j true)) same ∙ with_lock_live log before n below
 
-none_at : (n t : ℕ) → get_or (replicate n false) t false ≡ false
+pub none_at : (n t : ℕ) → get_or (replicate n false) t false ≡ false
 none_at zero t = refl
 none_at (suc n) zero = refl
 none_at (suc n) (suc t) = none_at n t

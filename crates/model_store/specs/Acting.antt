@@ -6,20 +6,20 @@ use Rattle.backend_trait.specs.declared.request.Posted.{Posted}
 use Rattle.backend_trait.specs.declared.request.Posted.TheVariants as posts
 use Rattle.backend_trait.specs.declared.answer.Answer.{Answer}
 use Rattle.backend_trait.specs.Store.{Store, Pending, line_of, line_acted}
-use Rattle.backend_trait.specs.Acts.{Answers, IsPromptAnswer, IsOf}
+use Rattle.backend_trait.specs.Acts.{Answers, IsPromptAnswer, IsDeadlock, IsInCycle, IsOf}
 use Rattle.backend_trait.specs.Rows.{with_at}
 use Rattle.model_store.specs.declared.phase.Phase.{Phase}
 use Rattle.model_store.specs.declared.phase.Phase.TheVariants as phases
 use Rattle.model_store.specs.declared.phase.Waiting.{Waiting}
 use Rattle.model_store.specs.Phases.{is_open, request_of, pending_of}
 
--- an answer that the table of answers allows, in the form of its request, and no want of memory
+-- an answer that the table of answers allows, in the form of its request, and as a prompt store gives it
 pub record IsActed (old : Store) (s : ℕ) (answer : Answer) (new : Store) : Type 0 where
   pub pending : Pending
   pub was : old.pending s ≡ Some pending
   pub answers : Answers old s answer new
   pub form : IsOf pending.request answer
-  pub promptly : IsPromptAnswer answer
+  pub promptly : IsPromptAnswer answer × (IsDeadlock answer → IsInCycle old s)
   pub lines : (o : ℕ) → line_of new o ≡ with_at (line_of old) s (line_acted (line_of old s) pending.request answer) o
 
 abbrev pub is_absent : Phase → Bool
@@ -35,6 +35,16 @@ admits phase requests.Commit = is_open phase
 admits phase requests.Rollback = true
 admits phase (requests.ReadSerial table) = false
 admits phase (requests.SetSerial table n) = false
+
+-- a post of it takes no memory
+abbrev pub takes_none : Request → Bool
+takes_none requests.TakeSnapshot = false
+takes_none (requests.Run checked) = false
+takes_none (requests.Lock table) = true
+takes_none requests.Commit = true
+takes_none requests.Rollback = true
+takes_none (requests.ReadSerial table) = false
+takes_none (requests.SetSerial table n) = false
 
 -- it waits from now on, or it comes back and nothing waits
 abbrev pub WaitsFor : Request → Posted → Option Waiting → Type 0

@@ -17,3 +17,7 @@ held_in (Some seat) = held_by_phase seat.phase
 
 abbrev pub IsHeldElsewhere : List Seat → ℕ → Wants → Type 0
 IsHeldElsewhere seats s wants = (o : ℕ) × (o ≢ s) × Conflicts wants (held_in (slice_get seats o))
+
+-- no two sessions hold what conflicts
+abbrev pub AreApart : List Seat → Type 0
+AreApart seats = (a b : ℕ) → a ≢ b → ¬ (Conflicts (held_in (slice_get seats a)) (held_in (slice_get seats b)))

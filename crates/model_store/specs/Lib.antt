@@ -5,5 +5,3 @@ pub mod Conflicts
 pub mod Verdicts
 pub mod Meaning
 pub mod Acting
-pub mod Table
-pub mod Committed

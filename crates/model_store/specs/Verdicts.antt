@@ -1,10 +1,10 @@
--- What becomes of a request that waits: it is granted, waits on, or is refused.
-use Rattle.std.specs.Prelude.{◌≡◌, ℕ, false}
+-- What becomes of a request that is pending: it is granted, waits on, or is refused.
+use Rattle.std.specs.Prelude.{◌≡◌, ◌⊎◌, ℕ, codes}
 use Rattle.backend_trait.specs.declared.request.Request.{Request}
 use Rattle.backend_trait.specs.declared.request.Request.TheVariants as requests
 use Rattle.backend_trait.specs.Effect.{Given, Fails, Gives, table_in}
 use Rattle.backend_trait.specs.Store.{Store, Live, WhereLive, table_lock}
-use Rattle.backend_trait.specs.Acts.{IsFree, IsTaken, IsFresh, MayRefuse, IsOutOfMemory, MustWaitRun, given_of}
+use Rattle.backend_trait.specs.Acts.{IsFree, IsTaken, IsFresh, MayRefuse, IsOutOfMemory, MustWaitRun, IsInCycle, given_of}
 use Rattle.model_store.specs.declared.verdict.Verdict.{Verdict}
 use Rattle.model_store.specs.declared.verdict.Verdict.TheVariants as verdicts
 
@@ -16,7 +16,7 @@ MayGo st s t (Gives result changes wants) = IsFresh wants t × IsFree st s wants
 abbrev pub FitsRun : Store → ℕ → Live → ℕ → Given → Verdict → Type 0
 FitsRun st s t table given verdicts.Goes = MayGo st s t given
 FitsRun st s t table given verdicts.Waits = MustWaitRun st s t given
-FitsRun st s t table given (verdicts.Refused code) = MayRefuse false t table code given × ¬ (IsOutOfMemory code)
+FitsRun st s t table given (verdicts.Refused code) = MayRefuse ⊥ t table code given × ¬ (IsOutOfMemory code) × ¬ (code.bytes ≡ codes "40P01")
 
 abbrev pub FitsLock : Store → ℕ → ℕ → Verdict → Type 0
 FitsLock st s table verdicts.Goes = IsFree st s (table_lock table)
@@ -35,3 +35,10 @@ Fits st s requests.Commit verdict = Goes verdict
 Fits st s requests.Rollback verdict = Goes verdict
 Fits st s (requests.ReadSerial table) verdict = ⊥
 Fits st s (requests.SetSerial table n) verdict = ⊥
+
+-- where another holds what it wants it is refused if its waiting closes a cycle of waits, and waits else
+abbrev pub IsDecided : Store → ℕ → Request → Verdict → Type 0
+IsDecided st s request verdicts.Goes = Fits st s request verdicts.Goes
+IsDecided st s request verdicts.Waits = Fits st s request verdicts.Waits × ¬ (IsInCycle st s)
+IsDecided st s request (verdicts.Refused code) =
+    Fits st s request (verdicts.Refused code) ⊎ ((code.bytes ≡ codes "40P01") × Fits st s request verdicts.Waits × IsInCycle st s)

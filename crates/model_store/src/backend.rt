@@ -4,7 +4,7 @@ ghost use Rattle.model_store.specs.Meaning.{meaning as meaning_of};
 
 use crate::rows::rows_of;
 use crate::store::MemoryStore;
-use crate::verdict::{Verdict, verdict_on};
+use crate::verdict::{Verdict, decide};
 use crate::waiting::{has_room, wait};
 use backend_trait::{Answer, Backend, Polled, Posted, Request, Row};
 use pool_base::{List, NoMemory, SessionId};
@@ -35,7 +35,7 @@ impl Backend for MemoryStore {
             return Polled::Lost;
         }
         let at = s.number as usize;
-        match verdict_on(self.log.as_slice(), self.seats.as_slice(), at) {
+        match decide(self.log.as_slice(), self.seats.as_slice(), at) {
             Verdict::Waits => Polled::NotYet,
             Verdict::Refused(code) => {
                 self.refused(at, code);

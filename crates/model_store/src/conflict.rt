@@ -52,7 +52,7 @@ fn holds(phase: &Phase, wanted: Wanted) -> bool
 }
 
 /// Whether that seat is another one and holds what conflicts.
-fn holds_other(seats: &[Seat], at: usize, other: usize, wanted: Wanted) -> bool
+pub(crate) fn holds_other(seats: &[Seat], at: usize, other: usize, wanted: Wanted) -> bool
     requires { other < length seats.now }
     ensures { IsTrue result ↔ ((other ≢ at)
         × Conflicts (wants_of wanted) (held_in (slice_get seats.now other))) }

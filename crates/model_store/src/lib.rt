@@ -1,9 +1,11 @@
 //! A database in memory: a log of committed change sets, and a seat for each session.
 #![tactic(auto)]
 
+mod asking;
 mod backend;
 mod change;
 mod conflict;
+mod cycle;
 mod grant;
 mod log;
 mod phase;
@@ -11,14 +13,9 @@ mod room;
 mod rows;
 mod seat;
 mod serving;
-mod single;
 mod store;
 mod transaction;
 mod verdict;
 mod waiting;
 
-pub use single::SingleStore;
 pub use store::MemoryStore;
-
-#[cfg(test)]
-mod tests;

@@ -12,7 +12,7 @@ impl MemoryStore {
     ghost use Rattle.backend_trait.specs.Acts.{WhereSome};
     ghost use Rattle.model_store.specs.declared.verdict.Verdict.TheVariants as verdicts;
     ghost use Rattle.model_store.specs.Seats.{store_of, pending_in};
-    ghost use Rattle.model_store.specs.Verdicts.{Fits};
+    ghost use Rattle.model_store.specs.Verdicts.{IsDecided};
     ghost use Rattle.model_store.specs.Acting.{IsActed};
     ghost use Rattle.model_store.specs.Meaning.{meaning};
 
@@ -20,7 +20,7 @@ impl MemoryStore {
     pub(crate) fn granted(&mut self, at: usize) -> Answer
         requires below { at < 65 }
         requires goes { WhereSome (pending_in (slice_get self.old.seats.items at))
-            (λ p. Fits (store_of self.old.log.items self.old.seats.items false) at p.request
+            (λ p. IsDecided (store_of self.old.log.items self.old.seats.items false) at p.request
             verdicts.Goes) }
         requires not_lost { self.old.is_lost ≡ false }
         ensures acted { IsActed (meaning self.old) at result (meaning self.new) }
@@ -34,7 +34,7 @@ impl MemoryStore {
     pub(crate) fn refused(&mut self, at: usize, code: Code)
         requires below { at < 65 }
         requires refused { WhereSome (pending_in (slice_get self.old.seats.items at))
-            (λ p. Fits (store_of self.old.log.items self.old.seats.items false) at p.request
+            (λ p. IsDecided (store_of self.old.log.items self.old.seats.items false) at p.request
             (verdicts.Refused code)) }
         requires not_lost { self.old.is_lost ≡ false }
         ensures acted { IsActed (meaning self.old) at (answers.Refused code) (meaning self.new) }

@@ -1,6 +1,7 @@
 //! The store.
 ghost use Rattle.std.specs.Prelude.{◌≡◌, ◌≤◌, ◌+◌, ℕ, length, slice_get, vec_len, vec_capacity};
 ghost use Rattle.model_store.specs.Seats.{mark_in, all_owed};
+ghost use Rattle.model_store.specs.Conflicts.{AreApart};
 
 use crate::change::ChangeSet;
 use crate::phase::Phase;
@@ -20,6 +21,7 @@ pub struct MemoryStore {
     pub(crate) is_lost: bool,
     pub(crate) faults: u64,
     ghost all_seated: { length seats.items ≡ 65 },
+    ghost apart: { AreApart seats.items },
     // What was committed at a snapshot stays at the log's front.
     ghost marked: { (s : ℕ) → mark_in (slice_get seats.items s) ≤ length log.items },
     // Each live transaction has room for its set.

@@ -1,5 +1,5 @@
 //! What becomes of a request that waits.
-ghost use Rattle.std.specs.Prelude.{◌≡◌, ◌<◌, ◌≤◌, List as Sequence, false, IsSome, length, slice_get, codes};
+ghost use Rattle.std.specs.Prelude.{◌≡◌, ◌<◌, ◌≤◌, ℕ, List as Sequence, false, IsSome, length, slice_get, codes};
 ghost use Rattle.std.specs.FinMap.{get};
 ghost use Rattle.backend_trait.specs.Effect.{place_of, insert_given};
 ghost use Rattle.backend_trait.specs.Store.{view_of};
@@ -7,10 +7,11 @@ ghost use Rattle.backend_trait.specs.Acts.{WhereSome};
 ghost use Rattle.model_store.specs.Phases.{live_of, pending_of};
 ghost use Rattle.model_store.specs.declared.change.ChangeSet.{ChangeSet};
 ghost use Rattle.model_store.specs.Seats.{store_of, pending_in, mark_in};
-ghost use Rattle.model_store.specs.Verdicts.{Fits, FitsLock, FitsRun};
+ghost use Rattle.model_store.specs.Verdicts.{Fits, FitsLock, FitsRun, IsDecided};
 
 use crate::change::{Change, ChangeSet};
 use crate::conflict::{Wanted, is_taken};
+use crate::cycle::is_in_cycle;
 use crate::log::has_changed;
 use crate::phase::{Phase, Waiting, Work};
 use crate::seat::Seat;
@@ -40,6 +41,12 @@ fn changed_meanwhile() -> Code
     Code { bytes: *b"40001" }
 }
 
+fn deadlock() -> Code
+    ensures { result.bytes ≡ codes "40P01" }
+{
+    Code { bytes: *b"40P01" }
+}
+
 /// What becomes of an insertion: a second row of a key is refused, and then a key that another
 /// transaction has changed since the snapshot; a key that another holds is waited for.
 pub(crate) fn verdict_on_insert(
@@ -66,8 +73,31 @@ pub(crate) fn verdict_on_insert(
     Verdict::Goes
 }
 
-/// What becomes of the request that waits in a seat.
-pub(crate) fn verdict_on(log: &[ChangeSet], seats: &[Seat], at: usize) -> Verdict
+/// What becomes of the request of a seat: one that another session holds up is refused where its
+/// waiting closes a cycle of waits.
+pub(crate) fn decide(log: &[ChangeSet], seats: &[Seat], at: usize) -> Verdict
+    requires all_seated { length seats.now ≡ 65 }
+    requires below { at < 65 }
+    requires pending { IsSome (pending_in (slice_get seats.now at)) }
+    requires marked { (o : ℕ) → mark_in (slice_get seats.now o) ≤ length log.now }
+    ensures { WhereSome (pending_in (slice_get seats.now at))
+        (λ p. IsDecided (store_of log.now seats.now false) at p.request result) }
+{
+    match verdict_on(log, seats, at) {
+        Verdict::Goes => Verdict::Goes,
+        Verdict::Refused(code) => Verdict::Refused(code),
+        Verdict::Waits => {
+            if is_in_cycle(log, seats, at) {
+                return Verdict::Refused(deadlock());
+            }
+            Verdict::Waits
+        }
+    }
+}
+
+/// What becomes of the request of a seat for its own sake: where another session holds what it
+/// wants, it waits.
+fn verdict_on(log: &[ChangeSet], seats: &[Seat], at: usize) -> Verdict
     requires below { at < length seats.now }
     requires pending { IsSome (pending_in (slice_get seats.now at)) }
     requires marked { mark_in (slice_get seats.now at) ≤ length log.now }

@@ -4,7 +4,7 @@ ghost use Rattle.backend_trait.specs.declared.request.Request.TheVariants as req
 ghost use Rattle.model_store.specs.declared.change.ChangeSet.{ChangeSet};
 ghost use Rattle.backend_trait.specs.declared.request.Posted.TheVariants as posts;
 ghost use Rattle.model_store.specs.Phases.{transaction_of, mark_of, is_open, used_in, room_in, room_wanted, fits};
-ghost use Rattle.model_store.specs.Acting.{admits, WaitsFor};
+ghost use Rattle.model_store.specs.Acting.{admits, takes_none, WaitsFor};
 
 use crate::change::{Change, ChangeSet};
 use crate::phase::{Phase, Waiting};
@@ -23,6 +23,7 @@ pub(crate) fn has_room(log: &mut Vec<ChangeSet>, request: &Request) -> bool
     ensures capacity { vec_capacity log.old ≤ vec_capacity log.new }
     ensures room { IsTrue result → request.now ≡ requests.TakeSnapshot
         → vec_len log.new + 65 ≤ vec_capacity log.new }
+    ensures sure { takes_none request.now ≡ true → IsTrue result }
 {
     match request {
         Request::TakeSnapshot => log.reserve(SEATS).is_ok(),
@@ -72,6 +73,7 @@ pub(crate) fn wait(seat: &mut Seat, alloc: Global, request: Request) -> Posted
     ensures mark { mark_of seat.new.phase ≡ mark_of seat.old.phase }
     ensures open_too { is_open seat.new.phase ≡ is_open seat.old.phase }
     ensures posted { WaitsFor request result seat.new.waiting }
+    ensures sure { takes_none request ≡ true → result ≡ posts.Accepted }
 {
     match request {
         Request::TakeSnapshot => accept(seat, Waiting::Snapshot),

@@ -10,7 +10,7 @@ use Rattle.backend_trait.specs.declared.answer.Polled.TheVariants as polls
 use Rattle.backend_trait.specs.Rows.{with_at}
 use Rattle.backend_trait.specs.Effect.{Wants, nothing, Conflicts, same_place, same_table, table_left, table_right, Given, Fails, Gives}
 use Rattle.backend_trait.specs.Store.{Store, Transaction, Absent, Alive, Dead, Pending, WhereLive, Live, MayPost, posted, held_by, table_lock, acted}
-use Rattle.backend_trait.specs.Acts.{MayAnswer, given_of, Answers, Acts, IsTaken, MustWait, MustWaitRun, WhereSome, IsPromptly, IsPromptAnswer, InForm}
+use Rattle.backend_trait.specs.Acts.{MayAnswer, given_of, Answers, Acts, IsTaken, MustWait, MustWaitRun, WhereSome, IsPromptly, IsPromptAnswer, IsCrossed, InForm}
 use Rattle.session_core.specs.Standing.{IsAlone, IsAsked}
 
 pub with_at-same : {A : Type 0} (f : ℕ → A) (i : ℕ) (x : A) → with_at f i x i ≡ x
@@ -61,6 +61,13 @@ not_must s st request (requests.SetSerial table n) alone h = h
 waiting : Request → Option Pending
 waiting request = Some (record { request = request; crossed = false })
 
+-- nobody crosses it
+pub not_crossed : (s : ℕ) (st : Store) (request : Request) → IsAlone s st → IsCrossed (posted st s request) s (record { request = request; crossed = false }) → ⊥
+not_crossed s st request alone (inl marked) = let f : false ≡ true = marked in cc
+not_crossed s st request alone (inr c) =
+    let t : None ≡ Some c.its = sym (alone.idle c.other) ∙ sym (with_at-other st.pending s (Some (record { request = request; crossed = false })) c.other c.another) ∙ c.waits in
+    cc
+
 -- it does not wait
 pub not_yet : (s : ℕ) (st mid : Store) (request : Request) → mid ≡ posted st s request → IsAlone s st → IsPromptly mid s polls.NotYet → ⊥
 not_yet s st mid request is alone h =
@@ -81,6 +88,6 @@ asked s st mid new request answer is acts promptly =
     let same : a.pending ≡ p = cc in
     record {
       may = subst (λ q. MayAnswer (posted st s request) s q answer) same a.may;
-      promptly = promptly;
+      promptly = promptly.0;
       leaves = a.leaves ∙ ap (λ q. acted (posted st s request) s q.request answer) same;
     }

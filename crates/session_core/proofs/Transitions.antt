@@ -14,11 +14,11 @@ use Rattle.backend_trait.specs.Rows.{Rows, Changes, no_changes, laid_over, joine
 use Rattle.backend_trait.specs.Effect.{Given, Fails, Gives, Wants, effect_of, table_in, insert_given, place_of}
 use Rattle.backend_trait.specs.Alone.{given_on, IsEffect, rows_left}
 use Rattle.backend_trait.specs.Store.{Store, Live, Transaction, Absent, Alive, Dead, Pending, WhereLive, view_of, begun, given_to, where_live, made_stale, settled, committed_by, posted, acted, answered, is_refusal}
-use Rattle.backend_trait.specs.Acts.{MaySnapshot, MayRun, MayGive, MayRefuse, IsPromptAnswer, IsDone, given_of}
+use Rattle.backend_trait.specs.Acts.{MaySnapshot, MayRun, MayGive, MayRefuse, IsPromptAnswer, IsCrossed, IsDone, given_of}
 use Rattle.backend_trait.proofs.RowLaws.{laid_over-none, joined_changes-none}
 use Rattle.session_core.specs.Standing.{IsAlone, Stands, IsAsked}
 use Rattle.session_core.specs.Statements.{IsReady}
-use Rattle.session_core.proofs.Asking.{with_at-same, with_at-other}
+use Rattle.session_core.proofs.Asking.{with_at-same, with_at-other, not_crossed}
 use Rattle.session_core.proofs.Going.{same_or_other}
 
 idle_after : (s : ℕ) (st : Store) (request : Request) → IsAlone s st → (o : ℕ) → with_at (posted st s request).pending s None o ≡ None
@@ -66,37 +66,37 @@ gives_effect : (st : Store) (s : ℕ) (t : Live) (answer : Answer) (given : Give
 gives_effect st s t answer (Fails code) may = absurd may
 gives_effect st s t answer (Gives result changes wants) may = may.0
 
-refuses_effect : (rows : Rows) (table : ℕ) (code : Code) (given : Given) → IsPromptAnswer (answers.Refused code) → MayRefuse false (begun rows) table code given → IsEffect given (answers.Refused code)
-refuses_effect rows table code (Fails bytes) prompt (inl is) = (code, refl, is)
-refuses_effect rows table code (Fails bytes) prompt (inr out) = absurd (prompt out)
-refuses_effect rows table code (Gives result changes wants) prompt (inl stale) = let (p, wanted, is) = stale.1 in absurd (cc)
-refuses_effect rows table code (Gives result changes wants) prompt (inr (inl crossed)) = absurd (let e : false ≡ true = crossed.1 in cc)
-refuses_effect rows table code (Gives result changes wants) prompt (inr (inr out)) = absurd (prompt out)
+refuses_effect : (crossed : Type 0) → (crossed → ⊥) → (rows : Rows) (table : ℕ) (code : Code) (given : Given) → IsPromptAnswer (answers.Refused code) → MayRefuse crossed (begun rows) table code given → IsEffect given (answers.Refused code)
+refuses_effect crossed none rows table code (Fails bytes) prompt (inl is) = (code, refl, is)
+refuses_effect crossed none rows table code (Fails bytes) prompt (inr out) = absurd (prompt out)
+refuses_effect crossed none rows table code (Gives result changes wants) prompt (inl stale) = let (p, wanted, is) = stale.1 in absurd (cc)
+refuses_effect crossed none rows table code (Gives result changes wants) prompt (inr (inl cycle)) = absurd (none cycle.1)
+refuses_effect crossed none rows table code (Gives result changes wants) prompt (inr (inr out)) = absurd (prompt out)
 
 -- where a run may be answered so, by the session's transaction
-abbrev MayRunAt : Store → ℕ → Checked → Transaction → Answer → Type 0
-MayRunAt st s c x answers.Began = ⊥
-MayRunAt st s c x (answers.Rows r) = WhereLive x (λ t. MayGive st s t (answers.Rows r) (given_of st c t))
-MayRunAt st s c x (answers.Count n) = WhereLive x (λ t. MayGive st s t (answers.Count n) (given_of st c t))
-MayRunAt st s c x answers.Locked = ⊥
-MayRunAt st s c x answers.Done = ⊥
-MayRunAt st s c x (answers.Serial n) = ⊥
-MayRunAt st s c x (answers.Refused code) = WhereLive x (λ t. MayRefuse false t (table_in c) code (given_of st c t))
+abbrev MayRunAt : Store → ℕ → Type 0 → Checked → Transaction → Answer → Type 0
+MayRunAt st s crossed c x answers.Began = ⊥
+MayRunAt st s crossed c x (answers.Rows r) = WhereLive x (λ t. MayGive st s t (answers.Rows r) (given_of st c t))
+MayRunAt st s crossed c x (answers.Count n) = WhereLive x (λ t. MayGive st s t (answers.Count n) (given_of st c t))
+MayRunAt st s crossed c x answers.Locked = ⊥
+MayRunAt st s crossed c x answers.Done = ⊥
+MayRunAt st s crossed c x (answers.Serial n) = ⊥
+MayRunAt st s crossed c x (answers.Refused code) = WhereLive x (λ t. MayRefuse crossed t (table_in c) code (given_of st c t))
 
-may_run_at : (st : Store) (s : ℕ) (c : Checked) (a : Answer) → MayRun st s false c a → MayRunAt st s c (st.transaction s) a
-may_run_at st s c answers.Began m = m
-may_run_at st s c (answers.Rows r) m = m
-may_run_at st s c (answers.Count n) m = m
-may_run_at st s c answers.Locked m = m
-may_run_at st s c answers.Done m = m
-may_run_at st s c (answers.Serial n) m = m
-may_run_at st s c (answers.Refused code) m = m
+may_run_at : (st : Store) (s : ℕ) (crossed : Type 0) (c : Checked) (a : Answer) → MayRun st s crossed c a → MayRunAt st s crossed c (st.transaction s) a
+may_run_at st s crossed c answers.Began m = m
+may_run_at st s crossed c (answers.Rows r) m = m
+may_run_at st s crossed c (answers.Count n) m = m
+may_run_at st s crossed c answers.Locked m = m
+may_run_at st s crossed c answers.Done m = m
+may_run_at st s crossed c (answers.Serial n) m = m
+may_run_at st s crossed c (answers.Refused code) m = m
 
 -- a statement has its effect
 pub runs : (s : ℕ) (rows : Rows) (st new : Store) (c : Checked) (answer : Answer) → Stands s rows (Alive (begun rows)) st → IsAsked st s (requests.Run c) answer new
     → IsEffect (given_on rows c) answer × Stands s rows (ran_to (is_refusal answer) (given_on rows c) rows) new
 runs s rows st new c answer stands asked =
-    go answer (subst (λ (x : Transaction). MayRunAt (posted st s (requests.Run c)) s c x answer) stands.own (may_run_at (posted st s (requests.Run c)) s c answer asked.may)) asked.promptly asked.leaves
+    go answer (subst (λ (x : Transaction). MayRunAt (posted st s (requests.Run c)) s (IsCrossed (posted st s (requests.Run c)) s (record { request = requests.Run c; crossed = false })) c x answer) stands.own (may_run_at (posted st s (requests.Run c)) s (IsCrossed (posted st s (requests.Run c)) s (record { request = requests.Run c; crossed = false })) c answer asked.may)) asked.promptly asked.leaves
   where
     is : given_of (posted st s (requests.Run c)) c (begun rows) ≡ given_on rows c
     is = given_is (posted st s (requests.Run c)) s c rows
@@ -106,7 +106,7 @@ runs s rows st new c answer stands asked =
         (leaves ∙ ap (λ (x : Transaction). settled (posted st s (requests.Run c)) s (where_live (λ t. given_to (given_of (posted st s (requests.Run c)) c t) t) x)) stands.own
         ∙ ap (λ (g : Given). settled (posted st s (requests.Run c)) s (Alive (given_to g (begun rows)))) is)
 
-    go : (a : Answer) → MayRunAt (posted st s (requests.Run c)) s c (Alive (begun rows)) a → IsPromptAnswer a → new ≡ acted (posted st s (requests.Run c)) s (requests.Run c) a
+    go : (a : Answer) → MayRunAt (posted st s (requests.Run c)) s (IsCrossed (posted st s (requests.Run c)) s (record { request = requests.Run c; crossed = false })) c (Alive (begun rows)) a → IsPromptAnswer a → new ≡ acted (posted st s (requests.Run c)) s (requests.Run c) a
         → IsEffect (given_on rows c) a × Stands s rows (ran_to (is_refusal a) (given_on rows c) rows) new
     go answers.Began m p leaves = absurd m
     go (answers.Rows r) m p leaves = (subst (λ (g : Given). IsEffect g (answers.Rows r)) is (gives_effect (posted st s (requests.Run c)) s (begun rows) (answers.Rows r) (given_of (posted st s (requests.Run c)) c (begun rows)) m), live leaves)
@@ -115,7 +115,7 @@ runs s rows st new c answer stands asked =
     go answers.Done m p leaves = absurd m
     go (answers.Serial n) m p leaves = absurd m
     go (answers.Refused code) m p leaves = (
-      subst (λ (g : Given). IsEffect g (answers.Refused code)) is (refuses_effect rows (table_in c) code (given_of (posted st s (requests.Run c)) c (begun rows)) p m),
+      subst (λ (g : Given). IsEffect g (answers.Refused code)) is (refuses_effect (IsCrossed (posted st s (requests.Run c)) s (record { request = requests.Run c; crossed = false })) (not_crossed s st (requests.Run c) stands.alone) rows (table_in c) code (given_of (posted st s (requests.Run c)) c (begun rows)) p m),
       settles s rows (Alive (begun rows)) Dead st new (requests.Run c) stands leaves,
     )
 

@@ -1,6 +1,7 @@
 use Rattle.std.proofs.Common.{◌≡◌, ◌<◌, ◌≤◌, true, refl, ap, arith, rules, length, vec_len, vec_capacity}
 use Rattle.std.proofs.lemmas.Option.{slice_get_read}
 use Rattle.model_store.proofs.StoreLaws.{marked_set, posted_room, posted_ok, mark_there, idle_seat, not_false}
+use Rattle.model_store.proofs.ApartLaws.{apart_kept}
 use Rattle.model_store.proofs.backend.MemoryStoreBackend.post.Goals as goal
 
 pub invariant_of-self-2-clause-marked : goal.invariant_of-self-2-clause-marked
@@ -12,6 +13,14 @@ invariant_of-self-2-clause-marked c =
     let same : length c.has_room.new.log.items ≡ length c.args.self.now.log.items = ap length c.has_room.ensures.items in
     marked_set seats at c.wait.new.seat (length c.args.self.now.log.items) (length c.has_room.new.log.items) within c.args.self.now.marked (omega (arith, same))
     (omega (arith, same, c.wait.ensures.mark, mark_there seats at c.index_mut.result.now (length c.args.self.now.log.items) there c.args.self.now.marked))
+
+pub invariant_of-self-2-clause-apart : goal.invariant_of-self-2-clause-apart
+invariant_of-self-2-clause-apart c =
+    let seats = c.args.self.now.seats.items in
+    let at = c.args.s.number in
+    let within : at < length seats = omega (arith, c.args.self.now.all_seated, c.args.s.up_to_64) in
+    let there = slice_get_read seats (length seats) at c.index_mut.result.now refl within c.index_mut.ensures.value in
+    apart_kept c.args.self.now.log.items seats at c.index_mut.result.now c.wait.new.seat within there (c.wait.ensures.transaction c.args.self.now.log.items) c.args.self.now.apart
 
 pub invariant_of-self-2-clause-roomy : goal.invariant_of-self-2-clause-roomy
 invariant_of-self-2-clause-roomy c =
