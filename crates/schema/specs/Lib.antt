@@ -1,0 +1,6 @@
+pub mod Types
+pub mod Values
+pub mod Open
+pub mod Steps
+pub mod Grammar
+pub mod Reading
