@@ -20,7 +20,7 @@ index:           ## public items with file and line: make index | grep -i sink
 	@scripts/index
 lint:            ## house rules that the gate does not know
 	@scripts/lint
-bench:           ## measure the messages: make bench W=batches
+bench:           ## measure the messages or a store: make bench W=batches, make bench W='store 1000'
 	@scripts/bench $(W)
 hooks:           ## lay out the staged crates before each commit
 	git config core.hooksPath .githooks

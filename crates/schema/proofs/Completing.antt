@@ -142,19 +142,24 @@ module _ (tables final : List TableDef) where
         let inner = head.inner in
         let table = inner.2 in
         let ends = table.ends in
-        let more = ends.2 in
-        (table.table ∷ more.0,
-        (ends.0, record {
-          name = head.name;
-          inner = inner.0;
-          count = table.count;
-          read = table.read;
-          begun = ap (λ (x : List Token). token.Word word.Create ∷ x) (h.1 ∙ ap (λ (x : List Token). token.Word word.Table ∷ x) (head.begun ∙ ap (λ (x : List Token). token.Name head.name ∷ x) inner.1));
-          is_new = head.is_new;
-          columns = subst (λ (x : List Token). ColumnsOf table.count (empty_table head.name.text) inner.0 table.read (token.Mark mark.Close ∷ x)) ends.1 table.columns;
-          has_key = table.has_key;
-        }, more.1),
-        more.2 ∙ append_assoc tables (table.table ∷ []) more.0)
+        let more = ends.2 in (
+          table.table ∷ more.0,
+          (
+            ends.0,
+            record {
+              name = head.name;
+              inner = inner.0;
+              count = table.count;
+              read = table.read;
+              begun = ap (λ (x : List Token). token.Word word.Create ∷ x) (h.1 ∙ ap (λ (x : List Token). token.Word word.Table ∷ x) (head.begun ∙ ap (λ (x : List Token). token.Name head.name ∷ x) inner.1));
+              is_new = head.is_new;
+              columns = subst (λ (x : List Token). ColumnsOf table.count (empty_table head.name.text) inner.0 table.read (token.Mark mark.Close ∷ x)) ends.1 table.columns;
+              has_key = table.has_key;
+            },
+            more.1,
+          ),
+          more.2 ∙ append_assoc tables (table.table ∷ []) more.0,
+        )
   back_create l _ ts p e k = absurd (nothing e)
 
   back_table : (t : Token) (ts : List Token) (p : Place) → table_at t ≡ Some p → Ends p ts → Ends Table (t ∷ ts)

@@ -118,8 +118,8 @@ module _ (tables : List TableDef) where
       (on (Column t (bare_column number name types.Int4) due.Part) (Column t (bare_column number name types.Int4) due.Key) (token.Word word.Primary) (None, refl, may t.key e)
       (on (Column t (bare_column number name types.Int4) due.Key) (Column t (with_key (bare_column number name types.Int4)) due.Part) (token.Word word.Key) (None, refl, refl)
       (closed t (with_key (bare_column number name types.Int4)) number refl))) where
-    may : (key : Option ℕ) → t.key ≡ None → beside tables (when (may_take_key t (bare_column number name types.Int4)) (Column t (bare_column number name types.Int4) due.Key)) ≡ Some (tables, Column t (bare_column number name types.Int4) due.Key)
-    may key e = ap (λ (k : Option ℕ). beside tables (when (may_take_key (record t { key = k }) (bare_column number name types.Int4)) (Column t (bare_column number name types.Int4) due.Key))) e
+        may : (key : Option ℕ) → t.key ≡ None → beside tables (when (may_take_key t (bare_column number name types.Int4)) (Column t (bare_column number name types.Int4) due.Key)) ≡ Some (tables, Column t (bare_column number name types.Int4) due.Key)
+        may key e = ap (λ (k : Option ℕ). beside tables (when (may_take_key (record t { key = k }) (bare_column number name types.Int4)) (Column t (bare_column number name types.Int4) due.Key))) e
 
   fresh : (t : OpenTable) → From (ColumnType t (length t.columns) (long (column_bytes t.columns))) → From (ColumnName t)
   unfolding name_token

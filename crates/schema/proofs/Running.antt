@@ -121,14 +121,15 @@ module _ (l : Truth) (tables : List TableDef) (to : State) where
   type_runs : (t : OpenTable) (index : ℕ) (name : List ℕ) (ts : List Token) (a : AnyType) (rest : List Token) → TypeOf ts a rest → may_take_type t a ≡ true → Goes (Column t (bare_column index name a) due.Part) rest → Goes (ColumnType t index name) ts
   type_runs t index name ts a rest (inl (e, w)) m k = spelled (ColumnType t index name) ts (token.Word word.Timestamptz ∷ rest) e
       (on (ColumnType t index name) (Column t (bare_column index name a) due.Part) (token.Word word.Timestamptz) rest refl (typed (type_at (token.Word word.Timestamptz)) (ap (λ (a : AnyType). Some a) (sym w))) k) where
-    typed : (o : Option AnyType) → o ≡ Some a → beside tables (o >>= λ a. when (may_take_type t a) (Column t (bare_column index name a) due.Part)) ≡ Some (tables, Column t (bare_column index name a) due.Part)
-    typed o e = ap (λ (o : Option AnyType). beside tables (o >>= λ a. when (may_take_type t a) (Column t (bare_column index name a) due.Part))) e ∙ beside_is (may_take_type t a) (Column t (bare_column index name a) due.Part) m
+        typed : (o : Option AnyType) → o ≡ Some a → beside tables (o >>= λ a. when (may_take_type t a) (Column t (bare_column index name a) due.Part)) ≡ Some (tables, Column t (bare_column index name a) due.Part)
+        typed o e = ap (λ (o : Option AnyType). beside tables (o >>= λ a. when (may_take_type t a) (Column t (bare_column index name a) due.Part))) e ∙ beside_is (may_take_type t a) (Column t (bare_column index name a) due.Part) m
   type_runs t index name ts a rest (inr (n, e, q, w)) m k = spelled (ColumnType t index name) ts (token.Name n ∷ rest) e
       (on (ColumnType t index name) (Column t (bare_column index name a) due.Part) (token.Name n) rest refl (typed (type_at (token.Name n)) (plainly n.quoted q)) k) where
-    plainly : (b : Truth) → b ≡ false → (if b then None else type_named n.text) ≡ Some a
-    plainly b f = ap (λ (b : Truth). if b then None else type_named n.text) f ∙ w
-    typed : (o : Option AnyType) → o ≡ Some a → beside tables (o >>= λ a. when (may_take_type t a) (Column t (bare_column index name a) due.Part)) ≡ Some (tables, Column t (bare_column index name a) due.Part)
-    typed o e = ap (λ (o : Option AnyType). beside tables (o >>= λ a. when (may_take_type t a) (Column t (bare_column index name a) due.Part))) e ∙ beside_is (may_take_type t a) (Column t (bare_column index name a) due.Part) m
+        plainly : (b : Truth) → b ≡ false → (if b then None else type_named n.text) ≡ Some a
+        plainly b f = ap (λ (b : Truth). if b then None else type_named n.text) f ∙ w
+
+        typed : (o : Option AnyType) → o ≡ Some a → beside tables (o >>= λ a. when (may_take_type t a) (Column t (bare_column index name a) due.Part)) ≡ Some (tables, Column t (bare_column index name a) due.Part)
+        typed o e = ap (λ (o : Option AnyType). beside tables (o >>= λ a. when (may_take_type t a) (Column t (bare_column index name a) due.Part))) e ∙ beside_is (may_take_type t a) (Column t (bare_column index name a) due.Part) m
 
   -- a column, where there is room for it
   column_runs : (t : OpenTable) (ts : List Token) (u : OpenTable) (rest : List Token) (c : ColumnOf t ts u rest) → has_room l 32 (length t.columns) ≡ true → Goes (Column t c.column due.Part) rest → Goes (ColumnName t) ts

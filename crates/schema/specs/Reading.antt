@@ -52,7 +52,7 @@ Begins ts = (more : List Token) × (tables : List TableDef) × IsSchemaText (ts 
 abbrev pub IsBadLine : List ℕ → List Placed → ℕ → Type 0
 IsBadLine text tokens line =
     ((front rest : List Placed) × (placed : Placed) × (tokens ≡ front ++ placed ∷ rest) × (line ≡ line_of text placed.place)
-        × Begins (tokens_of front) × BeginsNone (tokens_of front ++ placed.token ∷ []))
+    × Begins (tokens_of front) × BeginsNone (tokens_of front ++ placed.token ∷ []))
     ⊎ ((line ≡ line_of text (length text - 1)) × Begins (tokens_of tokens) × ((tables : List TableDef) → IsSchema (tokens_of tokens) tables → ⊥))
 
 -- the text is no schema, and this is its first faulty line

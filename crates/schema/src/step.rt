@@ -305,11 +305,7 @@ fn filled(table: OpenTable, mut column: OpenColumn, fill: Fill) -> Place
 }
 
 /// The place behind a constant, if it is a value of the column's type.
-fn filled_with(
-    table: OpenTable,
-    column: OpenColumn,
-    value: Option<Value>,
-) -> Result<Place, Stop>
+fn filled_with(table: OpenTable, column: OpenColumn, value: Option<Value>) -> Result<Place, Stop>
     ensures { Gives result (filled_with table column value) }
 {
     match value {

@@ -60,7 +60,7 @@ returns-in-Err-AtEnd-clause-bad c = λ line q.
     let at : c.line_of-line-in-Err-AtEnd.result ≡ line_of (as_text c.args.text.now) (length (as_text c.args.text.now) - 1) = c.line_of-line-in-Err-AtEnd.ensures ∙ ap (λ (x : List ℕ). line_of x c.saturating_sub.result) text ∙ ap (line_of (as_text c.args.text.now)) last in
     let same : c.line_of-line-in-Err-AtEnd.result ≡ line = cc in
     let refused = subst (λ (x : List Placed). IsRefusal x (Err refusal.AtEnd)) c.as_slice.ensures
-        (subst (λ (f : Refusal). IsRefusal c.as_slice.result.now (Err f)) c.in-Err-AtEnd.field-0-is c.in-Err-AtEnd.ensures.refused) in
+    (subst (λ (f : Refusal). IsRefusal c.as_slice.result.now (Err f)) c.in-Err-AtEnd.field-0-is c.in-Err-AtEnd.ensures.refused) in
     faulty_end c.args.text.now c.in_ok-tokens.tokens line
     (subst (λ (x : List ℕ). TokensOf x c.in_ok-tokens.tokens) e c.in_ok-tokens.ensures.found)
     refused.0 refused.1 (sym same ∙ at)

@@ -1,0 +1,40 @@
+//! What a session asks of a store, and what it is told.
+
+/// What a session asks.
+#[derive(Clone, Copy, Debug, PartialEq, Eq, Drop)]
+pub enum Ask {
+    Begin,
+    Insert(i32, i64),
+    Select(i32),
+    Lock(u8),
+    Commit,
+    Rollback,
+}
+
+/// What a session is told.
+#[derive(Clone, Copy, Debug, PartialEq, Eq, Drop)]
+pub enum Told {
+    Began,
+    /// One row was inserted.
+    Inserted,
+    /// The value of the row that was read.
+    Row(i64),
+    NoRow,
+    Locked,
+    Done,
+    /// Refused: the key has a row.
+    DuplicateKey,
+    /// Refused: another has changed the key since the snapshot.
+    ChangedMeanwhile,
+    /// Refused: waiting would close a cycle of waits.
+    Deadlock,
+    /// Nothing yet.
+    Waits,
+    Lost,
+    /// It may not ask for that now.
+    MayNot,
+    /// It has asked for nothing.
+    Idle,
+    /// An answer that has no place here.
+    Strange,
+}

@@ -1,0 +1,4 @@
+mod both;
+mod histories;
+mod random;
+mod step;
