@@ -1,6 +1,6 @@
 -- What each stage says of the end of the run.
-use Rattle.std.proofs.Common.{◌≡◌, ◌≢◌, ℕ, ◌<◌, ◌≤◌, length, true, List, [], ◌∷◌, refl, sym, ◌∙◌, subst}
-use Rattle.std.specs.Prelude.{Option, Some, None, Result, Ok, Err, IfOk, MatchOption}
+use Rattle.std.proofs.Common.{◌≡◌, ◌≢◌, ℕ, ◌<◌, ◌≤◌, length, true, List, refl, sym, ◌∙◌, subst}
+use Rattle.std.specs.Prelude.{Option, Some, None, Err}
 use Rattle.std.specs.FinMap as fin
 use Rattle.pool_base.specs.Outside.{Appends}
 use Rattle.pool_base.proofs.Sinking.{rose_after}
@@ -8,7 +8,7 @@ use Rattle.backend_trait.specs.Rows.{no_rows}
 use Rattle.backend_trait.specs.Store.{Store}
 use Rattle.backend_trait.specs.Keys.{place_order}
 use Rattle.pgproto.specs.Line.{Line}
-use Rattle.play.specs.Script.{Deed, AreDone, IsSession, ArePlayed}
+use Rattle.play.specs.Script.{IsSession, ArePlayed}
 use Rattle.play.specs.Replies.{RowsFit}
 use Rattle.pool.specs.declared.status.Status.{Status}
 use Rattle.pool.specs.declared.status.Status.TheVariants.{Done, NoCommand, Refused, ScriptRefused, FilesFailed, SinkFailed, NoMemory, NotBuilt}
@@ -20,10 +20,14 @@ use Rattle.pool_config.specs.declared.fault.ConfigFault.TheVariants as faults
 use Rattle.pool_config.specs.Configuration.{IsConfiguration, IsAnswer}
 use Rattle.pool_config.specs.Configuration as configuration
 use Rattle.pool.specs.Scripts.{IsReadAs}
-use Rattle.pool.specs.Texts.{IsBuilt, IsRead, config_name, is_plain, built_schema}
+use Rattle.schema.specs.declared.catalogue.TableDef.{TableDef}
+use Rattle.pool.specs.declared.schemas.SchemaStop.{SchemaStop}
+use Rattle.pool.specs.declared.schemas.SchemaStop.TheVariants as schemas
+use Rattle.pool.specs.Schemas.{built_tables, IsSchemaAnswer, schema_too_long, bad_schema_line}
+use Rattle.pool.specs.Texts.{IsBuilt, IsRead, config_name, schema_name, is_plain}
 use Rattle.pool.specs.Reading.{IsFault}
-use Rattle.pool.specs.Ends.{Outside, outside, Says, NoCommandEnds, RefusedEnds, UnbuiltEnds, UnreadEnds, no_command, not_built, fault_line}
-use Rattle.pool.specs.Ends.{RestEnds, unread_rest, read_rest, ConfigEnds, configured, faulty, unparsed, CommandEnds, unread, read, WordsEnd}
+use Rattle.pool.specs.Ends.{Outside, outside, Says, IsSchemaRefusal, NoCommandEnds, RefusedEnds, UnbuiltEnds, UnreadEnds, no_command, not_built, fault_line}
+use Rattle.pool.specs.Ends.{ScriptStageEnds, script_unread, script_read, SchemaEnds, schema_stands, schema_refused, schema_unparsed, RestEnds, schema_unread, schema_read, ConfigEnds, configured, faulty, unparsed, CommandEnds, unread, read, WordsEnd}
 
 pub said : (s : Status) (bytes : List ℕ) (a b : Option (List ℕ)) (n m : ℕ) → s ≢ SinkFailed → Appends a b bytes → Says s s bytes a b n m
 said Done bytes a b n m other p = (refl, p)
@@ -106,10 +110,21 @@ unread_after NoMemory a b c o h p = p
 unread_after NotBuilt a b c o h p = p
 
 -- the same of an earlier count
+script_after : (contents : List ℕ → Told) (a b c : ℕ) (command : Command) (config : Config) (tables : List TableDef) (s : Status) (o : Outside) → a ≤ b
+    → ScriptStageEnds contents b c command config tables s o → ScriptStageEnds contents a c command config tables s o
+script_after contents a b c command config tables s o h (script_unread e) = script_unread (unread_after s a b c o h e)
+script_after contents a b c command config tables s o h (script_read script e f) = script_read script e f
+
+schema_after : (contents : List ℕ → Told) (a b c : ℕ) (command : Command) (config : Config) (schema : Option (List ℕ)) (s : Status) (o : Outside) → a ≤ b
+    → SchemaEnds contents b c command config schema s o → SchemaEnds contents a c command config schema s o
+schema_after contents a b c command config schema s o h (schema_stands tables says e) = schema_stands tables says (script_after contents a b c command config tables s o h e)
+schema_after contents a b c command config schema s o h (schema_refused bytes why rows e) = schema_refused bytes why rows e
+schema_after contents a b c command config schema s o h (schema_unparsed memory same) = schema_unparsed memory same
+
 rest_after : (contents : List ℕ → Told) (a b c : ℕ) (command : Command) (config : Config) (s : Status) (o : Outside) → a ≤ b
     → RestEnds contents b c command config s o → RestEnds contents a c command config s o
-rest_after contents a b c command config s o h (unread_rest e) = unread_rest (unread_after s a b c o h e)
-rest_after contents a b c command config s o h (read_rest schema script d e f) = read_rest schema script d e f
+rest_after contents a b c command config s o h (schema_unread e) = schema_unread (unread_after s a b c o h e)
+rest_after contents a b c command config s o h (schema_read schema d e) = schema_read schema d (schema_after contents a b c command config schema s o h e)
 
 config_after : (contents : List ℕ → Told) (a b c : ℕ) (command : Command) (text : List ℕ) (s : Status) (o : Outside) → a ≤ b
     → ConfigEnds contents b c command text s o → ConfigEnds contents a c command text s o
@@ -122,6 +137,12 @@ pub config_read : (contents later : List ℕ → Told) (a b c : ℕ) (command : 
     → IsRead (contents (config_name command)) 65536 (Some text) → ConfigEnds later b c command text s o → CommandEnds contents a c command s o
 config_read contents later a b c command text s o same h is e =
     read text is (config_after contents a b c command text s o h (subst (λ k. ConfigEnds k b c command text s o) same e))
+
+-- the files tell the same after the schema was read
+pub rest_read : (contents later : List ℕ → Told) (a b c : ℕ) (command : Command) (config : Config) (schema : Option (List ℕ)) (s : Status) (o : Outside) → later ≡ contents → a ≤ b
+    → IsRead (contents (schema_name command)) 262144 schema → SchemaEnds later b c command config schema s o → RestEnds contents a c command config s o
+rest_read contents later a b c command config schema s o same h is e =
+    schema_read schema is (schema_after contents a b c command config schema s o h (subst (λ k. SchemaEnds k b c command config schema s o) same e))
 
 -- the configuration's text has a fault, or memory was refused while it was read
 pub config_fault : (fault : ConfigFault) (contents : List ℕ → Told) (before : ℕ) (command : Command) (text : List ℕ) (s : Status) (o : Outside) → configuration.Says text (Err fault)
@@ -137,6 +158,13 @@ config_fault (faults.WrongMode n) contents before command text s o says found ro
 config_fault (faults.Missing name) contents before command text s o says found rows memory refuses =
     faulty (faults.Missing name) says (λ config is. let e : faults.Missing name ≡ faults.NoMemory = found config is in absurd (cc)) rows (refuses (λ e. absurd (cc)))
 
+-- the schema is refused, or memory was refused while it was read
+pub schema_stop : (stop : SchemaStop) (contents : List ℕ → Told) (before : ℕ) (command : Command) (config : Config) (schema : Option (List ℕ)) (s : Status) (o : Outside) → IsSchemaAnswer schema (Err stop) → o.stores_after ≡ o.stores_before
+    → IsSchemaRefusal stop s o → SchemaEnds contents before before command config schema s o
+schema_stop schemas.TooLong contents before command config schema s o why rows e = schema_refused schema_too_long why rows e
+schema_stop (schemas.BadLine n) contents before command config schema s o why rows e = schema_refused (bad_schema_line n) why rows e
+schema_stop schemas.NoMemory contents before command config schema s o why rows (memory, same) = schema_unparsed memory same
+
 -- memory was refused before anything was done
 pub memory_ends : (command : Option Command) (contents : List ℕ → Told) (before n : ℕ) (a : Option (List ℕ)) (x : List Store) → WordsEnd command contents before before NoMemory (outside n n a a x x)
 memory_ends None contents before n a x = refl
@@ -151,6 +179,6 @@ pub none_fit : RowsFit no_rows
 none_fit = λ place row found. let never : None ≡ Some row = sym (fin.get-empty place_order place) ∙ found in absurd (cc)
 
 -- what is built is asked for
-pub is_built : (command : Command) (config : Config) (schema script : Option (List ℕ)) (lines : List Line) → (is_plain command ≡ true) × (((0 < length config.nodes) × (length config.nodes ≤ 3)) × (schema ≡ Some built_schema)) → IsReadAs script lines
-    → (is : IsSession lines) → IsBuilt command config schema script is.deeds
-is_built command config schema script lines b reads is = record { plain = b.0; some_backend = b.1.0.0; few_backends = b.1.0.1; schema_is = b.1.1; lines = lines; reads = reads; done = is.done; one = is.one }
+pub is_built : (command : Command) (config : Config) (tables : List TableDef) (script : Option (List ℕ)) (lines : List Line) → (is_plain command ≡ true) × (((0 < length config.nodes) × (length config.nodes ≤ 3)) × (tables ≡ built_tables)) → IsReadAs script lines
+    → (is : IsSession lines) → IsBuilt command config tables script is.deeds
+is_built command config tables script lines b reads is = record { plain = b.0; some_backend = b.1.0.0; few_backends = b.1.0.1; tables_are = b.1.1; lines = lines; reads = reads; done = is.done; one = is.one }

@@ -1,40 +1,51 @@
 -- What the number 3 says, and what a refused script comes to.
-use Rattle.std.proofs.Common.{◌≡◌, ◌⊎◌, ◌≤◌, ◌<◌, ℕ, Bool, true, false, List, length, refl, sym, subst, ap, ◌∙◌, inl, inr, arith}
+use Rattle.std.proofs.Common.{◌≡◌, ◌⊎◌, ◌≤◌, ◌<◌, ℕ, Bool, List, length, refl, sym, subst, ap, ◌∙◌, inl, inr, arith}
 use Rattle.std.specs.Prelude.{Option, Some, None}
 use Rattle.pool_base.specs.Outside.{Rose, Told, content, IsTold, IsLonger}
 use Rattle.pgproto.specs.Line.{Line}
 use Rattle.pgproto.specs.Script.{IsScript}
-use Rattle.play.specs.Script.{Deed}
 use Rattle.pool_command.specs.Command.{command_of}
 use Rattle.pool_command.specs.declared.command.Command.{Command}
 use Rattle.pool_command.specs.declared.command.Command.TheVariants.{Play}
 use Rattle.pool_config.specs.declared.config.Config.{Config}
+use Rattle.schema.specs.declared.catalogue.TableDef.{TableDef}
 use Rattle.pool.specs.Status.{code_of}
 use Rattle.pool.specs.declared.status.Status.{Status}
 use Rattle.pool.specs.declared.status.Status.TheVariants.{Done, NoCommand, Refused, ScriptRefused, FilesFailed, SinkFailed, NoMemory, NotBuilt}
-use Rattle.pool.specs.Scripts.{ScriptCause, long_text, many_lines, has_bad_line, Stands, without, with, IsReadAs, IsRefusedScript, SaysNoScript, lines_in}
-use Rattle.pool.specs.Texts.{IsRead, IsScriptRead, config_name}
-use Rattle.pool.specs.Ends.{Outside, NoCommandEnds, RefusedEnds, UnreadEnds, UnbuiltEnds, ScriptEnds, TextsEnds, refused, built, unbuilt, unchecked, RestEnds, unread_rest, read_rest}
+use Rattle.pool.specs.Scripts.{ScriptCause, long_text, many_lines, has_bad_line, without, with, IsReadAs, IsRefusedScript, SaysNoScript, lines_in}
+use Rattle.pool.specs.Texts.{IsRead, IsScriptRead}
+use Rattle.pool.specs.Ends.{Outside, NoCommandEnds, RefusedEnds, UnreadEnds, UnbuiltEnds, ScriptEnds, TextsEnds, refused, built, unbuilt, unchecked, ScriptStageEnds, script_unread, script_read, SchemaEnds, schema_stands, schema_refused, schema_unparsed, RestEnds, schema_unread, schema_read}
 use Rattle.pool.specs.Ends.{ConfigEnds, configured, faulty, unparsed, CommandEnds, unread, long, read, WordsEnd, Returns, ScriptIsRefused, config_too_long, fault_line}
 use Rattle.pool.proofs.Numbers.{is_script_refused}
 
 -- ---- status 3 comes with its cause
-texts_refused : (words : List (List ℕ)) (contents : List ℕ → Told) (command : Command) (config : Config) (schema script : Option (List ℕ)) (s : Status) (o : Outside) → command_of words ≡ Some command → s ≡ ScriptRefused
-    → IsScriptRead contents command script → TextsEnds command config schema script s o → ScriptIsRefused words contents o
-texts_refused words contents command config schema script s o named is r (refused bytes why rows f) =
+texts_refused : (words : List (List ℕ)) (contents : List ℕ → Told) (command : Command) (config : Config) (tables : List TableDef) (script : Option (List ℕ)) (s : Status) (o : Outside) → command_of words ≡ Some command → s ≡ ScriptRefused
+    → IsScriptRead contents command script → TextsEnds command config tables script s o → ScriptIsRefused words contents o
+texts_refused words contents command config tables script s o named is r (refused bytes why rows f) =
     record { command = command; is = named; script = script; read = r; bytes = bytes; cause = why; wrote = (subst (λ s. RefusedEnds ScriptRefused bytes s o) is f).1; rows = rows }
-texts_refused words contents command config schema script s o named is r (built deeds b f) = absurd (subst (λ s. ScriptEnds (length config.nodes) deeds s o) is f)
-texts_refused words contents command config schema script s o named is r (unbuilt stands none f) = absurd (subst (λ s. UnbuiltEnds s o) is f)
-texts_refused words contents command config schema script s o named is r (unchecked memory same) = let never : ScriptRefused ≡ NoMemory = sym is ∙ memory in absurd (cc)
+texts_refused words contents command config tables script s o named is r (built deeds b f) = absurd (subst (λ s. ScriptEnds (length config.nodes) deeds s o) is f)
+texts_refused words contents command config tables script s o named is r (unbuilt stands none f) = absurd (subst (λ s. UnbuiltEnds s o) is f)
+texts_refused words contents command config tables script s o named is r (unchecked memory same) = let never : ScriptRefused ≡ NoMemory = sym is ∙ memory in absurd (cc)
+
+-- a configuration or a schema that is refused has another number
+not_config : (bytes : List ℕ) (s : Status) (o : Outside) → s ≡ ScriptRefused → RefusedEnds Refused bytes s o → ⊥
+not_config bytes s o is e = let never : Refused ≡ ScriptRefused = (subst (λ s. RefusedEnds Refused bytes s o) is e).0 in absurd (cc)
+
+script_refused : (words : List (List ℕ)) (contents : List ℕ → Told) (x y : ℕ) (command : Command) (config : Config) (tables : List TableDef) (s : Status) (o : Outside) → command_of words ≡ Some command → s ≡ ScriptRefused
+    → ScriptStageEnds contents x y command config tables s o → ScriptIsRefused words contents o
+script_refused words contents x y command config tables s o named is (script_unread e) = absurd (subst (λ s. UnreadEnds x y s o) is e)
+script_refused words contents x y command config tables s o named is (script_read script r f) = texts_refused words contents command config tables script s o named is r f
+
+schema_stage_refused : (words : List (List ℕ)) (contents : List ℕ → Told) (x y : ℕ) (command : Command) (config : Config) (schema : Option (List ℕ)) (s : Status) (o : Outside) → command_of words ≡ Some command → s ≡ ScriptRefused
+    → SchemaEnds contents x y command config schema s o → ScriptIsRefused words contents o
+schema_stage_refused words contents x y command config schema s o named is (schema_stands tables says e) = script_refused words contents x y command config tables s o named is e
+schema_stage_refused words contents x y command config schema s o named is (schema_refused bytes why rows e) = absurd (not_config bytes s o is e)
+schema_stage_refused words contents x y command config schema s o named is (schema_unparsed memory same) = let never : ScriptRefused ≡ NoMemory = sym is ∙ memory in absurd (cc)
 
 rest_refused : (words : List (List ℕ)) (contents : List ℕ → Told) (x y : ℕ) (command : Command) (config : Config) (s : Status) (o : Outside) → command_of words ≡ Some command → s ≡ ScriptRefused
     → RestEnds contents x y command config s o → ScriptIsRefused words contents o
-rest_refused words contents x y command config s o named is (unread_rest e) = absurd (subst (λ s. UnreadEnds x y s o) is e)
-rest_refused words contents x y command config s o named is (read_rest schema script d r f) = texts_refused words contents command config schema script s o named is r f
-
--- a configuration that is refused has another number
-not_config : (bytes : List ℕ) (s : Status) (o : Outside) → s ≡ ScriptRefused → RefusedEnds Refused bytes s o → ⊥
-not_config bytes s o is e = let never : Refused ≡ ScriptRefused = (subst (λ s. RefusedEnds Refused bytes s o) is e).0 in absurd (cc)
+rest_refused words contents x y command config s o named is (schema_unread e) = absurd (subst (λ s. UnreadEnds x y s o) is e)
+rest_refused words contents x y command config s o named is (schema_read schema d e) = schema_stage_refused words contents x y command config schema s o named is e
 
 config_refused : (words : List (List ℕ)) (contents : List ℕ → Told) (x y : ℕ) (command : Command) (text : List ℕ) (s : Status) (o : Outside) → command_of words ≡ Some command → s ≡ ScriptRefused
     → ConfigEnds contents x y command text s o → ScriptIsRefused words contents o
@@ -108,18 +119,29 @@ none_read told script text lines is why r reads =
       | inr (inr none) ↦ none lines (subst (λ t. IsScript t lines) same reads.says)
     ]
 
-texts_come : (x y : ℕ) (a b : List ℕ) (name : List ℕ) (journal : Bool) (told : Told) (config : Config) (schema script : Option (List ℕ)) (text : List ℕ) (s : Status) (o : Outside) → told ≡ content text → IsRefusedScript text → IsRead told 4194304 script
-    → TextsEnds (Play a b name journal) config schema script s o → RefusesScript x y (code_of s) o
-texts_come x y a b name journal told config schema script text s o is why r (refused bytes cause rows f) = line_comes x y ScriptRefused bytes s o f
-texts_come x y a b name journal told config schema script text s o is why r (built deeds t f) = absurd (none_read told script text t.lines is why r t.reads)
-texts_come x y a b name journal told config schema script text s o is why r (unbuilt (without never) none f) = absurd (cc)
-texts_come x y a b name journal told config schema script text s o is why r (unbuilt (with lines reads) none f) = absurd (none_read told script text lines is why r reads)
-texts_come x y a b name journal told config schema script text s o is why r (unchecked memory same) = inr (inr (inr (inr (ap code_of memory))))
+texts_come : (x y : ℕ) (a b : List ℕ) (name : List ℕ) (journal : Bool) (told : Told) (config : Config) (tables : List TableDef) (script : Option (List ℕ)) (text : List ℕ) (s : Status) (o : Outside) → told ≡ content text → IsRefusedScript text → IsRead told 4194304 script
+    → TextsEnds (Play a b name journal) config tables script s o → RefusesScript x y (code_of s) o
+texts_come x y a b name journal told config tables script text s o is why r (refused bytes cause rows f) = line_comes x y ScriptRefused bytes s o f
+texts_come x y a b name journal told config tables script text s o is why r (built deeds t f) = absurd (none_read told script text t.lines is why r t.reads)
+texts_come x y a b name journal told config tables script text s o is why r (unbuilt (without never) none f) = absurd (cc)
+texts_come x y a b name journal told config tables script text s o is why r (unbuilt (with lines reads) none f) = absurd (none_read told script text lines is why r reads)
+texts_come x y a b name journal told config tables script text s o is why r (unchecked memory same) = inr (inr (inr (inr (ap code_of memory))))
+
+script_comes : (contents : List ℕ → Told) (x y : ℕ) (a b name : List ℕ) (journal : Bool) (config : Config) (tables : List TableDef) (text : List ℕ) (s : Status) (o : Outside) → contents name ≡ content text → IsRefusedScript text
+    → ScriptStageEnds contents x y (Play a b name journal) config tables s o → RefusesScript x y (code_of s) o
+script_comes contents x y a b name journal config tables text s o is why (script_unread e) = unread_comes x y s o e
+script_comes contents x y a b name journal config tables text s o is why (script_read script r f) = texts_come x y a b name journal (contents name) config tables script text s o is why r f
+
+schema_comes : (contents : List ℕ → Told) (x y : ℕ) (a b name : List ℕ) (journal : Bool) (config : Config) (schema : Option (List ℕ)) (text : List ℕ) (s : Status) (o : Outside) → contents name ≡ content text → IsRefusedScript text
+    → SchemaEnds contents x y (Play a b name journal) config schema s o → RefusesScript x y (code_of s) o
+schema_comes contents x y a b name journal config schema text s o is why (schema_stands tables says e) = script_comes contents x y a b name journal config tables text s o is why e
+schema_comes contents x y a b name journal config schema text s o is why (schema_refused bytes cause rows e) = line_comes x y Refused bytes s o e
+schema_comes contents x y a b name journal config schema text s o is why (schema_unparsed memory same) = inr (inr (inr (inr (ap code_of memory))))
 
 rest_comes : (contents : List ℕ → Told) (x y : ℕ) (a b name : List ℕ) (journal : Bool) (config : Config) (text : List ℕ) (s : Status) (o : Outside) → contents name ≡ content text → IsRefusedScript text
     → RestEnds contents x y (Play a b name journal) config s o → RefusesScript x y (code_of s) o
-rest_comes contents x y a b name journal config text s o is why (unread_rest e) = unread_comes x y s o e
-rest_comes contents x y a b name journal config text s o is why (read_rest schema script d r f) = texts_come x y a b name journal (contents name) config schema script text s o is why r f
+rest_comes contents x y a b name journal config text s o is why (schema_unread e) = unread_comes x y s o e
+rest_comes contents x y a b name journal config text s o is why (schema_read schema r e) = schema_comes contents x y a b name journal config schema text s o is why e
 
 config_comes : (contents : List ℕ → Told) (x y : ℕ) (a b name : List ℕ) (journal : Bool) (got text : List ℕ) (s : Status) (o : Outside) → contents name ≡ content text → IsRefusedScript text
     → ConfigEnds contents x y (Play a b name journal) got s o → RefusesScript x y (code_of s) o

@@ -1,20 +1,22 @@
 -- What is read of a script, and whether that asks for what is built.
-use Rattle.std.proofs.Common.{◌≡◌, ℕ, ◌<◌, ◌≤◌, Bool, true, false, List, length, map, refl, sym, ap, ◌∙◌, subst}
-use Rattle.std.specs.Prelude.{Option, Some, None, Result, Ok, Err}
+use Rattle.std.proofs.Common.{◌≡◌, ℕ, ◌<◌, ◌≤◌, true, false, List, length, map, sym, ◌∙◌, subst}
+use Rattle.std.specs.Prelude.{Option, Some, None, Ok, Err}
 use Rattle.std.proofs.lemmas.Bool.{false≢true}
 use Rattle.pgproto.specs.Line.{Line, line_of}
 use Rattle.pgproto.specs.declared.line.ScriptLine.{ScriptLine}
 use Rattle.pgproto.specs.Script.{IsScript, IsBadAt, IfBadLine, IsScriptOr}
 use Rattle.pgproto.specs.declared.script.ScriptFault.{ScriptFault}
 use Rattle.pgproto.specs.declared.script.ScriptFault.TheVariants as scripts
-use Rattle.play.specs.Script.{Deed, AreDone, IsOneSession, IsSession}
+use Rattle.play.specs.Script.{Deed, IsSession}
 use Rattle.pool_command.specs.declared.command.Command.{Command}
 use Rattle.pool_command.specs.declared.command.Command.TheVariants.{Play, Generate, Serve}
 use Rattle.pool_config.specs.declared.config.Config.{Config}
 use Rattle.pool.specs.declared.scripts.ScriptStop.{ScriptStop}
 use Rattle.pool.specs.declared.scripts.ScriptStop.TheVariants.{TooLong, BadLine}
-use Rattle.pool.specs.Scripts.{IsAnswer, IsReadAs, IsReading, ScriptCause, SaysNoScript, bad_line, script_too_long, has_script, lines_in}
-use Rattle.pool.specs.Texts.{IsBuilt, is_plain, built_schema}
+use Rattle.pool.specs.Scripts.{IsAnswer, IsReading, ScriptCause, SaysNoScript, bad_line, script_too_long, has_script, lines_in}
+use Rattle.schema.specs.declared.catalogue.TableDef.{TableDef}
+use Rattle.pool.specs.Schemas.{built_tables}
+use Rattle.pool.specs.Texts.{IsBuilt, is_plain}
 
 -- one text has one reading
 pub reading : (script : Option (List ℕ)) (text : List ℕ) (lines : List Line) → script ≡ Some text → lines_in text ≤ 20000 → IsScript text lines → ((found : List Line) → IsScript text found → lines ≡ found) → IsReading script lines
@@ -24,20 +26,20 @@ reading script text lines some few says only = record {
 }
 
 -- a command without a script asks for what is not built
-pub none_without : (command : Command) (config : Config) (schema script : Option (List ℕ)) → has_script command ≡ false → (deeds : List Deed) → IsBuilt command config schema script deeds → ⊥
-none_without (Play x y z journal) config schema script none deeds b = absurd (false≢true (sym none))
-none_without (Generate x y number size) config schema script none deeds b = false≢true b.plain
-none_without (Serve x y) config schema script none deeds b = false≢true b.plain
+pub none_without : (command : Command) (config : Config) (tables : List TableDef) (script : Option (List ℕ)) → has_script command ≡ false → (deeds : List Deed) → IsBuilt command config tables script deeds → ⊥
+none_without (Play x y z journal) config tables script none deeds b = absurd (false≢true (sym none))
+none_without (Generate x y number size) config tables script none deeds b = false≢true b.plain
+none_without (Serve x y) config tables script none deeds b = false≢true b.plain
 
 -- what else is built, and that the lines are of one session
-abbrev pub Others : Command → Config → Option (List ℕ) → Type 0
-Others command config schema = (is_plain command ≡ true) × (((0 < length config.nodes) × (length config.nodes ≤ 3)) × (schema ≡ Some built_schema))
+abbrev pub Others : Command → Config → List TableDef → Type 0
+Others command config tables = (is_plain command ≡ true) × (((0 < length config.nodes) × (length config.nodes ≤ 3)) × (tables ≡ built_tables))
 
-pub others_of : (command : Command) (config : Config) (schema script : Option (List ℕ)) (deeds : List Deed) → IsBuilt command config schema script deeds → Others command config schema
-others_of command config schema script deeds b = (b.plain, ((b.some_backend, b.few_backends), b.schema_is))
+pub others_of : (command : Command) (config : Config) (tables : List TableDef) (script : Option (List ℕ)) (deeds : List Deed) → IsBuilt command config tables script deeds → Others command config tables
+others_of command config tables script deeds b = (b.plain, ((b.some_backend, b.few_backends), b.tables_are))
 
-pub session_of : (command : Command) (config : Config) (schema script : Option (List ℕ)) (lines : List Line) (deeds : List Deed) → IsReading script lines → IsBuilt command config schema script deeds → IsSession lines
-session_of command config schema script lines deeds r b = subst IsSession (sym (r.only b.lines b.reads)) (record { deeds = deeds; done = b.done; one = b.one })
+pub session_of : (command : Command) (config : Config) (tables : List TableDef) (script : Option (List ℕ)) (lines : List Line) (deeds : List Deed) → IsReading script lines → IsBuilt command config tables script deeds → IsSession lines
+session_of command config tables script lines deeds r b = subst IsSession (sym (r.only b.lines b.reads)) (record { deeds = deeds; done = b.done; one = b.one })
 
 -- the reader's answer, at each of its forms
 pub too_long_at : (command : Command) (script : Option (List ℕ)) (stop : ScriptStop) → stop ≡ TooLong → IsAnswer command script (Err stop) → ScriptCause command script script_too_long

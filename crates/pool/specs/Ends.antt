@@ -15,8 +15,12 @@ use Rattle.pool_config.specs.declared.fault.ConfigFault.{ConfigFault}
 use Rattle.pool_config.specs.Configuration.{IsConfiguration, IsFault}
 use Rattle.pool_config.specs.Printed.{shown}
 use Rattle.pool.specs.declared.status.Status.TheVariants.{Done, NoCommand, Refused, ScriptRefused, FilesFailed, SinkFailed, NoMemory, NotBuilt}
+use Rattle.schema.specs.declared.catalogue.TableDef.{TableDef}
 use Rattle.pool.specs.Status.{code_of}
-use Rattle.pool.specs.Scripts.{ScriptCause, Stands, IsRefusedScript, has_script}
+use Rattle.pool.specs.declared.schemas.SchemaStop.{SchemaStop}
+use Rattle.pool.specs.declared.schemas.SchemaStop.TheVariants as schemas
+use Rattle.pool.specs.Schemas.{IsSchemaRead, SchemaCause, schema_too_long, bad_schema_line}
+use Rattle.pool.specs.Scripts.{ScriptCause, Stands}
 use Rattle.pool.specs.Shelf.{HaveRows}
 use Rattle.pool.specs.Texts.{config_name, schema_name, IsRead, IsScriptRead, IsBuilt, line}
 
@@ -122,18 +126,28 @@ pub record Played (told : Told) (text : List ℕ) (o : Outside) : Type 0 where
   pub configured : IsConfiguration config_text config
   pub over : PlayedOver config text o
 
--- all texts of the command were read: the script is refused and nothing else is done, it is played, or it stands and asks for what is not built
-pub data TextsEnds (command : Command) (config : Config) (schema script : Option (List ℕ)) (status : Status) (o : Outside) : Type 0 where
-  refused : (bytes : List ℕ) → ScriptCause command script bytes → o.stores_after ≡ o.stores_before → RefusedEnds ScriptRefused bytes status o → TextsEnds command config schema script status o
-  built : (deeds : List Deed) → IsBuilt command config schema script deeds → ScriptEnds (length config.nodes) deeds status o → TextsEnds command config schema script status o
-  unbuilt : Stands command script → ((deeds : List Deed) → IsBuilt command config schema script deeds → ⊥) → UnbuiltEnds status o → TextsEnds command config schema script status o
-  unchecked : status ≡ NoMemory → o.has ≡ o.had → TextsEnds command config schema script status o
+-- all texts of the command were read, and the schema says these tables: the script is refused and nothing else is done, it is played, or it stands and asks for what is not built
+pub data TextsEnds (command : Command) (config : Config) (tables : List TableDef) (script : Option (List ℕ)) (status : Status) (o : Outside) : Type 0 where
+  refused : (bytes : List ℕ) → ScriptCause command script bytes → o.stores_after ≡ o.stores_before → RefusedEnds ScriptRefused bytes status o → TextsEnds command config tables script status o
+  built : (deeds : List Deed) → IsBuilt command config tables script deeds → ScriptEnds (length config.nodes) deeds status o → TextsEnds command config tables script status o
+  unbuilt : Stands command script → ((deeds : List Deed) → IsBuilt command config tables script deeds → ⊥) → UnbuiltEnds status o → TextsEnds command config tables script status o
+  unchecked : status ≡ NoMemory → o.has ≡ o.had → TextsEnds command config tables script status o
 
--- the configuration stands: the other texts of the command were read, or one was not
+-- the schema stands: the script was read, if the command has one, or it was not
+pub data ScriptStageEnds (contents : List ℕ → Told) (before after : ℕ) (command : Command) (config : Config) (tables : List TableDef) (status : Status) (o : Outside) : Type 0 where
+  script_unread : UnreadEnds before after status o → ScriptStageEnds contents before after command config tables status o
+  script_read : (script : Option (List ℕ)) → IsScriptRead contents command script → TextsEnds command config tables script status o → ScriptStageEnds contents before after command config tables status o
+
+-- the schema was read: it says these tables, or it is refused and nothing else is done
+pub data SchemaEnds (contents : List ℕ → Told) (before after : ℕ) (command : Command) (config : Config) (schema : Option (List ℕ)) (status : Status) (o : Outside) : Type 0 where
+  schema_stands : (tables : List TableDef) → IsSchemaRead schema tables → ScriptStageEnds contents before after command config tables status o → SchemaEnds contents before after command config schema status o
+  schema_refused : (bytes : List ℕ) → SchemaCause schema bytes → o.stores_after ≡ o.stores_before → RefusedEnds Refused bytes status o → SchemaEnds contents before after command config schema status o
+  schema_unparsed : status ≡ NoMemory → o.has ≡ o.had → SchemaEnds contents before after command config schema status o
+
+-- the configuration stands: the schema was read, or it was not
 pub data RestEnds (contents : List ℕ → Told) (before after : ℕ) (command : Command) (config : Config) (status : Status) (o : Outside) : Type 0 where
-  unread_rest : UnreadEnds before after status o → RestEnds contents before after command config status o
-  read_rest : (schema script : Option (List ℕ)) → IsRead (contents (schema_name command)) 262144 schema → IsScriptRead contents command script
-      → TextsEnds command config schema script status o → RestEnds contents before after command config status o
+  schema_unread : UnreadEnds before after status o → RestEnds contents before after command config status o
+  schema_read : (schema : Option (List ℕ)) → IsRead (contents (schema_name command)) 262144 schema → SchemaEnds contents before after command config schema status o → RestEnds contents before after command config status o
 
 -- the text says no configuration
 abbrev pub SaysNone : List ℕ → Type 0
@@ -173,12 +187,18 @@ pub data Cause (told : Told) (bytes : List ℕ) : Type 0 where
   too_long : IsLonger told 65536 → bytes ≡ config_too_long → Cause told bytes
   has_fault : (text : List ℕ) (fault : ConfigFault) → IsTold told text → IsFault text fault → SaysNone text → bytes ≡ fault_line fault → Cause told bytes
 
--- the configuration that the command names is refused, its line was written, and nothing else was done
-pub record ConfigRefused (words : List (List ℕ)) (contents : List ℕ → Told) (o : Outside) : Type 0 where
+-- why the status is 2, with the line that says it: the configuration is refused, or it stands and the schema is refused
+pub data RefusedCause (contents : List ℕ → Told) (command : Command) (bytes : List ℕ) : Type 0 where
+  by_config : Cause (contents (config_name command)) bytes → RefusedCause contents command bytes
+  by_schema : (text : List ℕ) (config : Config) (schema : Option (List ℕ)) → IsRead (contents (config_name command)) 65536 (Some text) → IsConfiguration text config
+      → IsRead (contents (schema_name command)) 262144 schema → SchemaCause schema bytes → RefusedCause contents command bytes
+
+-- a text that the command names is refused with status 2, its line was written, and nothing else was done
+pub record TextIsRefused (words : List (List ℕ)) (contents : List ℕ → Told) (o : Outside) : Type 0 where
   pub command : Command
   pub is : command_of words ≡ Some command
   pub bytes : List ℕ
-  pub cause : Cause (contents (config_name command)) bytes
+  pub cause : RefusedCause contents command bytes
   pub wrote : Appends o.had o.has bytes
   pub rows : o.stores_after ≡ o.stores_before
 
@@ -203,3 +223,9 @@ Says wanted ScriptRefused bytes old new before after = (wanted ≡ ScriptRefused
 Says wanted FilesFailed bytes old new before after = (wanted ≡ FilesFailed) × Appends old new bytes
 Says wanted NoMemory bytes old new before after = (wanted ≡ NoMemory) × Appends old new bytes
 Says wanted NotBuilt bytes old new before after = (wanted ≡ NotBuilt) × Appends old new bytes
+
+-- what the refusal of a schema comes to
+abbrev pub IsSchemaRefusal : SchemaStop → Status → Outside → Type 0
+IsSchemaRefusal schemas.TooLong status o = RefusedEnds Refused schema_too_long status o
+IsSchemaRefusal (schemas.BadLine n) status o = RefusedEnds Refused (bad_schema_line n) status o
+IsSchemaRefusal schemas.NoMemory status o = (status ≡ NoMemory) × (o.has ≡ o.had)

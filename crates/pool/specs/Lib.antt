@@ -1,4 +1,5 @@
 pub mod Status
+pub mod Schemas
 pub mod Scripts
 pub mod Texts
 pub mod Reading

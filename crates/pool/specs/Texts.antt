@@ -1,11 +1,13 @@
 -- The texts that a command names, what is read of them, and what is built.
-use Rattle.std.specs.Prelude.{◌≡◌, ◌<◌, ◌≤◌, ℕ, Bool, true, false, not, List, [], ◌∷◌, ◌++◌, Option, Some, None, length, codes}
+use Rattle.std.specs.Prelude.{◌≡◌, ◌<◌, ◌≤◌, ℕ, Bool, true, false, not, List, [], ◌∷◌, ◌++◌, Option, Some, None, length}
 use Rattle.pool_base.specs.Outside.{Told, IsTold, IsLonger}
 use Rattle.pgproto.specs.Line.{Line}
 use Rattle.play.specs.Script.{Deed, AreDone, IsOneSession}
 use Rattle.pool_command.specs.declared.command.Command.{Command}
 use Rattle.pool_command.specs.declared.command.Command.TheVariants.{Play, Generate, Serve}
 use Rattle.pool_config.specs.declared.config.Config.{Config}
+use Rattle.schema.specs.declared.catalogue.TableDef.{TableDef}
+use Rattle.pool.specs.Schemas.{built_tables}
 use Rattle.pool.specs.Scripts.{IsReadAs}
 
 -- the file of the configuration
@@ -40,16 +42,12 @@ is_plain (Play config schema script journal) = not journal
 is_plain (Generate config schema number size) = false
 is_plain (Serve config schema) = false
 
--- the schema of the table t
-unfoldable pub built_schema : List ℕ
-built_schema = line (codes "CREATE TABLE t (id int4 PRIMARY KEY, v int8);")
-
--- what is built is asked for: a script that has one session do this, over one to three backends with that schema, without the journal
-pub record IsBuilt (command : Command) (config : Config) (schema script : Option (List ℕ)) (deeds : List Deed) : Type 0 where
+-- what is built is asked for: a script that has one session do this, over one to three backends with these tables, without the journal
+pub record IsBuilt (command : Command) (config : Config) (tables : List TableDef) (script : Option (List ℕ)) (deeds : List Deed) : Type 0 where
   pub plain : is_plain command ≡ true
   pub some_backend : 0 < length config.nodes
   pub few_backends : length config.nodes ≤ 3
-  pub schema_is : schema ≡ Some built_schema
+  pub tables_are : tables ≡ built_tables
   pub lines : List Line
   pub reads : IsReadAs script lines
   pub done : AreDone lines deeds

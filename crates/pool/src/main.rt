@@ -3,6 +3,7 @@
 
 mod backends;
 mod running;
+mod schemas;
 mod scripts;
 mod shelf;
 mod status;

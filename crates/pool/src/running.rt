@@ -4,8 +4,9 @@ ghost use Rattle.std.specs.List.{AllByRecursion};
 ghost use Rattle.pgproto.specs.Line.{line_of};
 ghost use Rattle.pgproto.specs.Spelling.{IsOfGrammar};
 ghost use Rattle.play.specs.Script.{AreDone, Deed, IsSession};
+ghost use Rattle.pool.specs.Schemas.{bad_schema_line};
 ghost use Rattle.pool.specs.Scripts.{IsReading, bad_line};
-ghost use Rattle.pool.specs.Ends.{outside, CommandEnds, ConfigEnds, RefusedEnds, RestEnds, TextsEnds, ScriptEnds, Ends, Returns, Says, fault_line};
+ghost use Rattle.pool.specs.Ends.{outside, CommandEnds, ConfigEnds, RefusedEnds, RestEnds, SchemaEnds, IsSchemaRefusal, ScriptStageEnds, TextsEnds, ScriptEnds, Ends, Returns, Says, fault_line};
 ghost use Rattle.backend_trait.specs.Rows.{no_rows};
 ghost use Rattle.backend_trait.specs.Store.{Store};
 ghost use Rattle.session_core.specs.Statements.{primary_rows};
@@ -15,15 +16,17 @@ ghost use Rattle.pool.specs.declared.status.Status.TheVariants as status;
 ghost use Rattle.pool.specs.declared.status.Status.TheVariants.{Refused, ScriptRefused, SinkFailed};
 
 use crate::backends::Backends;
+use crate::schemas::{SchemaStop, bad_schema_line, read_tables};
 use crate::scripts::{ScriptStop, bad_line, read_lines};
 use crate::status::Status;
-use crate::texts::{Texts, are_built, fault_line, read_config, read_texts};
+use crate::texts::{are_built, fault_line, read_config, read_schema_text, read_script_text};
 use backend_trait::Backend;
 use pgproto::{Script, ScriptLine, lines_of_grammar};
 use play::{PlayFault, is_session, play};
-use pool_base::{Files, SessionId, Sink, write_all};
+use pool_base::{Files, List, SessionId, Sink, write_all};
 use pool_command::{Command, read_words};
 use pool_config::{Config, ConfigFault, parse_config};
+use schema::TableDef;
 use std::alloc::Global;
 use std::mem;
 use write_path::Chain;
@@ -156,9 +159,91 @@ fn run_rest<F: Files, O: Sink, B: Backend>(
         (O.fault_count out.old) (O.fault_count out.new) (O.taken out.old) (O.taken out.new)
         (map B.meaning shelf.old.items) (map B.meaning shelf.new.items)) }
 {
-    match read_texts(alloc, command, files) {
+    match read_schema_text(alloc, command, files) {
         Err(status) => status,
-        Ok(texts) => run_texts(alloc, command, config, &texts, out, shelf),
+        Ok(schema) => run_schema(alloc, command, config, &schema, files, out, shelf),
+    }
+}
+
+/// Goes on with the text of the schema.
+fn run_schema<F: Files, O: Sink, B: Backend>(
+    alloc: Global,
+    command: &Command,
+    config: &Config,
+    schema: &Option<List<u8>>,
+    files: &mut F,
+    out: &mut O,
+    shelf: &mut Vec<B>,
+) -> Status
+    requires short { IfSome schema.now (λ text. length text ≤ 262144) }
+    requires enough { 3 ≤ length shelf.old.items }
+    requires fresh { AreFresh B.meaning B.is_honest B.is_prompt B.is_steady shelf.old.items }
+    ensures { SchemaEnds (F.contents files.old) (F.fault_count files.old) (F.fault_count
+        files.new) command.now config.now schema.now result (outside
+        (O.fault_count out.old) (O.fault_count out.new) (O.taken out.old) (O.taken out.new)
+        (map B.meaning shelf.old.items) (map B.meaning shelf.new.items)) }
+{
+    match read_tables(alloc, schema) {
+        Err(stop) => refuse_schema(alloc, stop, out),
+        Ok(catalogue) => {
+            run_tables(
+                alloc,
+                command,
+                config,
+                catalogue.tables(),
+                files,
+                out,
+                shelf,
+            )
+        }
+    }
+}
+
+/// Writes why the schema is refused; want of memory is no fault of its text.
+fn refuse_schema<O: Sink>(alloc: Global, stop: SchemaStop, out: &mut O) -> Status
+    ensures { (stores : Sequence Store) → IsSchemaRefusal stop result (outside
+        (O.fault_count out.old) (O.fault_count out.new) (O.taken out.old) (O.taken out.new)
+        stores stores) }
+{
+    match stop {
+        SchemaStop::NoMemory => Status::NoMemory,
+        SchemaStop::TooLong => say(out, b"pool: schema is too long\n", Status::Refused),
+        SchemaStop::BadLine(number) => refuse_schema_line(alloc, number, out),
+    }
+}
+
+/// Writes which line of the schema is bad.
+fn refuse_schema_line<O: Sink>(alloc: Global, number: u32, out: &mut O) -> Status
+    ensures { (stores : Sequence Store) → RefusedEnds Refused (bad_schema_line number) result
+        (outside (O.fault_count out.old) (O.fault_count out.new) (O.taken out.old)
+        (O.taken out.new) stores stores) }
+{
+    match bad_schema_line(alloc, number) {
+        Err(_) => Status::NoMemory,
+        Ok(text) => say(out, text.as_bytes(), Status::Refused),
+    }
+}
+
+/// Goes on with the tables of the schema.
+fn run_tables<F: Files, O: Sink, B: Backend>(
+    alloc: Global,
+    command: &Command,
+    config: &Config,
+    tables: &[TableDef],
+    files: &mut F,
+    out: &mut O,
+    shelf: &mut Vec<B>,
+) -> Status
+    requires enough { 3 ≤ length shelf.old.items }
+    requires fresh { AreFresh B.meaning B.is_honest B.is_prompt B.is_steady shelf.old.items }
+    ensures { ScriptStageEnds (F.contents files.old) (F.fault_count files.old) (F.fault_count
+        files.new) command.now config.now tables.now result (outside
+        (O.fault_count out.old) (O.fault_count out.new) (O.taken out.old) (O.taken out.new)
+        (map B.meaning shelf.old.items) (map B.meaning shelf.new.items)) }
+{
+    match read_script_text(alloc, command, files) {
+        Err(status) => status,
+        Ok(script) => run_texts(alloc, command, config, tables, &script, out, shelf),
     }
 }
 
@@ -166,25 +251,26 @@ fn run_texts<O: Sink, B: Backend>(
     alloc: Global,
     command: &Command,
     config: &Config,
-    texts: &Texts,
+    tables: &[TableDef],
+    script: &Option<List<u8>>,
     out: &mut O,
     shelf: &mut Vec<B>,
 ) -> Status
-    requires short { IfSome texts.now.script (λ text. length text ≤ 4194304) }
+    requires short { IfSome script.now (λ text. length text ≤ 4194304) }
     requires enough { 3 ≤ length shelf.old.items }
     requires fresh { AreFresh B.meaning B.is_honest B.is_prompt B.is_steady shelf.old.items }
-    ensures { TextsEnds command.now config.now texts.now.schema texts.now.script result (outside
+    ensures { TextsEnds command.now config.now tables.now script.now result (outside
         (O.fault_count out.old) (O.fault_count out.new) (O.taken out.old) (O.taken out.new)
         (map B.meaning shelf.old.items) (map B.meaning shelf.new.items)) }
 {
-    match read_lines(alloc, command, &texts.script) {
+    match read_lines(alloc, command, script) {
         Err(ScriptStop::NoMemory) => Status::NoMemory,
         Err(ScriptStop::TooLong) => {
             say(out, b"pool: script is too long\n", Status::ScriptRefused)
         }
         Err(ScriptStop::BadLine(number)) => refuse_line(alloc, number, out),
         Ok(None) => say(out, b"pool: not built yet\n", Status::NotBuilt),
-        Ok(Some(lines)) => run_lines(alloc, command, config, texts, &lines, out, shelf),
+        Ok(Some(lines)) => run_lines(alloc, command, config, tables, script, &lines, out, shelf),
     }
 }
 
@@ -205,19 +291,20 @@ fn run_lines<O: Sink, B: Backend>(
     alloc: Global,
     command: &Command,
     config: &Config,
-    texts: &Texts,
+    tables: &[TableDef],
+    script: &Option<List<u8>>,
     lines: &Script,
     out: &mut O,
     shelf: &mut Vec<B>,
 ) -> Status
-    requires read { IsReading texts.now.script (map line_of lines.now) }
+    requires read { IsReading script.now (map line_of lines.now) }
     requires enough { 3 ≤ length shelf.old.items }
     requires fresh { AreFresh B.meaning B.is_honest B.is_prompt B.is_steady shelf.old.items }
-    ensures { TextsEnds command.now config.now texts.now.schema texts.now.script result (outside
+    ensures { TextsEnds command.now config.now tables.now script.now result (outside
         (O.fault_count out.old) (O.fault_count out.new) (O.taken out.old) (O.taken out.new)
         (map B.meaning shelf.old.items) (map B.meaning shelf.new.items)) }
 {
-    if are_built(command, config, &texts.schema) && is_session(lines.as_slice()) {
+    if are_built(command, config, tables) && is_session(lines.as_slice()) {
         lines_of_grammar();
         let count = config.nodes.len();
         run_script(alloc, lines.as_slice(), count, out, shelf)

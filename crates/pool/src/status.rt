@@ -9,7 +9,7 @@ pub enum Status {
     Done,
     /// The words are no command.
     NoCommand,
-    /// The configuration is refused.
+    /// The configuration or the schema is refused.
     Refused,
     /// The script is refused.
     ScriptRefused,

@@ -42,6 +42,16 @@ fn files(
     script: &str,
     fails: &[u64],
 ) -> Result<MemoryFiles, NoMemory> {
+    files_of(rt, config, SCHEMA, script, fails)
+}
+
+fn files_of(
+    rt: &impl AllocGlobal,
+    config: &str,
+    schema: &str,
+    script: &str,
+    fails: &[u64],
+) -> Result<MemoryFiles, NoMemory> {
     let alloc = rt.alloc();
     let mut names = List::new(alloc);
     for name in ["config", "schema", "script"] {
@@ -49,7 +59,7 @@ fn files(
     }
     let mut contents = List::new(alloc);
     contents.push(List::from_slice(alloc, config.as_bytes())?)?;
-    contents.push(List::from_slice(alloc, SCHEMA.as_bytes())?)?;
+    contents.push(List::from_slice(alloc, schema.as_bytes())?)?;
     contents.push(List::from_slice(alloc, script.as_bytes())?)?;
     let fails = List::from_slice(alloc, fails)?;
     Ok(MemoryFiles::new(names, contents, fails))
@@ -363,6 +373,101 @@ fn a_configuration_above_its_limit_is_refused(rt: HostRuntime) -> Result<(), Fai
         output.as_slice(),
         b"pool: configuration is too long\n".as_slice()
     );
+    Ok(())
+}
+
+/// Schemas that are refused, and the line that says why.
+const BAD_SCHEMAS: [(&str, &str); 4] = [
+    (
+        "CREATE TABLE t (\nid int4 PRIMARY KEY,\nv varchar\n);\n",
+        "pool: schema line 3: bad line\n",
+    ),
+    (
+        "CREATE TABLE t (id int4, v int8\n);\n",
+        "pool: schema line 2: bad line\n",
+    ),
+    (
+        "CREATE TABLE t (id int4 PRIMARY KEY, v int8)\n\n",
+        "pool: schema line 2: bad line\n",
+    ),
+    (
+        "-- none\nDROP TABLE t;\n",
+        "pool: schema line 2: bad line\n",
+    ),
+];
+
+#[test]
+fn refused_schemas_are_named(rt: HostRuntime) -> Result<(), Fail> {
+    for (schema, line) in BAD_SCHEMAS {
+        let files = files_of(&rt, CONFIG, schema, "session 1\n1 'Z'\n", &[])?;
+        let (code, output) = run(&rt, &PLAY, files, &[])?;
+        assert_eq!(rt; code, 2, "of {schema}");
+        assert_eq!(rt; output.as_slice(), line.as_bytes());
+    }
+    Ok(())
+}
+
+#[test]
+fn a_schema_is_refused_before_the_script_is_read(rt: HostRuntime) -> Result<(), Fail> {
+    let files = files_of(&rt, CONFIG, "CREATE", SCRIPT, &[5])?;
+    let (code, output) = run(&rt, &PLAY, files, &[])?;
+    assert_eq!(rt; code, 2);
+    assert_eq!(rt;
+        output.as_slice(),
+        b"pool: schema line 1: bad line\n".as_slice()
+    );
+    Ok(())
+}
+
+#[test]
+fn a_schema_above_its_limit_is_refused(rt: HostRuntime) -> Result<(), Fail> {
+    let mut schema = String::new(rt.alloc());
+    for _ in 0..13_000 {
+        schema.push_str("-- a line of comments\n")?;
+    }
+    let files = files_of(&rt, CONFIG, schema.as_str(), SCRIPT, &[])?;
+    let (code, output) = run(&rt, &PLAY, files, &[])?;
+    assert_eq!(rt; code, 2);
+    assert_eq!(rt; output.as_slice(), b"pool: schema is too long\n".as_slice());
+    Ok(())
+}
+
+/// Other spellings of the table that is built.
+const SPELLINGS: [&str; 3] = [
+    "CREATE TABLE t (id int4 PRIMARY KEY, v int8);",
+    "/* one */ create table \"t\" (\n  ID integer not null primary key,\n  V BIGINT\n) ; -- t\n",
+    "CREATE TABLE T(id int PRIMARY KEY NOT NULL,v int8);",
+];
+
+#[test]
+fn each_spelling_of_the_table_is_played(rt: HostRuntime) -> Result<(), Fail> {
+    for schema in SPELLINGS {
+        let files = files_of(&rt, CONFIG, schema, SCRIPT, &[])?;
+        let (code, output) = run(&rt, &PLAY, files, &[])?;
+        assert_eq!(rt; code, 0, "of {schema}");
+        assert_eq!(rt; output.as_slice(), TRANSCRIPT.as_bytes());
+    }
+    Ok(())
+}
+
+/// Schemas that stand and are not built.
+const OTHER_SCHEMAS: [&str; 6] = [
+    "",
+    "CREATE TABLE u (id int4 PRIMARY KEY, v int8);\n",
+    "CREATE TABLE t (id int4 PRIMARY KEY, v int4);\n",
+    "CREATE TABLE t (id int4 PRIMARY KEY, v int8 NOT NULL);\n",
+    "CREATE TABLE t (id int4 PRIMARY KEY, v int8 DEFAULT NULL);\n",
+    "CREATE TABLE t (id int4 PRIMARY KEY, v int8); CREATE TABLE u (id int4 PRIMARY KEY);\n",
+];
+
+#[test]
+fn other_schemas_are_not_built(rt: HostRuntime) -> Result<(), Fail> {
+    for schema in OTHER_SCHEMAS {
+        let files = files_of(&rt, CONFIG, schema, SCRIPT, &[])?;
+        let (code, output) = run(&rt, &PLAY, files, &[])?;
+        assert_eq!(rt; code, 9, "of {schema}");
+        assert_eq!(rt; output.as_slice(), b"pool: not built yet\n".as_slice());
+    }
     Ok(())
 }
 

@@ -1,13 +1,16 @@
 //! The texts that a command names, and what is built.
-ghost use Rattle.std.specs.Prelude.{◌≡◌, ◌<◌, ◌≤◌, ℕ, List as Sequence, Some, IsTrue, ◌↔◌, ◌++◌, IfOk, IfErr, IfSome, length, true, string_bytes};
-ghost use Rattle.pool.specs.Texts.{config_name, schema_name, is_plain, IsRead, IsScriptRead, built_schema};
+ghost use Rattle.std.specs.Prelude.{◌≡◌, ◌<◌, ◌≤◌, IsTrue, ◌↔◌, IfOk, IfErr, IfSome, length, true, string_bytes};
+ghost use Rattle.pool.specs.Texts.{config_name, schema_name, is_plain, IsRead, IsScriptRead};
+ghost use Rattle.pool.specs.Schemas.{built_tables};
 ghost use Rattle.pool.specs.Reading.{IsFault};
 ghost use Rattle.pool.specs.Ends.{fault_line};
 
+use crate::schemas::are_built_tables;
 use crate::status::Status;
 use pool_base::{Files, List, NoMemory, ReadFault, read_whole};
 use pool_command::Command;
 use pool_config::{Config, ConfigFault};
+use schema::TableDef;
 use std::alloc::Global;
 
 /// The limits of the texts, in bytes.
@@ -16,17 +19,6 @@ const CONFIG_LIMIT: usize = 65_536;
 const SCHEMA_LIMIT: usize = 262_144;
 
 const SCRIPT_LIMIT: usize = 4_194_304;
-
-/// The schema that is built: the table t.
-const SCHEMA: &str = "CREATE TABLE t (id int4 PRIMARY KEY, v int8);\n";
-
-/// The texts beside the configuration. None is a text above its limit, or the script of a command
-/// that has none.
-#[derive(Debug, Drop)]
-pub struct Texts {
-    pub schema: Option<List<u8>>,
-    pub script: Option<List<u8>>,
-}
 
 /// Reads the configuration's text.
 pub fn read_config<F: Files>(
@@ -43,25 +35,24 @@ pub fn read_config<F: Files>(
     read_text(alloc, files, config_name(command), CONFIG_LIMIT)
 }
 
-/// Reads the schema, and the script of a command that has one.
-pub fn read_texts<F: Files>(
+/// Reads the schema's text.
+pub fn read_schema_text<F: Files>(
     alloc: Global,
     command: &Command,
     files: &mut F,
-) -> Result<Texts, Status>
+) -> Result<Option<List<u8>>, Status>
     ensures read { IfOk result
-        (λ t. IsRead (F.contents files.old (schema_name command.now)) 262144 t.schema
-        × IsScriptRead (F.contents files.old) command.now t.script) }
-    ensures short { IfOk result (λ t. IfSome t.script (λ text. length text ≤ 4194304)) }
+        (λ text. IsRead (F.contents files.old (schema_name command.now)) 262144 text) }
+    ensures short { IfOk result (λ text. IfSome text (λ bytes. length bytes ≤ 262144)) }
+    ensures kept { F.contents files.new ≡ F.contents files.old }
+    ensures later { F.fault_count files.old ≤ F.fault_count files.new }
     ensures fault { IfErr result (IsFault (F.fault_count files.old) (F.fault_count files.new)) }
 {
-    let schema = read_text(alloc, files, schema_name(command), SCHEMA_LIMIT)?;
-    let script = read_script_text(alloc, command, files)?;
-    Ok(Texts { schema, script })
+    read_text(alloc, files, schema_name(command), SCHEMA_LIMIT)
 }
 
 /// Reads the script, if the command has one.
-fn read_script_text<F: Files>(
+pub fn read_script_text<F: Files>(
     alloc: Global,
     command: &Command,
     files: &mut F,
@@ -123,14 +114,13 @@ pub fn fault_line(alloc: Global, fault: &ConfigFault) -> Result<String, NoMemory
     Ok(format!(in alloc; "pool: {fault}\n")?)
 }
 
-/// Whether the command, the configuration and the schema ask for what is built.
-#[tactic(auto, unfolding(crate::specs::Texts::built_schema))]
-pub fn are_built(command: &Command, config: &Config, schema: &Option<List<u8>>) -> bool
+/// Whether the command, the configuration and the tables ask for what is built.
+pub fn are_built(command: &Command, config: &Config, tables: &[TableDef]) -> bool
     ensures { IsTrue result ↔ ((is_plain command.now ≡ true)
         × (((0 < length config.now.nodes) × (length config.now.nodes ≤ 3))
-        × (schema.now ≡ Some built_schema))) }
+        × (tables.now ≡ built_tables))) }
 {
-    is_plain(command) && are_few(config.nodes.len()) && is_text(schema, SCHEMA.as_bytes())
+    is_plain(command) && are_few(config.nodes.len()) && are_built_tables(tables)
 }
 
 /// Whether so many backends are built: one to three.
@@ -147,14 +137,5 @@ fn is_plain(command: &Command) -> bool
     match command {
         Command::Play { journal, .. } => !*journal,
         Command::Generate { .. } | Command::Serve { .. } => false,
-    }
-}
-
-fn is_text(text: &Option<List<u8>>, wanted: &[u8]) -> bool
-    ensures { IsTrue result ↔ (text.now ≡ Some wanted.now) }
-{
-    match text {
-        Some(bytes) => bytes.as_slice() == wanted,
-        None => false,
     }
 }

@@ -5,9 +5,10 @@ ghost use Rattle.backend_trait.specs.Store.{blank};
 ghost use Rattle.pool_command.specs.Command.{command_of};
 ghost use Rattle.pool_command.specs.declared.command.Command.{Command};
 ghost use Rattle.pool_command.specs.declared.command.Command.TheVariants.{Play};
-ghost use Rattle.pool.specs.Texts.{config_name};
+ghost use Rattle.pool.specs.Texts.{config_name, schema_name};
+ghost use Rattle.pool.specs.Schemas.{IsRefusedSchema};
 ghost use Rattle.pool.specs.Scripts.{IsRefusedScript};
-ghost use Rattle.pool.specs.Ends.{outside, Returns, Played, ConfigRefused, IsRefusedText, ScriptIsRefused};
+ghost use Rattle.pool.specs.Ends.{outside, Returns, Played, TextIsRefused, IsRefusedText, ScriptIsRefused};
 
 use crate::running::run;
 use backend_trait::Backend;
@@ -49,23 +50,33 @@ pub fn pool_run<F: Files, O: Sink>(
     ensures no_command { result ≡ 1 → command_of (map (λ w. w.now) words.now) ≡ None }
     ensures always { command_of (map (λ w. w.now) words.now) ≡ None → (result ≡ 1) ⊎ (((result ≡ 5)
         × Rose (O.fault_count out.old) (O.fault_count out.new)) ⊎ (result ≡ 7)) }
-    // Status 2: exactly where the configuration that the command names is refused, unless it was
-    // not read, its line could not be written, or memory was refused.
-    ensures refused { result ≡ 2 → ConfigRefused (map (λ w. w.now) words.now)
+    // Status 2: exactly where the configuration that the command names is refused, or it stands and
+    // the schema is refused; unless a text was not read, its line could not be written, or memory
+    // was refused.
+    ensures refused { result ≡ 2 → TextIsRefused (map (λ w. w.now) words.now)
         (F.contents files.old) (outside (O.fault_count out.old) (O.fault_count out.new)
         (O.taken out.old) (O.taken out.new) (map (λ x. meaning x) shelf.old.items)
         (map (λ x. meaning x) shelf.new.items)) }
-    ensures accepted { result ≡ 2 → (command : Command) (text : Sequence ℕ)
+    ensures accepted { result ≡ 2 → (command : Command) (text schema : Sequence ℕ)
         → command_of (map (λ w. w.now) words.now) ≡ Some command
-        → F.contents files.old (config_name command) ≡ content text → IsRefusedText text }
+        → F.contents files.old (config_name command) ≡ content text
+        → F.contents files.old (schema_name command) ≡ content schema
+        → IsRefusedText text ⊎ IsRefusedSchema schema }
     ensures refuses { (command : Command) (text : Sequence ℕ)
         → command_of (map (λ w. w.now) words.now) ≡ Some command
         → F.contents files.old (config_name command) ≡ content text → IsRefusedText text
         → (result ≡ 2) ⊎ (((result ≡ 4) × Rose (F.fault_count files.old) (F.fault_count files.new))
         ⊎ (((result ≡ 5) × Rose (O.fault_count out.old) (O.fault_count out.new))
         ⊎ (result ≡ 7))) }
+    ensures schema_refuses { (command : Command) (text : Sequence ℕ)
+        → command_of (map (λ w. w.now) words.now) ≡ Some command
+        → F.contents files.old (schema_name command) ≡ content text → IsRefusedSchema text
+        → (result ≡ 2) ⊎ (((result ≡ 4) × Rose (F.fault_count files.old) (F.fault_count files.new))
+        ⊎ (((result ≡ 5) × Rose (O.fault_count out.old) (O.fault_count out.new))
+        ⊎ (result ≡ 7))) }
     // Status 3: exactly where the script that the command names is refused, unless the
-    // configuration is, a file was not read, its line could not be written, or memory was refused.
+    // configuration or the schema is, a file was not read, its line could not be written, or
+    // memory was refused.
     ensures script_refused { result ≡ 3 → ScriptIsRefused (map (λ w. w.now) words.now)
         (F.contents files.old) (outside (O.fault_count out.old) (O.fault_count out.new)
         (O.taken out.old) (O.taken out.new) (map (λ x. meaning x) shelf.old.items)

@@ -9,6 +9,7 @@ mod quoting;
 mod statement;
 mod writer;
 
+pub use quoting::{push_name, push_string};
 pub use statement::print_statement;
 
 #[cfg(test)]

@@ -1,13 +1,34 @@
 //! Texts in quotes, and names that need none.
 ghost use Rattle.std.specs.Prelude.{◌≡◌, ◌<◌, ◌++◌, OnOk, string_bytes};
 ghost use Rattle.std.specs.List.{flat_map, list_all};
-ghost use Rattle.sql_print.specs.Spelling.{begins_plain, goes_on_plain, in_quotes, inside, is_plain, is_reserved};
+ghost use Rattle.sql_print.specs.Spelling.{begins_plain, goes_on_plain, in_quotes, inside, is_plain, is_reserved, spelled, name, string};
 
 use pool_base::NoMemory;
 use sql_tokens::all_words;
 
+/// Adds a name, in double quotes where it is not plain.
+pub fn push_name(text: &str, onto: &mut String) -> Result<(), NoMemory>
+    ensures { OnOk result (string_bytes onto.new ≡ string_bytes onto.old
+        ++ spelled (name text.now)) }
+{
+    if is_plain(text.as_bytes()) {
+        onto.push_str(text)?;
+        Ok(())
+    } else {
+        push_quoted('"', text, onto)
+    }
+}
+
+/// Adds a string in its quotes.
+pub fn push_string(text: &str, onto: &mut String) -> Result<(), NoMemory>
+    ensures { OnOk result (string_bytes onto.new ≡ string_bytes onto.old
+        ++ spelled (string text.now)) }
+{
+    push_quoted('\'', text, onto)
+}
+
 /// A text in quotes, in which the quote is written twice.
-pub(crate) fn push_quoted(quote: char, text: &str, onto: &mut String) -> Result<(), NoMemory>
+fn push_quoted(quote: char, text: &str, onto: &mut String) -> Result<(), NoMemory>
     requires { quote < 128 }
     ensures { OnOk result (string_bytes onto.new ≡ string_bytes onto.old
         ++ in_quotes quote text.now) }
@@ -36,7 +57,7 @@ fn push_inside(quote: char, text: &str, onto: &mut String) -> Result<(), NoMemor
 }
 
 /// The name needs no quotes.
-pub(crate) fn is_plain(name: &[u8]) -> bool
+fn is_plain(name: &[u8]) -> bool
     ensures { result ≡ is_plain name.now }
 {
     match name {

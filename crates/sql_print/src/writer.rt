@@ -1,10 +1,10 @@
 //! A text to which tokens are added, each in its one spelling.
 ghost use Rattle.std.specs.Prelude.{◌≡◌, ◌++◌, ◌∷◌, [], ◌||◌, Bool, map, OnOk, IfOk, if◌then◌else◌, string_bytes, true, false};
 ghost use Rattle.std.specs.Char.{to_ascii_uppercase};
-ghost use Rattle.sql_print.specs.Spelling.{Lexeme, word, mark, sign, name, function, command, whole, string, param, mark_text, mark_holds, mark_clings, is_plain, in_quotes};
+ghost use Rattle.sql_print.specs.Spelling.{Lexeme, word, mark, sign, name, function, command, whole, string, param, mark_text, mark_holds, mark_clings};
 ghost use Rattle.sql_print.specs.Writing.{state, put, begun};
 
-use crate::quoting::{is_plain, push_quoted};
+use crate::quoting::{push_name, push_string};
 use pool_base::{NoMemory, Text};
 use sql_tokens::{Mark, Word};
 use std::alloc::Global;
@@ -108,7 +108,7 @@ impl Writer {
         ensures { OnOk result (state self.new ≡ put (state self.old) (string given.now)) }
     {
         push_gap(self.held, false, &mut self.text)?;
-        push_quoted('\'', given, &mut self.text)?;
+        push_string(given, &mut self.text)?;
         self.held = false;
         Ok(())
     }
@@ -142,18 +142,6 @@ fn push_upper(text: &str, onto: &mut String) -> Result<(), NoMemory>
     upper.make_ascii_uppercase();
     onto.push_str(upper.as_str())?;
     Ok(())
-}
-
-fn push_name(text: &str, onto: &mut String) -> Result<(), NoMemory>
-    ensures { OnOk result (string_bytes onto.new ≡ string_bytes onto.old
-        ++ (if is_plain text.now then text.now else in_quotes 34 text.now)) }
-{
-    if is_plain(text.as_bytes()) {
-        onto.push_str(text)?;
-        Ok(())
-    } else {
-        push_quoted('"', text, onto)
-    }
 }
 
 fn mark_text(mark: Mark) -> &'static str

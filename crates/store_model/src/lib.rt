@@ -1,12 +1,10 @@
-//! A store written out from its definitions, with which the store in memory is compared, and its
-//! histories.
+//! A judge of what a store tells at a poll: it asks the plain program of the definitions. The
+//! histories over which it judges the store in memory are tests.
 #![tactic(auto)]
 
-mod ask;
-mod plain;
+mod judge;
 
-pub use ask::{Ask, Told};
-pub use plain::PlainStore;
+pub use judge::is_right;
 
 #[cfg(test)]
 mod tests;

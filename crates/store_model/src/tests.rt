@@ -1,3 +1,4 @@
+mod ask;
 mod both;
 mod histories;
 mod random;

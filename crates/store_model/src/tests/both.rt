@@ -1,11 +1,11 @@
-//! The store in memory and the plain one, side by side.
-ghost use Rattle.std.specs.Prelude.{◌≤◌};
-
-use super::step::{Deed, Failure, Step};
-use crate::{Ask, PlainStore, Told};
+//! The store in memory, and the plain store that judges what it tells.
+use super::ask::{Ask, Told};
+use super::step::{Deed, Failure, Seen, Step};
+use crate::is_right;
 use backend_trait::{Answer, Backend, Checked, Polled, Posted, Request, Row};
 use model_store::MemoryStore;
 use pg_values::Value;
+use plain_store::{Database, may_post};
 use pool_base::{Code, List, NoMemory, SessionId};
 use std::alloc::Global;
 
@@ -69,110 +69,122 @@ fn told_by(polled: &Polled) -> Told {
 #[derive(Drop)]
 pub struct Both {
     memory: MemoryStore,
-    plain: PlainStore,
+    plain: Database,
 }
 
 impl Both {
     /// Two stores without rows.
-    pub fn new(alloc: Global, sessions: usize) -> Result<Both, NoMemory>
-        requires { sessions ≤ 64 }
-    {
+    pub fn new(alloc: Global) -> Result<Both, NoMemory> {
         Ok(Both {
             memory: MemoryStore::new(alloc)?,
-            plain: PlainStore::new(alloc, sessions + 1)?,
+            plain: Database::new(alloc)?,
         })
     }
 
-    /// The session asks. Whether each store lets it.
-    fn post(&mut self, session: u32, ask: Ask) -> Result<(bool, bool), NoMemory> {
-        let plain_may = self.plain.may_post(session as usize, ask);
-        if plain_may {
-            self.plain.post(session as usize, ask);
-        }
-        let Some(s) = SessionId::from_number(session) else {
-            return Ok((false, plain_may));
-        };
+    /// The session asks. Whether the store in memory lets it, and whether both agree on that.
+    fn post(&mut self, s: SessionId, ask: Ask) -> Result<(bool, bool), NoMemory> {
         let request = request_of(ask);
+        let plain_may = may_post(&self.plain, s, &request);
         if !self.memory.may_post(s, &request) {
-            return Ok((false, plain_may));
+            return Ok((false, !plain_may));
         }
         match self.memory.post(s, request) {
-            Posted::Accepted => Ok((true, plain_may)),
-            Posted::NoMemory(_) => Err(NoMemory),
+            Posted::Accepted => (),
+            Posted::NoMemory(_) => return Err(NoMemory),
         }
+        self.plain.post(s, request_of(ask));
+        Ok((true, plain_may))
     }
 
-    /// What each store tells the session.
-    fn poll(&mut self, session: u32) -> Result<(Told, Told), NoMemory> {
-        let by_plain = self.plain.poll(session as usize)?;
-        let Some(s) = SessionId::from_number(session) else {
-            return Ok((Told::Strange, by_plain));
+    /// What the store in memory tells the session, and whether that is right.
+    fn poll(self, s: SessionId) -> Result<(Both, Seen), NoMemory> {
+        let Both { mut memory, plain } = self;
+        if !memory.is_pending(s) {
+            let idle = Seen {
+                told: Told::Idle,
+                is_right: true,
+            };
+            return Ok((Both { memory, plain }, idle));
+        }
+        let polled = memory.poll(s);
+        let seen = Seen {
+            told: told_by(&polled),
+            is_right: is_right(&plain, s, &polled),
         };
-        if !self.memory.is_pending(s) {
-            return Ok((Told::Idle, by_plain));
-        }
-        Ok((told_by(&self.memory.poll(s)), by_plain))
+        let plain = acted(plain, s, &polled)?;
+        Ok((Both { memory, plain }, seen))
     }
 
-    /// What each store tells in a step.
-    pub fn told(&mut self, session: u32, deed: Deed) -> Result<(Told, Told), NoMemory> {
+    /// Both are lost.
+    fn lose(&mut self) -> Seen {
+        self.memory.lose();
+        self.plain.lose();
+        Seen {
+            told: Told::Lost,
+            is_right: true,
+        }
+    }
+
+    /// The session asks, and looks for its answer if it may.
+    fn ask(self, s: SessionId, ask: Ask, looks: bool) -> Result<(Both, Seen), NoMemory> {
+        let mut both = self;
+        let (may, agree) = both.post(s, ask)?;
+        if !may || !agree || !looks {
+            let told = if may { Told::Waits } else { Told::MayNot };
+            let seen = Seen {
+                told,
+                is_right: agree,
+            };
+            return Ok((both, seen));
+        }
+        both.poll(s)
+    }
+
+    /// What is told in a step.
+    pub fn told(self, s: SessionId, deed: Deed) -> Result<(Both, Seen), NoMemory> {
         match deed {
             Deed::Lose => {
-                self.memory.lose();
-                self.plain.lose();
-                Ok((Told::Lost, Told::Lost))
+                let mut both = self;
+                let seen = both.lose();
+                Ok((both, seen))
             }
-            Deed::Look => self.poll(session),
-            Deed::Leave(ask) => {
-                let (memory, plain) = self.post(session, ask)?;
-                Ok((left(memory), left(plain)))
-            }
-            Deed::Ask(ask) => match self.post(session, ask)? {
-                (true, true) => self.poll(session),
-                (memory, plain) => Ok((left(memory), left(plain))),
-            },
+            Deed::Look => self.poll(s),
+            Deed::Leave(ask) => self.ask(s, ask, false),
+            Deed::Ask(ask) => self.ask(s, ask, true),
         }
-    }
-
-    /// Whether both have the same committed rows.
-    pub fn agree(&self) -> Result<bool, NoMemory> {
-        let rows = self.memory.rows_of(0)?;
-        let entries = self.plain.rows()?;
-        if rows.len() != entries.len() {
-            return Ok(false);
-        }
-        for (row, entry) in rows.as_slice().iter().zip(entries.iter()) {
-            if entry_of(row) != Some(*entry) {
-                return Ok(false);
-            }
-        }
-        Ok(true)
     }
 }
 
-/// What is told of a request that is left, or that may not be.
-fn left(may: bool) -> Told {
-    if may { Told::Waits } else { Told::MayNot }
+/// The plain store once the other has told that.
+fn acted(plain: Database, s: SessionId, polled: &Polled) -> Result<Database, NoMemory> {
+    match polled {
+        Polled::Answered(answer) => plain.acted(s, answer),
+        Polled::NotYet | Polled::Lost | Polled::NoMemory => Ok(plain),
+    }
 }
 
-/// Plays a history: the first step at which a store tells something else.
+/// Plays a history: the first step at which the store in memory tells something else than was
+/// expected, or what the plain store does not allow.
 pub fn failure(
     alloc: Global,
     history: &'static str,
     steps: &[Step],
 ) -> Result<Option<Failure>, NoMemory> {
-    let mut both = Both::new(alloc, 6)?;
+    let mut both = Both::new(alloc)?;
     let mut number = 0;
     for step in steps {
         number = u64::wrapping_add(number, 1);
-        let (by_memory_store, by_plain_store) = both.told(step.session, step.deed)?;
-        if by_memory_store != step.told || by_plain_store != step.told {
+        let Some(s) = SessionId::from_number(step.session) else {
+            return Err(NoMemory);
+        };
+        let (next, seen) = both.told(s, step.deed)?;
+        both = next;
+        if seen.told != step.told || !seen.is_right {
             return Ok(Some(Failure {
                 history,
                 number,
                 step: *step,
-                by_memory_store,
-                by_plain_store,
+                seen,
             }));
         }
     }

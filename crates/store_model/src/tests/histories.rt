@@ -1,11 +1,11 @@
 //! Histories of three to six sessions, worked out by hand from the rules of a store.
-use super::both::failure;
-use super::step::{Failure, Step, asks, is_lost, leaves, looks};
-use crate::Ask::{Begin, Commit, Insert, Lock, Rollback, Select};
-use crate::Told::{
+use super::ask::Ask::{Begin, Commit, Insert, Lock, Rollback, Select};
+use super::ask::Told::{
     Began, ChangedMeanwhile, Deadlock, Done, DuplicateKey, Inserted, Locked, Lost, MayNot, NoRow,
     Row, Waits,
 };
+use super::both::failure;
+use super::step::{Failure, Step, asks, is_lost, leaves, looks};
 use pool_base::NoMemory;
 use std::alloc::Global;
 

@@ -1,5 +1,5 @@
 //! Steps of histories, and what a history that fails says.
-use crate::{Ask, Told};
+use super::ask::{Ask, Told};
 
 /// What is done in a step.
 #[derive(Clone, Copy, Debug, PartialEq, Eq, Drop)]
@@ -58,13 +58,19 @@ pub fn is_lost() -> Step {
     }
 }
 
-/// The first step of a history at which a store tells something else.
+/// What the store in memory told in a step, and whether the plain store allows it.
+#[derive(Clone, Copy, Debug, PartialEq, Eq, Drop)]
+pub struct Seen {
+    pub told: Told,
+    pub is_right: bool,
+}
+
+/// The first step of a history at which something else was seen.
 #[derive(Clone, Copy, Debug, PartialEq, Eq, Drop)]
 pub struct Failure {
     pub history: &'static str,
     /// The number of the step, from 1 on.
     pub number: u64,
     pub step: Step,
-    pub by_memory_store: Told,
-    pub by_plain_store: Told,
+    pub seen: Seen,
 }

@@ -1,6 +1,5 @@
 use Rattle.std.proofs.Common.{◌≡◌, length, drop, ◌∙◌}
 use Rattle.std.proofs.lemmas.Result.{on_ok_weaker}
-use Rattle.backend_trait.specs.Alone.{rows_after}
 use Rattle.pool.proofs.Shelves.{rows_ran, backends_ran}
 use Rattle.pool.proofs.backends.run_over.Goals as goal
 

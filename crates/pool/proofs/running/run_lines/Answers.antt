@@ -25,7 +25,7 @@ returns-then-is_session g c =
     let stores = map g.B.Backend.meaning c.args.shelf.now.items in
     let is : IsSession (map line_of c.args.lines.now) = subst (λ (ls : List ScriptLine). IsSession (map line_of ls)) c.as_slice.ensures (c.is_session.ensures.0 c.if-is_session.true) in
     let ends : ℕ → Type 0 = λ n. ScriptEnds n is.deeds c.run_script.result (outside (count c.args.out.now) (count c.run_script.new.out) (taken c.args.out.now) (taken c.run_script.new.out) stores (map g.B.Backend.meaning c.run_script.new.shelf.items)) in
-    built is.deeds (is_built c.args.command.now c.args.config.now c.args.texts.now.schema c.args.texts.now.script (map line_of c.args.lines.now) (c.are_built.ensures.0 c.if-are_built.true) c.requires.read.reads is)
+    built is.deeds (is_built c.args.command.now c.args.config.now c.args.tables.now c.args.script.now (map line_of c.args.lines.now) (c.are_built.ensures.0 c.if-are_built.true) c.requires.read.reads is)
     (subst ends c.len-count.ensures (c.run_script.ensures is.deeds (subst (λ (ls : List ScriptLine). AreDone (map line_of ls) is.deeds) (sym c.as_slice-then-is_session.ensures) is.done)))
 
 pub returns-else-are_built : goal.returns-else-are_built
@@ -35,11 +35,11 @@ returns-else-are_built g c =
     let stores = map g.B.Backend.meaning c.args.shelf.now.items in
     let command = c.args.command.now in
     let config = c.args.config.now in
-    let schema = c.args.texts.now.schema in
-    let script = c.args.texts.now.script in
-    let none : (deeds : List Deed) → IsBuilt command config schema script deeds → ⊥ = elim c.else-are_built.branch [
+    let tables = c.args.tables.now in
+    let script = c.args.script.now in
+    let none : (deeds : List Deed) → IsBuilt command config tables script deeds → ⊥ = elim c.else-are_built.branch [
       | else-are_built-via-then-are_built+else-is_session w ↦ (λ deeds b. false≢true (sym w.if-is_session.false ∙ w.is_session.ensures.1
-          (subst (λ (ls : List ScriptLine). IsSession (map line_of ls)) (sym w.as_slice.ensures) (session_of command config schema script (map line_of c.args.lines.now) deeds c.requires.read b))))
-      | else-are_built-via-else-are_built w ↦ (λ deeds b. false≢true (sym w.if-are_built.false ∙ c.are_built.ensures.1 (others_of command config schema script deeds b)))
+          (subst (λ (ls : List ScriptLine). IsSession (map line_of ls)) (sym w.as_slice.ensures) (session_of command config tables script (map line_of c.args.lines.now) deeds c.requires.read b))))
+      | else-are_built-via-else-are_built w ↦ (λ deeds b. false≢true (sym w.if-are_built.false ∙ c.are_built.ensures.1 (others_of command config tables script deeds b)))
     ] in
     unbuilt (with (map line_of c.args.lines.now) c.requires.read.reads) none (said_unbuilt c.say.result (taken c.args.out.now) (taken c.say.new.out) (count c.args.out.now) (count c.say.new.out) stores stores c.say.ensures)

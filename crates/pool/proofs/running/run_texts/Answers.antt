@@ -10,12 +10,12 @@ returns-in-Err-TooLong g c =
     let taken = g.O.Sink.taken in
     let count = g.O.Sink.fault_count in
     let stores = map g.B.Backend.meaning c.args.shelf.now.items in
-    refused script_too_long (too_long_at c.args.command.now c.args.texts.now.script c.in-Err-TooLong.field-0 c.in-Err-TooLong.field-0-is c.in-Err-TooLong.ensures) refl
+    refused script_too_long (too_long_at c.args.command.now c.args.script.now c.in-Err-TooLong.field-0 c.in-Err-TooLong.field-0-is c.in-Err-TooLong.ensures) refl
     (said_script_refused c.say.result script_too_long (taken c.args.out.now) (taken c.say.new.out) (count c.args.out.now) (count c.say.new.out) stores stores c.say.ensures)
 
 pub returns-in-Err-BadLine : goal.returns-in-Err-BadLine
 returns-in-Err-BadLine g c =
-    refused (bad_line c.in-Err-BadLine.number) (bad_line_at c.args.command.now c.args.texts.now.script c.in-Err-BadLine.field-0 c.in-Err-BadLine.number c.in-Err-BadLine.field-0-is c.in-Err-BadLine.ensures) refl
+    refused (bad_line c.in-Err-BadLine.number) (bad_line_at c.args.command.now c.args.script.now c.in-Err-BadLine.field-0 c.in-Err-BadLine.number c.in-Err-BadLine.field-0-is c.in-Err-BadLine.ensures) refl
     (c.refuse_line.ensures (map g.B.Backend.meaning c.args.shelf.now.items))
 
 pub returns-in-Ok-None : goal.returns-in-Ok-None
@@ -24,7 +24,7 @@ returns-in-Ok-None g c =
     let count = g.O.Sink.fault_count in
     let stores = map g.B.Backend.meaning c.args.shelf.now.items in
     let command = c.args.command.now in
-    let script = c.args.texts.now.script in
+    let script = c.args.script.now in
     let has_none = none_at command script c.in-Ok-None.field-0 c.in-Ok-None.field-0-is c.in-Ok-None.ensures in
-    unbuilt (without has_none) (none_without command c.args.config.now c.args.texts.now.schema script has_none)
+    unbuilt (without has_none) (none_without command c.args.config.now c.args.tables.now script has_none)
     (said_unbuilt c.say-in-Ok-None.result (taken c.args.out.now) (taken c.say-in-Ok-None.new.out) (count c.args.out.now) (count c.say-in-Ok-None.new.out) stores stores c.say-in-Ok-None.ensures)

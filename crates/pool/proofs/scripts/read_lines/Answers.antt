@@ -1,5 +1,5 @@
-use Rattle.std.proofs.Common.{◌≡◌, ◌≤◌, ◌<◌, ℕ, List, map, refl, sym, subst}
-use Rattle.pgproto.specs.Line.{Line, line_of}
+use Rattle.std.proofs.Common.{◌≤◌, ◌<◌, ℕ, List, map, refl, sym, subst}
+use Rattle.pgproto.specs.Line.{line_of}
 use Rattle.pgproto.specs.Script.{IsScript, IsBadAt}
 use Rattle.pool.specs.Scripts.{SaysNoScript, lines_in, many_lines, has_bad_line}
 use Rattle.pool.proofs.ScriptReading.{reading, bad_at, none_of_bad}

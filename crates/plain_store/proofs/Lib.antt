@@ -1,0 +1,10 @@
+pub mod Telling
+pub mod SeenLaws
+pub mod HeldLaws
+pub mod CrossLaws
+pub mod AnswerLaws
+pub mod PostLaws
+pub mod BlankLaws
+pub mod WaitLaws
+pub mod StepLaws
+pub mod LawLemmas

@@ -1,0 +1,4 @@
+use Rattle.plain_store.proofs.crossing.+some_below.Given as goal
+
+abbrev pub decreases-some_below : goal.decreases-some_below
+decreases-some_below l = l.n

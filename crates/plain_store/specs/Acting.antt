@@ -1,0 +1,25 @@
+-- Where a store may give an answer, which of its requests are crossed, and what an answer leaves.
+use Rattle.std.specs.Prelude.{◌≡◌, ℕ, false, Option, Some, None}
+use Rattle.backend_trait.specs.declared.answer.Answer.{Answer}
+use Rattle.backend_trait.specs.Store.{Store, Pending, acted}
+use Rattle.backend_trait.specs.Acts.{MayAnswer, Crosses, MustWait, IsInCycle, WhereSome}
+
+-- it is not lost, a request of the session waits, and the table of answers allows it
+abbrev pub MayAct : Store → ℕ → Answer → Type 0
+MayAct st s answer = (st.lost ≡ false) × WhereSome (st.pending s) (λ p. MayAnswer st s p answer)
+
+-- another session crosses the request that waits, now
+abbrev pub IsCrossedNow : Store → ℕ → Type 0
+IsCrossedNow st s = WhereSome (st.pending s) (λ p. Crosses st s p.request)
+
+-- the request that waits has to wait on
+abbrev pub IsHeldUp : Store → ℕ → Type 0
+IsHeldUp st s = WhereSome (st.pending s) (λ p. MustWait st s p.request)
+
+-- an answer leaves what the table of answers says, where a request waits
+abbrev pub acted_by : Store → ℕ → Answer → Option Pending → Store
+acted_by st s answer None = st
+acted_by st s answer (Some p) = acted st s p.request answer
+
+abbrev pub acted_at : Store → ℕ → Answer → Store
+acted_at st s answer = acted_by st s answer (st.pending s)

@@ -1,0 +1,5 @@
+pub mod Acting
+pub mod Meaning
+pub mod Deciding
+pub mod Steps
+pub mod Blanks

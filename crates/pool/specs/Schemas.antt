@@ -1,0 +1,60 @@
+-- A schema's text: which tables it says, why it is refused, and the tables that are built.
+use Rattle.std.specs.Prelude.{◌≡◌, ◌<◌, ◌⊎◌, ℕ, Bool, true, false, List, [], ◌∷◌, ◌++◌, Option, Some, None, length, Result, Ok, Err, codes}
+use Rattle.std.specs.Fmt.{decimal}
+use Rattle.pg_values.specs.declared.col_type.ColType.TheVariants as kind
+use Rattle.pg_values.specs.declared.col_type.ColType.{ColType}
+use Rattle.schema.specs.declared.catalogue.ColumnDef.{ColumnDef}
+use Rattle.schema.specs.declared.catalogue.Fill.TheVariants.{Nothing}
+use Rattle.schema.specs.declared.catalogue.TableDef.{TableDef}
+use Rattle.schema.specs.Reading.{Says, IsFaulty}
+use Rattle.pool.specs.declared.schemas.SchemaStop.{SchemaStop}
+use Rattle.pool.specs.declared.schemas.SchemaStop.TheVariants.{TooLong, BadLine, NoMemory}
+
+-- the text that was read says these tables
+pub record IsSchemaRead (schema : Option (List ℕ)) (tables : List TableDef) : Type 0 where
+  pub text : List ℕ
+  pub is : schema ≡ Some text
+  pub says : Says text tables
+
+-- the text is no schema
+abbrev pub SaysNoTables : List ℕ → Type 0
+SaysNoTables text = (tables : List TableDef) → Says text tables → ⊥
+
+abbrev pub schema_too_long : List ℕ
+schema_too_long = codes "pool: schema is too long" ++ 10 ∷ []
+
+abbrev pub bad_schema_line : ℕ → List ℕ
+bad_schema_line n = codes "pool: schema line " ++ (decimal n ++ (codes ": bad line" ++ 10 ∷ []))
+
+-- why the schema is refused, with the line that says it: it is above its limit in bytes, or it is faulty in a line
+pub data SchemaCause (schema : Option (List ℕ)) (bytes : List ℕ) : Type 0 where
+  long_schema : schema ≡ None → bytes ≡ schema_too_long → SchemaCause schema bytes
+  has_faulty_line : (text : List ℕ) (n : ℕ) → schema ≡ Some text → IsFaulty text n → SaysNoTables text → bytes ≡ bad_schema_line n → SchemaCause schema bytes
+
+-- what the reader of a schema says of it
+abbrev pub IsSchemaAnswer : Option (List ℕ) → Result (List TableDef) SchemaStop → Type 0
+IsSchemaAnswer schema (Ok tables) = IsSchemaRead schema tables
+IsSchemaAnswer schema (Err TooLong) = SchemaCause schema schema_too_long
+IsSchemaAnswer schema (Err (BadLine n)) = SchemaCause schema (bad_schema_line n)
+IsSchemaAnswer schema (Err NoMemory) = Unit {0}
+
+-- a text that is refused as a schema: it is too long, or says no tables
+abbrev pub IsRefusedSchema : List ℕ → Type 0
+IsRefusedSchema text = (262144 < length text) ⊎ SaysNoTables text
+
+-- a column without a DEFAULT
+abbrev pub plain_column : List ℕ → ColType → Bool → ColumnDef
+plain_column name of not_null = record { name = name; kind = of; not_null = not_null; fill = Nothing }
+
+-- the table t
+abbrev pub built_table : TableDef
+built_table = record {
+  name = codes "t";
+  columns = plain_column (codes "id") kind.Int4 true ∷ plain_column (codes "v") kind.Int8 false ∷ [];
+  key = 0;
+  serial = None;
+}
+
+-- the tables that are built
+unfoldable pub built_tables : List TableDef
+built_tables = built_table ∷ []

@@ -1,0 +1,12 @@
+pub mod Steps
+pub mod Moments
+pub mod Ranges
+pub mod Runs
+pub mod Names
+pub mod Quoted
+pub mod Tokens
+pub mod Lexed
+pub mod Values
+pub mod Columns
+pub mod Tables
+pub mod Again
