@@ -41,7 +41,7 @@ fn first_attached(all: &[BackendId], attached: BackendSet) -> Option<BackendId>
 }
 
 /// The primary.
-pub(crate) fn lowest(attached: BackendSet) -> Option<BackendId>
+pub fn lowest(attached: BackendSet) -> Option<BackendId>
     ensures { result ≡ lowest attached.bits }
 {
     first_attached(&all_backends(), attached)
@@ -61,7 +61,7 @@ fn has_answered(heard: &[Heard], b: BackendId) -> bool
 }
 
 /// Whether an answer is a refusal.
-pub(crate) fn is_refusal(answer: &Answer) -> bool
+pub fn is_refusal(answer: &Answer) -> bool
     ensures { result ≡ is_refusal answer.now }
 {
     match answer {
@@ -122,7 +122,7 @@ fn is_stopped(kind: ChainKind, heard: &[Heard], primary: Option<BackendId>) -> b
 }
 
 /// Who is asked next. None: the chain is at its end.
-pub(crate) fn next_of(kind: ChainKind, attached: BackendSet, heard: &[Heard]) -> Option<BackendId>
+pub fn next_of(kind: ChainKind, attached: BackendSet, heard: &[Heard]) -> Option<BackendId>
     ensures { result ≡ next_of kind attached.bits heard.now }
 {
     if is_stopped(kind, heard, lowest(attached)) {
@@ -132,7 +132,7 @@ pub(crate) fn next_of(kind: ChainKind, attached: BackendSet, heard: &[Heard]) ->
 }
 
 /// Whether an answer counts.
-pub(crate) fn counts(attached: BackendSet, heard: &Heard) -> bool
+pub fn counts(attached: BackendSet, heard: &Heard) -> bool
     ensures { result ≡ counts attached.bits heard.now }
 {
     attached.has(heard.b)
@@ -176,8 +176,9 @@ fn are_no_larger(attached: BackendSet, all: &[Heard], size: usize, heard: &[Hear
     is_no_larger(attached, all, size, first) && are_no_larger(attached, all, size, others)
 }
 
+/// Whether an answer counts and is of a largest group.
 #[tactic(auto, unfolding(crate::specs::Answers::is_kept))]
-fn is_kept(attached: BackendSet, all: &[Heard], heard: &Heard) -> bool
+pub fn is_kept(attached: BackendSet, all: &[Heard], heard: &Heard) -> bool
     ensures { result ≡ is_kept attached.bits all.now heard.now }
 {
     counts(attached, heard)
@@ -198,20 +199,21 @@ fn kept_among<'a>(attached: BackendSet, all: &[Heard], heard: &'a [Heard]) -> Op
 }
 
 /// The kept answer.
-pub(crate) fn kept(attached: BackendSet, heard: &[Heard]) -> Option<&Heard>
+pub fn kept(attached: BackendSet, heard: &[Heard]) -> Option<&Heard>
     ensures { option_copied result ≡ kept attached.bits heard.now }
 {
     kept_among(attached, heard, heard)
 }
 
-fn is_other(attached: BackendSet, answer: &Answer, from: u8, heard: &Heard) -> bool
+/// Whether an answer that counts, of a backend from a number on, is another than this one.
+pub fn is_other(attached: BackendSet, answer: &Answer, from: u8, heard: &Heard) -> bool
     ensures { result ≡ is_other attached.bits answer.now from heard.now }
 {
     counts(attached, heard) && (from <= heard.b.number && !(heard.answer == *answer))
 }
 
 /// The first answer, from a number on, that is another than this one.
-pub(crate) fn first_other<'a>(
+pub fn first_other<'a>(
     attached: BackendSet,
     answer: &Answer,
     from: u8,
@@ -229,7 +231,7 @@ pub(crate) fn first_other<'a>(
 }
 
 /// Whether the chain goes on behind a judgement.
-pub(crate) fn goes_on(attached: BackendSet, heard: &[Heard], answer: &Answer) -> bool
+pub fn goes_on(attached: BackendSet, heard: &[Heard], answer: &Answer) -> bool
     ensures { result ≡ goes_on attached.bits heard.now answer.now }
 {
     !is_refusal(answer) && first_open(attached, heard).is_some()
@@ -246,7 +248,7 @@ fn turn_of(weights: &[u32], attached: BackendSet, ticket: u64, primary: BackendI
 }
 
 /// The backend that reads.
-pub(crate) fn reader(policy: &ReadPolicy, attached: BackendSet, ticket: u64) -> Option<BackendId>
+pub fn reader(policy: &ReadPolicy, attached: BackendSet, ticket: u64) -> Option<BackendId>
     ensures { result ≡ reader policy.now attached.bits ticket }
 {
     match lowest(attached) {

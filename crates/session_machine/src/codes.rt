@@ -7,35 +7,35 @@ ghost use Rattle.session_machine.specs.Codes.{in_a_block, outside_a_block, momen
 use pool_base::Code;
 
 /// A warning: BEGIN in a block.
-pub(crate) fn in_a_block() -> Code
+pub fn in_a_block() -> Code
     ensures { result ≡ in_a_block }
 {
     Code { bytes: *b"25001" }
 }
 
 /// A warning: COMMIT or ROLLBACK outside a block.
-pub(crate) fn outside_a_block() -> Code
+pub fn outside_a_block() -> Code
     ensures { result ≡ outside_a_block }
 {
     Code { bytes: *b"25P01" }
 }
 
 /// The transaction's moment cannot be written.
-pub(crate) fn moment_out_of_range() -> Code
+pub fn moment_out_of_range() -> Code
     ensures { result ≡ moment_out_of_range }
 {
     Code { bytes: *b"22008" }
 }
 
 /// The gate's counts are spent.
-pub(crate) fn counts_spent() -> Code
+pub fn counts_spent() -> Code
     ensures { result ≡ counts_spent }
 {
     Code { bytes: *b"54000" }
 }
 
 /// No backend is attached.
-pub(crate) fn no_backend() -> Code
+pub fn no_backend() -> Code
     ensures { result ≡ no_backend }
 {
     Code { bytes: *b"57P03" }

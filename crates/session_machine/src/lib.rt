@@ -1,30 +1,26 @@
-//! The machine of one session: what it is due to do, where each event leads it, and which event may
-//! happen. The plain program of its definitions.
+//! The machine of one session: its state, its events, and the definitions of what it is due to do,
+//! where each event leads it, and which event may happen.
 #![tactic(auto)]
 
 mod action;
 mod answers;
-mod call;
-mod chain;
 mod codes;
-mod event;
-mod form;
 mod machine;
-mod may;
-mod next;
 mod order;
-mod ordered;
 mod outcome;
+mod rules;
 mod status;
 
 pub use action::{Action, Cause, SessionEvent};
-pub use event::after;
+pub use answers::{
+    counts, first_other, goes_on, is_kept, is_other, is_refusal, kept, lowest, next_of, reader,
+};
+pub use codes::{counts_spent, in_a_block, moment_out_of_range, no_backend, outside_a_block};
 pub use machine::{Ending, GatePhase, Heard, Machine, Point, ReadPolicy, Session, Stage};
-pub use may::may_happen;
-pub use next::next_action;
 pub use order::{Class, Order, OrderBody, Verb, Work};
 pub use outcome::{Outcome, Tag};
+pub use rules::{
+    commit_outcome, done_with, is_moment, phase_changed, refusal_of, request_of, stage_posted,
+    tables_of, tag_of,
+};
 pub use status::Status;
-
-#[cfg(test)]
-mod tests;

@@ -1,5 +1,6 @@
 -- Which trees are of the grammar: the trees that texts of the grammar have.
 use Rattle.std.specs.Prelude.{◌≡◌, ◌⊎◌, ◌≤◌, ◌<◌, ℕ, ℤ, pos, negsuc, ◌≤ℤ◌, List, [], length, All, false, None, IfSome}
+use Rattle.std.specs.List.{AllByRecursion}
 use Rattle.sql_tree.specs.declared.expr.Expr.{Expr, Int, Null, Param, Minus}
 use Rattle.sql_tree.specs.declared.expr.Expr.TheOpen.{Expr-F}
 use Rattle.sql_tree.specs.declared.expr.Expr.TheFolds.{rec-Expr}
@@ -35,7 +36,7 @@ IsLiteral number = (pos 0 ≤ℤ number) ⊎ (number ≡ least)
 
 -- a list with all its parts of the grammar, and at least this many
 abbrev pub AreParts : {X : Type 0} → (X → Type 0) → ℕ → List X → Type 0
-AreParts IsPart least_count parts = (least_count ≤ length parts) × All IsPart parts
+AreParts IsPart least_count parts = (least_count ≤ length parts) × AllByRecursion IsPart parts
 
 -- one layer of an expression, where it is said of each part whether it is of the grammar
 abbrev pub IsLayer : {X P S : Type 0} → (X → Type 0) → (P → Type 0) → (S → Type 0) → Expr-F X P S → Type 0

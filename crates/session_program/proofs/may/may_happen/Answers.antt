@@ -1,8 +1,8 @@
 use Rattle.std.proofs.Common.{◌≡◌, Bool, subst, sym}
 use Rattle.session_machine.specs.Allowed.{MayHappen}
-use Rattle.session_machine.proofs.Same.{Tells}
-use Rattle.session_machine.proofs.Happening.{told}
-use Rattle.session_machine.proofs.may.may_happen.Goals as goal
+use Rattle.session_program.proofs.Same.{Tells}
+use Rattle.session_program.proofs.Happening.{told}
+use Rattle.session_program.proofs.may.may_happen.Goals as goal
 
 pub returns-clause-exactly : goal.returns-clause-exactly
 returns-clause-exactly c =

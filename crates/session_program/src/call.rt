@@ -2,16 +2,14 @@
 ghost use Rattle.std.specs.Prelude.{◌≡◌, IfOk, Some};
 ghost use Rattle.session_machine.specs.Rules.{ticket_of, counted_read, first_chosen, shown, snapshot_entered, snapshot_left, commit_entered, granted, called, lost_one, parted, parted_at, detached, primary};
 
-use crate::answers::first_other;
 use crate::chain::{
     begun, chosen, copied, due, ended, error_of, looked_at, primary, refused, split, started,
     stranded, stranded_in,
 };
-use crate::codes::counts_spent;
-use crate::machine::{GatePhase, Heard, Machine, Point, Session, Stage};
-use crate::order::Work;
-use crate::outcome::Outcome;
 use pool_base::{BackendId, BackendSet, GateAnswer, NoMemory};
+use session_machine::{
+    GatePhase, Heard, Machine, Outcome, Point, Session, Stage, Work, counts_spent, first_other,
+};
 
 fn ticket_of(session: &Session) -> u64
     ensures { result ≡ ticket_of session.now session.now.policy.per_statement }
@@ -78,7 +76,7 @@ fn commit_entered(session: Session, primary: Option<BackendId>) -> Machine
 }
 
 /// The session has the view of a call that was seen or granted.
-#[tactic(auto, unfolding(crate::specs::Rules::granted))]
+#[tactic(auto, unfolding(session_machine::specs::Rules::granted))]
 fn granted(mut session: Session, point: Point) -> Result<Machine, NoMemory>
     ensures { IfOk result (λ m. m ≡ granted session point) }
 {
@@ -107,22 +105,12 @@ fn granted(mut session: Session, point: Point) -> Result<Machine, NoMemory>
             session.gate = GatePhase::Out;
             ended(session, ending)
         }
-        Point::Resting => due(session, Point::Resting),
-        Point::PostDue(stage, b) => due(session, Point::PostDue(stage, b)),
-        Point::Waiting(stage, b) => due(session, Point::Waiting(stage, b)),
-        Point::LostDue(stage, b, before, after) => {
-            due(session, Point::LostDue(stage, b, before, after))
-        }
-        Point::SplitDue(stage, best, own, among, more) => {
-            due(session, Point::SplitDue(stage, best, own, among, more))
-        }
-        Point::ReplyDue(outcome) => due(session, Point::ReplyDue(outcome)),
-        Point::EndDue => due(session, Point::EndDue),
+        other => due(session, other),
     })
 }
 
 /// The gate's answer to the call that was due.
-#[tactic(auto, unfolding(crate::specs::Rules::called))]
+#[tactic(auto, unfolding(session_machine::specs::Rules::called))]
 pub(crate) fn called(
     mut session: Session,
     point: Point,
@@ -189,7 +177,7 @@ fn parted_at(session: Session, point: Point) -> Result<Machine, NoMemory>
 }
 
 /// The gate's answer to a detachment.
-#[tactic(auto, unfolding(crate::specs::Rules::detached))]
+#[tactic(auto, unfolding(session_machine::specs::Rules::detached))]
 pub(crate) fn detached(
     mut session: Session,
     point: Point,

@@ -2,13 +2,14 @@
 // The lists follow Pangea (VLDB 2009): snapshots and commits on all replicas between the gate's
 // calls, the primary first; the replies follow PostgreSQL's manual, "BEGIN", "COMMIT" and
 // "PostgreSQL Error Codes".
-use crate::{
-    Cause, Class, Machine, Order, OrderBody, Outcome, ReadPolicy, SessionEvent, Status, Tag, Verb,
-    Work, after, may_happen,
-};
+use crate::{after, may_happen};
 use backend_trait::{Answer, Checked, Request};
 use pool_base::{
     BackendId, BackendSet, Code, GateAnswer, GateCall, List, NoMemory, SessionId, Text, View,
+};
+use session_machine::{
+    Cause, Class, Machine, Order, OrderBody, Outcome, ReadPolicy, SessionEvent, Status, Tag, Verb,
+    Work,
 };
 use std::alloc::Global;
 

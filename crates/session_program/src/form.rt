@@ -2,9 +2,9 @@
 ghost use Rattle.std.specs.Prelude.{◌≡◌};
 ghost use Rattle.session_machine.specs.Deciding.{is_int4, is_int8, has_columns, have_columns, is_of_run, is_of_opening, is_of_lock, is_of_end, is_of_stage};
 
-use crate::machine::Stage;
 use backend_trait::{Answer, Checked, Row};
 use pg_values::Value;
+use session_machine::Stage;
 
 fn is_int4(value: &Value) -> bool
     ensures { result ≡ is_int4 value.now }

@@ -2,35 +2,11 @@
 ghost use Rattle.std.specs.Prelude.{◌≡◌, IfOk};
 ghost use Rattle.session_machine.specs.Rules.{action_at, next_action, request_of, tables_of};
 
-use crate::action::{Action, Cause};
-use crate::machine::{GatePhase, Machine, Point, Session, Stage};
 use backend_trait::Request;
 use pool_base::{GateCall, NoMemory};
-
-/// What a stage asks of a backend.
-pub(crate) fn request_of(stage: &Stage) -> Request
-    ensures { result ≡ request_of stage.now }
-{
-    match stage {
-        Stage::Opening(_) => Request::TakeSnapshot,
-        Stage::Reading(work, _) | Stage::Running(work) | Stage::Inserting(work, _) => {
-            Request::Run(work.statement)
-        }
-        Stage::Locking(_, table) => Request::Lock(*table),
-        Stage::Committing | Stage::Closing => Request::Commit,
-        Stage::RollingBack(_) => Request::Rollback,
-    }
-}
-
-/// The tables of the writes that have succeeded.
-pub(crate) fn tables_of(phase: GatePhase) -> u64
-    ensures { result ≡ tables_of phase }
-{
-    match phase {
-        GatePhase::Out | GatePhase::InSnapshot | GatePhase::InCommit => 0,
-        GatePhase::Live(_, tables) => tables,
-    }
-}
+use session_machine::{
+    Action, Cause, GatePhase, Machine, Point, Session, Stage, request_of, tables_of,
+};
 
 /// What is due at this point.
 fn action_at(session: &Session, point: &Point) -> Result<Action, NoMemory>

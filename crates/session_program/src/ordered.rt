@@ -3,20 +3,11 @@ ghost use Rattle.std.specs.Prelude.{◌≡◌, ◌↔◌, IsTrue, Some};
 ghost use Rattle.pg_values.specs.Range.{IsMoment};
 ghost use Rattle.session_machine.specs.Rules.{is_moment, moment_at, entering, stated_at, block_begun, committing, block_committed, rolled_back, block_rolled_back, settled, leaving, left_in, left, ordered};
 
-use crate::chain::{begun, done_with, due, error_of, idle, refused, started};
-use crate::codes::{in_a_block, moment_out_of_range, outside_a_block};
-use crate::machine::{Ending, GatePhase, Machine, Point, Session, Stage};
-use crate::order::{OrderBody, Work};
-use crate::outcome::{Outcome, Tag};
-use crate::status::Status;
-
-/// Whether a moment is of the years 1 to 9999.
-fn is_moment(moment: i64) -> bool
-    ensures is { result ≡ is_moment moment }
-    ensures means { IsTrue result ↔ IsMoment moment }
-{
-    -63_082_281_600_000_000 <= moment && moment <= 252_455_615_999_999_999
-}
+use crate::chain::{begun, due, error_of, idle, refused, started};
+use session_machine::{
+    Ending, GatePhase, Machine, OrderBody, Outcome, Point, Session, Stage, Status, Tag, Work,
+    done_with, in_a_block, is_moment, moment_out_of_range, outside_a_block,
+};
 
 /// The moment of the transaction.
 fn moment_at(session: &Session, ordered: i64) -> i64
@@ -44,7 +35,7 @@ fn entering(session: Session, work: Work) -> Machine
 }
 
 /// A statement, with the moment of its transaction.
-#[tactic(auto, unfolding(crate::specs::Rules::stated_at))]
+#[tactic(auto, unfolding(session_machine::specs::Rules::stated_at))]
 fn stated_at(mut session: Session, moment: i64, work: Work) -> Machine
     ensures { result ≡ stated_at session moment work }
 {
@@ -56,7 +47,7 @@ fn stated_at(mut session: Session, moment: i64, work: Work) -> Machine
     entering(session, work)
 }
 
-#[tactic(auto, unfolding(crate::specs::Rules::block_begun))]
+#[tactic(auto, unfolding(session_machine::specs::Rules::block_begun))]
 fn block_begun(mut session: Session, moment: i64) -> Machine
     ensures { result ≡ block_begun session moment session.status }
 {
@@ -94,7 +85,7 @@ fn committing(session: Session, outcome: Outcome) -> Machine
     }
 }
 
-#[tactic(auto, unfolding(crate::specs::Rules::block_committed))]
+#[tactic(auto, unfolding(session_machine::specs::Rules::block_committed))]
 fn block_committed(session: Session) -> Machine
     ensures { result ≡ block_committed session session.status }
 {
@@ -123,7 +114,7 @@ fn rolled_back(session: Session) -> Machine
     }
 }
 
-#[tactic(auto, unfolding(crate::specs::Rules::block_rolled_back))]
+#[tactic(auto, unfolding(session_machine::specs::Rules::block_rolled_back))]
 fn block_rolled_back(session: Session) -> Machine
     ensures { result ≡ block_rolled_back session session.status }
 {
@@ -140,7 +131,7 @@ fn block_rolled_back(session: Session) -> Machine
     }
 }
 
-#[tactic(auto, unfolding(crate::specs::Rules::settled))]
+#[tactic(auto, unfolding(session_machine::specs::Rules::settled))]
 fn settled(session: Session) -> Machine
     ensures { result ≡ settled session session.status }
 {
@@ -179,7 +170,7 @@ fn left_in(session: Session, stage: &Stage) -> Machine
     }
 }
 
-#[tactic(auto, unfolding(crate::specs::Rules::left))]
+#[tactic(auto, unfolding(session_machine::specs::Rules::left))]
 fn left(session: Session, point: &Point) -> Machine
     ensures { result ≡ left session point.now }
 {
@@ -204,7 +195,7 @@ fn left(session: Session, point: &Point) -> Machine
 }
 
 /// An order.
-#[tactic(auto, unfolding(crate::specs::Rules::ordered))]
+#[tactic(auto, unfolding(session_machine::specs::Rules::ordered))]
 pub(crate) fn ordered(session: Session, point: &Point, moment: i64, body: OrderBody) -> Machine
     ensures { result ≡ ordered session point.now moment body }
 {

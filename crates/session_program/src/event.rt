@@ -1,25 +1,13 @@
 //! Where an event leads.
 ghost use Rattle.std.specs.Prelude.{◌≡◌, IfOk};
-ghost use Rattle.session_machine.specs.Rules.{after, after_at, faulted, posted, stage_posted, taken, new_machine};
+ghost use Rattle.session_machine.specs.Rules.{after, after_at, faulted, posted, taken, new_machine};
 
-use crate::action::SessionEvent;
 use crate::call::{called, detached};
 use crate::chain::due;
-use crate::machine::{Heard, Machine, Point, Session, Stage};
-use crate::order::Order;
 use crate::ordered::ordered;
 use backend_trait::Answer;
 use pool_base::{BackendId, NoMemory};
-
-/// From its first post on a serial insert is under way.
-fn stage_posted(stage: Stage) -> Stage
-    ensures { result ≡ stage_posted stage }
-{
-    match stage {
-        Stage::Inserting(work, _) => Stage::Inserting(work, true),
-        other => other,
-    }
-}
+use session_machine::{Heard, Machine, Order, Point, Session, SessionEvent, stage_posted};
 
 fn posted(session: Session, point: Point) -> Machine
     ensures { result ≡ posted session point }
@@ -80,7 +68,7 @@ fn restarted(session: Session, _point: Point) -> Machine
     Machine::new(alloc, session.id, session.policy)
 }
 
-#[tactic(auto, unfolding(crate::specs::Rules::after_at))]
+#[tactic(auto, unfolding(session_machine::specs::Rules::after_at))]
 fn after_at(session: Session, point: Point, event: SessionEvent) -> Result<Machine, NoMemory>
     ensures { IfOk result (λ m. m ≡ after_at session point event) }
 {

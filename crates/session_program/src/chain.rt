@@ -3,14 +3,13 @@ ghost use Rattle.std.specs.Prelude.{◌≡◌, IfOk, Some};
 ghost use Rattle.session_machine.specs.Answers.{next_of};
 ghost use Rattle.session_machine.specs.Rules.{due, error_of, done_with, ended, released, begun, begun_at, begun_behind, primary, failing, refused, stranded, stranded_in, started, tag_of, phase_changed, ran, opened, locked, commit_outcome, idle, closed, decided, split, judged, asked, reading_at, chosen, read, looked, looked_at};
 
-use crate::answers::{counts, first_other, goes_on, kept, lowest, next_of, reader};
-use crate::codes::no_backend;
-use crate::machine::{Ending, GatePhase, Heard, Machine, Point, Session, Stage};
-use crate::order::{Class, Verb, Work};
-use crate::outcome::{Outcome, Tag};
-use crate::status::Status;
 use backend_trait::Answer;
 use pool_base::{BackendId, BackendSet, Code, NoMemory, Text};
+use session_machine::{
+    Class, Ending, GatePhase, Heard, Machine, Outcome, Point, Session, Stage, Status, Tag, Verb,
+    Work, commit_outcome, counts, done_with, first_other, goes_on, kept, lowest, next_of,
+    no_backend, phase_changed, reader, refusal_of, tag_of,
+};
 use write_path::ChainKind;
 
 pub(crate) fn due(session: Session, point: Point) -> Machine
@@ -35,12 +34,6 @@ pub(crate) fn error_of(session: &Session, code: Code) -> Outcome
         code,
         name: Text::from_string(String::new(alloc)),
     }
-}
-
-pub(crate) fn done_with(tag: Tag) -> Outcome
-    ensures { result ≡ done_with tag }
-{
-    Outcome::Done { tag, warning: None }
 }
 
 /// The end of an order.
@@ -148,29 +141,6 @@ pub(crate) fn started(mut session: Session, work: Work) -> Machine
     }
 }
 
-fn tag_of(class: Class, count: u64) -> Tag
-    ensures { result ≡ tag_of class count }
-{
-    match class {
-        Class::Read | Class::LockingRead => Tag::Select(count),
-        Class::Write(Verb::Insert) | Class::SerialInsert(_) => Tag::Insert(count),
-        Class::Write(Verb::Update) => Tag::Update(count),
-        Class::Write(Verb::Delete) => Tag::Delete(count),
-    }
-}
-
-/// A write has succeeded.
-fn phase_changed(phase: GatePhase, more: u64) -> GatePhase
-    ensures { result ≡ phase_changed phase more }
-{
-    match phase {
-        GatePhase::Out => GatePhase::Out,
-        GatePhase::InSnapshot => GatePhase::InSnapshot,
-        GatePhase::Live(_, tables) => GatePhase::Live(true, tables | more),
-        GatePhase::InCommit => GatePhase::InCommit,
-    }
-}
-
 /// A statement has its answer.
 fn ran(behind: bool, mut session: Session, work: Work, answer: Answer) -> Machine
     ensures { result ≡ ran behind session work answer }
@@ -192,21 +162,6 @@ fn ran(behind: bool, mut session: Session, work: Work, answer: Answer) -> Machin
         Answer::Began | Answer::Locked | Answer::Done | Answer::Serial(_) => {
             due(session, Point::Resting)
         }
-    }
-}
-
-/// The code of a refusal.
-fn refusal_of(answer: &Answer) -> Option<Code>
-    ensures { result ≡ Rattle.session_machine.specs.Rules.refusal_of answer.now }
-{
-    match answer {
-        Answer::Refused(code) => Some(*code),
-        Answer::Began
-        | Answer::Rows(_)
-        | Answer::Count(_)
-        | Answer::Locked
-        | Answer::Done
-        | Answer::Serial(_) => None,
     }
 }
 
@@ -233,15 +188,6 @@ fn locked(behind: bool, session: Session, work: Work, refusal: Option<Code>) -> 
             let outcome = error_of(&session, code);
             refused(behind, session, outcome)
         }
-    }
-}
-
-fn commit_outcome(status: Status) -> Outcome
-    ensures { result ≡ commit_outcome status }
-{
-    match status {
-        Status::Idle => Outcome::Settled,
-        Status::InBlock | Status::Failed => done_with(Tag::Commit),
     }
 }
 
@@ -329,7 +275,7 @@ fn judged(session: Session, stage: Stage, best: Option<Heard>) -> Result<Machine
 }
 
 /// A chain at a Look.
-#[tactic(auto, unfolding(crate::specs::Rules::asked))]
+#[tactic(auto, unfolding(session_machine::specs::Rules::asked))]
 fn asked(session: Session, stage: Stage, next: Option<BackendId>) -> Result<Machine, NoMemory>
     ensures { IfOk result (λ m. m ≡ asked session stage next) }
 {

@@ -3,15 +3,13 @@ ghost use Rattle.std.specs.Prelude.{◌≡◌, ◌↔◌, IsTrue};
 ghost use Rattle.session_machine.specs.Allowed.{MayHappen, is_resting, is_out, fits, may_stop, may_leave, fits_at_rest, may_order, is_seen, is_granted, is_granted_or_spent, is_seen_or_granted, answers_call};
 ghost use Rattle.session_machine.specs.Deciding.{call_at, is_call, is_post_due, is_waiting_for, is_fault, is_difference, is_detach_due, is_reply_due, is_end_due, has_form, rose, happens};
 
-use crate::action::{Cause, SessionEvent};
 use crate::form::is_of_stage;
-use crate::machine::{GatePhase, Machine, Point, Session, Stage};
-use crate::next::{request_of, tables_of};
-use crate::order::OrderBody;
-use crate::outcome::Outcome;
-use crate::status::Status;
 use backend_trait::{Answer, Request};
 use pool_base::{BackendId, GateAnswer, GateCall};
+use session_machine::{
+    Cause, GatePhase, Machine, OrderBody, Outcome, Point, Session, SessionEvent, Stage, Status,
+    request_of, tables_of,
+};
 
 fn is_resting(point: &Point) -> bool
     ensures { result ≡ is_resting point.now }

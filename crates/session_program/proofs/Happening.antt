@@ -35,7 +35,7 @@ use Rattle.session_machine.specs.Rules.{action_at, request_of, tables_of}
 use Rattle.session_machine.specs.Allowed.{HasForm, MayHappen}
 use Rattle.session_machine.specs.Deciding.{call_at, is_call, is_post_due, is_waiting_for, is_detach_due, is_reply_due, is_end_due, is_int4, is_int8, has_columns, have_columns, is_of_run, is_of_opening, is_of_lock, is_of_end, is_of_stage, has_form, rose, happens}
 use Rattle.session_machine.proofs.Backends.{same_backend}
-use Rattle.session_machine.proofs.Same.{Tells, and_true, both_true, answer_told, request_told, outcome_told, status_told, call_told}
+use Rattle.session_program.proofs.Same.{Tells, and_true, both_true, answer_told, request_told, outcome_told, status_told, call_told}
 
 -- two facts by two tests
 both_told : (s t : Bool) (P Q : Type 0) → Tells s P → Tells t Q → Tells (s && t) (P × Q)
