@@ -1,26 +1,29 @@
 # Shortcuts for work on the code. The merge gate is ./test; nothing here replaces it.
 CRATES := $(shell sed -n 's/^\([a-z][a-z0-9_]*\).*:.*/\1/p' crates.txt)
 
+# stops where no crate is named
+crate = $(or $(C),$(error name a crate: make $@ C=pool_base))
+
 .PHONY: help check try fmt edits gate test index lint bench hooks clean
 help:            ## this list
 	@grep -hE '^[a-z]+:.*## ' $(MAKEFILE_LIST) | sed 's/:.*## /\t/'
 check:           ## prove one crate: make check C=pool_base
-	cd crates/$(C) && rt check
+	cd crates/$(crate) && rt check
 try:             ## run one crate's tests, with no proof: make try C=pool_base
-	cd crates/$(C) && rt try --test
+	cd crates/$(crate) && rt try --test
 fmt:             ## lay out every crate
 	@for c in $(CRATES); do (cd crates/$$c && rt fmt) || exit 1; done
 edits:           ## the must-fail edits: make edits C=pool_base
-	rt must-fail $(C)
+	rt must-fail $(crate)
 gate:            ## prove one crate and those below it for the gate: make gate C=pool_base
-	rt ci $(C)
+	rt ci $(crate)
 test:            ## everything that the merge runs
 	./test
 index:           ## public items with file and line: make index | grep -i sink
 	@scripts/index
 lint:            ## house rules that the gate does not know
 	@scripts/lint
-bench:           ## measure the messages or a store: make bench W=batches, make bench W='store 1000'
+bench:           ## measure messages, a store or texts of SQL: make bench W=1000, W='store 1000', W='sql 1000'
 	@scripts/bench $(W)
 hooks:           ## lay out the staged crates before each commit
 	git config core.hooksPath .githooks
