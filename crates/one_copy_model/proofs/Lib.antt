@@ -1,0 +1,5 @@
+pub mod Schedules
+pub mod MarkLaws
+pub mod InvariantLaws
+pub mod FollowingLaws
+pub mod LossLaws

@@ -1,0 +1,261 @@
+-- What holds at every moment of every schedule: named facts. "Here" is an attached backend, lost or not; "there" is the single run.
+use Rattle.std.specs.Prelude.{◌≡◌, ◌≢◌, ◌⊎◌, ℕ, zero, suc, ◌+◌, ◌<◌, ◌≤◌, Bool, true, false, ◌&&◌, ◌==◌, is_some, if◌then◌else◌, List, [], ◌∷◌, Option, Some, None}
+use Rattle.std.specs.FinMap as fin
+use Rattle.pool_base.specs.Sets.{has}
+use Rattle.pool_base.specs.declared.code.Code.{Code}
+use Rattle.pool_base.specs.declared.backend_id.BackendId.{BackendId}
+use Rattle.backend_trait.specs.declared.request.Request.{Request}
+use Rattle.backend_trait.specs.declared.request.Request.TheVariants as requests
+use Rattle.backend_trait.specs.declared.answer.Answer.{Answer}
+use Rattle.backend_trait.specs.declared.answer.Answer.TheVariants as answers
+use Rattle.backend_trait.specs.Keys.{Place}
+use Rattle.backend_trait.specs.Rows.{no_changes}
+use Rattle.backend_trait.specs.Effect.{Conflicts}
+use Rattle.backend_trait.specs.Store.{Live, Absent, Alive, Pending, Store, held_by}
+use Rattle.backend_trait.specs.Acts.{MayAnswer, IsOf}
+use Rattle.session_machine.specs.declared.order.Class.TheVariants as classes
+use Rattle.session_machine.specs.declared.outcome.Outcome.{Outcome}
+use Rattle.session_machine.specs.declared.machine.GatePhase.{GatePhase}
+use Rattle.session_machine.specs.declared.machine.GatePhase.TheVariants as phases
+use Rattle.session_machine.specs.declared.machine.Ending.TheVariants as endings
+use Rattle.session_machine.specs.declared.machine.Stage.{Stage}
+use Rattle.session_machine.specs.declared.machine.Stage.TheVariants.{Opening, Reading, Running, Locking, Inserting, Committing, Closing, RollingBack}
+use Rattle.session_machine.specs.declared.machine.Point.{Point}
+use Rattle.session_machine.specs.declared.machine.Point.TheVariants.{Resting, EnterDue, Waiting, ChooseDue, ShowDue, LeaveSnapshotDue, UnwindDue, EnterCommitDue, LeaveCommitDue, FinishDue, ReplyDue, EndDue}
+use Rattle.session_machine.specs.declared.machine.Machine.{Machine}
+use Rattle.session_machine.specs.Rules.{request_of}
+use Rattle.one_copy_model.specs.declared.deed.Deed.TheVariants.{Asks, Gets}
+use Rattle.one_copy_model.specs.declared.deed.Entry.{Entry}
+use Rattle.one_copy_model.specs.SingleRun.{store_after, IsRun, is_fall}
+use Rattle.one_copy_model.specs.World.{World}
+use Rattle.one_copy_model.specs.Places.{asks_of}
+use Rattle.one_copy_model.specs.Deaths.{is_live, is_alive, stage_at, answer_from, recorded}
+use Rattle.one_copy_model.specs.declared.event.Event.{Event}
+use Rattle.one_copy_model.specs.Tracking.{Told, Tracked, single, tracked_after}
+use Rattle.one_copy_model.specs.Replies.{IsRight}
+use Rattle.one_copy_model.specs.Standing.{Leaving, Stands, standing_of, leaving_of}
+
+abbrev pub IsHere : World → ℕ → Type 0
+IsHere w b = has w.gate.attached.bits b ≡ true
+
+-- The gate's counts.
+
+abbrev pub count_below : (ℕ → Bool) → ℕ → ℕ
+count_below p zero = 0
+count_below p (suc n) = count_below p n + (if p n then 1 else 0)
+
+abbrev pub in_snapshot : GatePhase → Bool
+in_snapshot phases.InSnapshot = true
+in_snapshot phase = false
+
+abbrev pub in_commit : GatePhase → Bool
+in_commit phases.InCommit = true
+in_commit phase = false
+
+abbrev pub in_transaction : GatePhase → Bool
+in_transaction phases.Out = false
+in_transaction phases.InSnapshot = false
+in_transaction (phases.Live changed tables) = true
+in_transaction phases.InCommit = true
+
+pub record Counted (w : World) : Type 0 where
+  pub snaps : w.gate.snaps ≡ count_below (λ s. in_snapshot (w.machine s).session.gate) 65
+  pub commits : w.gate.commits ≡ count_below (λ s. in_commit (w.machine s).session.gate) 65
+  pub live : w.gate.live ≡ count_below (λ s. in_transaction (w.machine s).session.gate) 65
+  pub apart : (w.gate.snaps ≡ 0) ⊎ (w.gate.commits ≡ 0)
+  pub quiet : w.gate.quiet ≡ 3 → (w.gate.snaps ≡ 0) × (w.gate.live ≡ 0)
+
+-- A number that no session has is at rest everywhere.
+
+abbrev pub IsStranger : ℕ → Type 0
+IsStranger s = (s ≡ 0) ⊎ (65 ≤ s)
+
+pub record IsAtRest (t : Tracked) (s : ℕ) : Type 0 where
+  pub point : (t.world.machine s).point ≡ Resting
+  pub out : (t.world.machine s).session.gate ≡ phases.Out
+  pub asks : (b : ℕ) → (t.world.store b).pending s ≡ None
+  pub none : (b : ℕ) → (t.world.store b).transaction s ≡ Absent
+  pub told : (b : ℕ) → t.world.mail s b ≡ None
+  pub none_there : (single t).transaction s ≡ Absent
+
+-- Inside: what is under way fits where the session stands at the gate.
+
+abbrev pub fits_stage : Stage → GatePhase → Bool
+fits_stage (Opening work) phase = in_snapshot phase
+fits_stage (Reading work ticket) (phases.Live changed tables) = true
+fits_stage (Running work) (phases.Live changed tables) = true
+fits_stage (Locking work table) (phases.Live changed tables) = true
+fits_stage (Inserting work posted) (phases.Live changed tables) = true
+fits_stage Committing phase = in_commit phase
+fits_stage Closing (phases.Live false tables) = true
+fits_stage (RollingBack ending) phases.InSnapshot = true
+fits_stage (RollingBack ending) (phases.Live changed tables) = true
+fits_stage stage phase = false
+
+abbrev pub fits_point : Point → GatePhase → Bool
+fits_point (EnterDue work) phases.Out = true
+fits_point (ChooseDue work) (phases.Live changed tables) = true
+fits_point (LeaveSnapshotDue work) phase = in_snapshot phase
+fits_point (UnwindDue ending) phase = in_snapshot phase
+fits_point EnterCommitDue (phases.Live true tables) = true
+fits_point (LeaveCommitDue ending) phase = in_commit phase
+fits_point (FinishDue ending) (phases.Live changed tables) = true
+fits_point EndDue phases.Out = true
+fits_point Resting phases.Out = true
+fits_point Resting (phases.Live changed tables) = true
+fits_point ShowDue phases.Out = true
+fits_point ShowDue (phases.Live changed tables) = true
+fits_point (ReplyDue outcome) phases.Out = true
+fits_point (ReplyDue outcome) (phases.Live changed tables) = true
+fits_point point phase = false
+
+abbrev pub FitsPoint : Option Stage → Point → GatePhase → Type 0
+FitsPoint (Some stage) point phase = fits_stage stage phase ≡ true
+FitsPoint None point phase = fits_point point phase ≡ true
+
+-- The line: what waits at a backend, and an answer that was not taken, are of the request that the session waits for there.
+
+pub record IsInLine (m : Machine) (b : ℕ) (request : Request) : Type 0 where
+  pub stage : Stage
+  pub at : BackendId
+  pub waits : m.point ≡ Waiting stage at
+  pub number : at.number ≡ b
+  pub asks : request ≡ request_of stage
+
+pub record HasLine (w : World) (s b : ℕ) : Type 0 where
+  pub asked : (p : Pending) → (w.store b).lost ≡ false → (w.store b).pending s ≡ Some p → IsInLine (w.machine s) b p.request
+  pub untold : (p : Pending) → (w.store b).pending s ≡ Some p → w.mail s b ≡ None
+  pub told : (answer : Answer) → w.mail s b ≡ Some answer → (request : Request) × IsInLine (w.machine s) b request × IsOf request answer
+
+-- A store is sound: no two hold what conflicts, what is changed is held, and what is held is not stale.
+
+pub record IsSound (st : Store) : Type 0 where
+  pub apart : (s o : ℕ) → s ≢ o → ¬ (Conflicts (held_by (st.transaction s)) (held_by (st.transaction o)))
+  pub changed : (s : ℕ) (t : Live) (p : Place) → st.transaction s ≡ Alive t → is_some (fin.get t.changes p) ≡ true → t.held.places p ≡ true
+  pub fresh : (s : ℕ) (t : Live) (p : Place) → st.transaction s ≡ Alive t → t.held.places p ≡ true → t.stale p ≡ false
+
+-- A session leaves here with a change of a place: it has committed that there and not yet here.
+
+pub record Leaves (t : Tracked) (o b : ℕ) (p : Place) : Type 0 where
+  pub leaves : standing_of t.world o b ≡ Leaving
+  pub last : Live
+  pub was : leaving_of o t.history ≡ Alive last
+  pub changes : is_some (fin.get last.changes p) ≡ true
+
+-- Stale places, here and there.
+
+pub record KnowsStale (t : Tracked) (s b : ℕ) (l u : Live) (p : Place) : Type 0 where
+  pub here : u.stale p ≡ true → (l.stale p ≡ true) ⊎ ((o : ℕ) × Leaves t o b p)
+  pub there : l.stale p ≡ true → u.stale p ≡ true
+
+-- What waits there is the statement under way of a live transaction, and nothing else.
+
+abbrev pub asks_at : Stage → Option Request
+asks_at (Reading work ticket) = Some (asks_of work)
+asks_at (Running work) = Some (asks_of work)
+asks_at (Locking work table) = Some (asks_of work)
+asks_at (Inserting work posted) = Some (asks_of work)
+asks_at stage = None
+
+abbrev pub wants_of : Point → Option Stage → Option Request
+wants_of point (Some stage) = asks_at stage
+wants_of (ChooseDue work) None = Some (asks_of work)
+wants_of point None = None
+
+abbrev pub where_live : Bool → Option Request → Option Request
+where_live true asks = asks
+where_live false asks = None
+
+abbrev pub request_in : Option Pending → Option Request
+request_in None = None
+request_in (Some p) = Some p.request
+
+-- The code that a backend has given is one that the single run may give now, or could give at the session's latest death.
+
+abbrev pub MayCode : List Entry → ℕ → Code → Type 0
+MayCode history s code = (p : Pending) × ((store_after history).pending s ≡ Some p) × MayAnswer (store_after history) s p (answers.Refused code)
+
+abbrev pub AtDeathIf : Bool → ℕ → Code → List Entry → Type 0 → Type 0
+AtDeathIf true s code history before = MayCode history s code
+AtDeathIf false s code history before = before
+
+abbrev pub AtDeath : ℕ → Code → List Entry → Type 0
+AtDeath s code [] = ⊥
+AtDeath s code (e ∷ es) = AtDeathIf ((e.session == s) && is_fall e.deed) s code es (AtDeath s code es)
+
+-- a serial insert's run comes behind its lock there
+abbrev pub reached : Stage → ℕ → List Entry → List Entry
+reached (Inserting work posted) s history = recorded s (Gets answers.Locked ∷ Asks (requests.Run work.statement) ∷ []) history
+reached stage s history = history
+
+abbrev pub HasReason : Stage → ℕ → Code → List Entry → Type 0
+HasReason stage s code history = MayCode (reached stage s history) s code ⊎ AtDeath s code history
+
+-- Serial numbers: they differ only by the serial insert under way, which holds its table's lock wherever its run is to act.
+
+abbrev pub IsInsertingIn : Option Stage → ℕ → Type 0
+IsInsertingIn (Some (Inserting work true)) table = work.class ≡ classes.SerialInsert table
+IsInsertingIn stage table = ⊥
+
+pub record InsertsIn (w : World) (s table : ℕ) : Type 0 where
+  pub inserts : IsInsertingIn (stage_at (w.machine s).point) table
+  pub locked : (b : ℕ) → IsHere w b → answer_from w s b ≡ None → (held_by ((w.store b).transaction s)).tables table ≡ true
+
+-- The replies that are due.
+
+abbrev pub reply_in : Point → Option Outcome
+reply_in (ReplyDue outcome) = Some outcome
+reply_in (FinishDue (endings.Replies outcome)) = Some outcome
+reply_in (LeaveCommitDue (endings.Replies outcome)) = Some outcome
+reply_in point = None
+
+-- An order is under way exactly where the session does not rest.
+
+abbrev pub IsUnderWay : Point → Option Told → Type 0
+IsUnderWay Resting told = told ≡ None
+IsUnderWay point told = is_some told ≡ true
+
+-- The invariant.
+
+pub record Invariant (t : Tracked) : Type 0 where
+  pub counts : Counted t.world
+  pub strangers : (s : ℕ) → IsStranger s → IsAtRest t s
+  pub inside : (s : ℕ) → FitsPoint (stage_at (t.world.machine s).point) (t.world.machine s).point (t.world.machine s).session.gate
+  pub line : (s b : ℕ) → HasLine t.world s b
+  pub stands : (s b : ℕ) → IsHere t.world b
+      → Stands (single t) s (leaving_of s t.history) (standing_of t.world s b) ((t.world.store b).transaction s) ((single t).transaction s)
+  pub sound : (b : ℕ) → IsHere t.world b → IsSound (t.world.store b)
+  pub sound_there : IsSound (single t)
+  pub stale : (o s : ℕ) (p : Place) (last u : Live) → in_commit (t.world.machine o).session.gate ≡ true
+      → leaving_of o t.history ≡ Alive last → is_some (fin.get last.changes p) ≡ true
+      → (single t).transaction s ≡ Alive u → u.stale p ≡ true
+  pub stale_known : (s b : ℕ) (l u : Live) (p : Place) → IsHere t.world b
+      → (t.world.store b).transaction s ≡ Alive l → (single t).transaction s ≡ Alive u → KnowsStale t s b l u p
+  pub crossed_there : (s b : ℕ) (p q : Pending) → IsHere t.world b → (t.world.store b).lost ≡ false
+      → (t.world.store b).pending s ≡ Some p → (single t).pending s ≡ Some q → p.crossed ≡ true → q.crossed ≡ true
+  pub uncrossed : (s b lower : ℕ) (p : Pending) → IsHere t.world b → IsHere t.world lower → lower < b
+      → (t.world.store b).lost ≡ false → (t.world.store b).pending s ≡ Some p → p.crossed ≡ false
+  pub unchanged : (s : ℕ) (u : Live) (tables : ℕ) → (t.world.machine s).session.gate ≡ phases.Live false tables
+      → (single t).transaction s ≡ Alive u → u.changes ≡ no_changes
+  pub rows_same : (b : ℕ) (p : Place) → IsHere t.world b → ((o : ℕ) → ¬ (Leaves t o b p))
+      → fin.get (t.world.store b).rows p ≡ fin.get (single t).rows p
+  pub rows_left : (o b : ℕ) (p : Place) (last : Live) → IsHere t.world b → Leaves t o b p
+      → leaving_of o t.history ≡ Alive last → fin.get last.changes p ≡ Some (fin.get (single t).rows p)
+  pub numbers : (b table : ℕ) → IsHere t.world b
+      → ((t.world.store b).next table ≡ (single t).next table) ⊎ ((s : ℕ) × InsertsIn t.world s table)
+  pub alive : (s : ℕ) → is_live ((single t).transaction s) ≡ true → is_alive t.world s ≡ true
+  pub reasons : (s b : ℕ) (stage : Stage) (code : Code) → IsHere t.world b → stage_at (t.world.machine s).point ≡ Some stage
+      → is_some (asks_at stage) ≡ true → answer_from t.world s b ≡ Some (answers.Refused code) → HasReason stage s code t.history
+  pub run : IsRun t.history
+  pub posts : (s : ℕ) → request_in ((single t).pending s)
+      ≡ where_live (is_live ((single t).transaction s)) (wants_of (t.world.machine s).point (stage_at (t.world.machine s).point))
+  pub replies : (s : ℕ) (told : Told) (outcome : Outcome) → t.orders s ≡ Some told
+      → reply_in (t.world.machine s).point ≡ Some outcome → IsRight t s told outcome
+  pub orders : (s : ℕ) → IsUnderWay (t.world.machine s).point (t.orders s)
+  pub done_first : (s b : ℕ) (told : Told) → t.orders s ≡ Some told → told.entered ≡ true → IsHere t.world b
+      → standing_of t.world s b ≢ Leaving → t.done s b ≡ true
+
+-- it holds at every moment of a list of events
+abbrev pub AlwaysHolds : Tracked → List Event → Type 0
+AlwaysHolds t [] = Invariant t
+AlwaysHolds t (e ∷ es) = Invariant t × AlwaysHolds (tracked_after t e) es
