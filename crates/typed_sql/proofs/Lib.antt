@@ -1,0 +1,9 @@
+pub mod Columns
+pub mod Walking
+pub mod OwnForms
+pub mod KnownLemmas
+pub mod Forms
+pub mod Chains
+pub mod Faults
+pub mod Placed
+pub mod Layers

@@ -1,0 +1,5 @@
+pub mod Steps
+pub mod Places
+pub mod Own
+pub mod Typing
+pub mod Meaning
