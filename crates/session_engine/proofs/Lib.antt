@@ -1,0 +1,9 @@
+pub mod Ones
+pub mod Soundness
+pub mod Events
+pub mod Whole
+pub mod Calls
+pub mod Hands
+pub mod Committing
+pub mod Giving
+pub mod Tidying

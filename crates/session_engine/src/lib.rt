@@ -1,0 +1,21 @@
+//! The session machine that the product runs: each call takes what has taken place, and hands out
+//! what is due.
+#![tactic(auto)]
+
+mod answers;
+mod call;
+mod chain;
+mod choice;
+mod due;
+mod event;
+mod hand;
+mod laws;
+mod order;
+mod session;
+mod standing;
+
+pub use answers::Answers;
+pub use due::Due;
+pub use laws::{commit_wants_nothing, unread_answers_are_dropped, want_may_give_up};
+pub use session::Core;
+pub use standing::Standing;

@@ -1,0 +1,138 @@
+//! The core of one session.
+ghost use Rattle.std.specs.Prelude.{◌≡◌, ℤ, true, false, Ok, IfOk, IfErr, OnOk, OnErr};
+ghost use Rattle.std.specs.Result.{is_err};
+ghost use Rattle.backend_trait.specs.declared.request.Request.{Request};
+ghost use Rattle.session_machine.specs.declared.action.SessionEvent.TheVariants as events;
+ghost use Rattle.session_machine.specs.declared.order.OrderBody.TheVariants as orders;
+ghost use Rattle.session_engine.specs.Meaning.{machine_of};
+ghost use Rattle.session_engine.specs.Handing.{handed, gate_event, IsPost};
+ghost use Rattle.session_engine.specs.Sound.{IsSound, splits_select};
+
+use crate::standing::Standing;
+use backend_trait::Answer;
+use pool_base::{BackendId, GateAnswer, NoMemory, SessionId};
+use session_machine::{Action, Order, ReadPolicy};
+use std::alloc::Global;
+
+/// The machine of one session. Each call tells it what has taken place, and hands out what is due.
+///
+/// After: where a call answers want of memory, it has taken what it was told all the same; only
+/// what is due was not handed out, and `give_up` is the one call that is left.
+#[derive(Debug, Drop)]
+pub struct Core {
+    pub standing: Standing,
+    /// The last call answered want of memory.
+    pub must_give_up: bool,
+    ghost sound: { ∥ IsSound (machine_of standing) ∥₁ },
+}
+
+impl Core {
+    ghost use Rattle.session_machine.specs.Rules.{new_machine, after, next_action};
+    ghost use Rattle.session_machine.specs.Allowed.{MayHappen, may_leave};
+
+    /// A session at its start, with room for the answers of its chains.
+    pub fn new(alloc: Global, id: SessionId, policy: ReadPolicy) -> Result<Core, NoMemory>
+        ensures start { IfOk result (λ core. machine_of core.standing ≡ new_machine id policy) }
+        ensures goes_on { IfOk result (λ core. core.must_give_up ≡ false) }
+    {
+        Ok(Core {
+            standing: Standing::new(alloc, id, policy)?,
+            must_give_up: false,
+        })
+    }
+
+    /// Takes an order at rest. It wants no memory.
+    pub fn order(&mut self, order: Order) -> Result<Action, NoMemory>
+        requires going { self.old.must_give_up ≡ false }
+        requires may { MayHappen (machine_of self.old.standing) (events.Ordered order) }
+        ensures action { result ≡ Ok (next_action
+            (after (machine_of self.old.standing) (events.Ordered order))) }
+        ensures state { machine_of self.new.standing ≡ handed
+            (after (machine_of self.old.standing) (events.Ordered order)) }
+        ensures goes_on { self.new.must_give_up ≡ false }
+    {
+        self.standing.ordered(order);
+        self.standing.hand_out()
+    }
+
+    /// Takes the gate's answer to the call or to the detachment that was due.
+    pub fn gate_answer(&mut self, answer: GateAnswer) -> Result<Action, NoMemory>
+        requires going { self.old.must_give_up ≡ false }
+        requires may { MayHappen (machine_of self.old.standing)
+            (gate_event (next_action (machine_of self.old.standing)) answer) }
+        ensures action { IfOk result (λ action. action ≡ next_action
+            (after (machine_of self.old.standing)
+            (gate_event (next_action (machine_of self.old.standing)) answer))) }
+        ensures state { OnOk result (machine_of self.new.standing ≡ handed
+            (after (machine_of self.old.standing)
+            (gate_event (next_action (machine_of self.old.standing)) answer))) }
+
+        // Want of memory, with what was taken: it comes where answers to a SELECT differ.
+        ensures taken { OnErr result (machine_of self.new.standing ≡
+            after (machine_of self.old.standing)
+            (gate_event (next_action (machine_of self.old.standing)) answer)) }
+        ensures want { IfErr result (λ _. splits_select
+            (after (machine_of self.old.standing)
+            (gate_event (next_action (machine_of self.old.standing)) answer)).point ≡ true) }
+        ensures must { self.new.must_give_up ≡ is_err result }
+    {
+        self.standing.gate_answered(answer);
+        let action = self.standing.hand_out();
+        self.must_give_up = action.is_err();
+        action
+    }
+
+    /// The request that was due is posted.
+    pub fn posted(&mut self) -> Action
+        requires going { self.old.must_give_up ≡ false }
+        requires may { IsPost (next_action (machine_of self.old.standing)) }
+        ensures state { (b : BackendId) → (request : Request)
+            → machine_of self.new.standing ≡
+            after (machine_of self.old.standing) (events.Posted b request) }
+        ensures action { result ≡ next_action (machine_of self.new.standing) }
+        ensures goes_on { self.new.must_give_up ≡ false }
+    {
+        self.standing.posted()
+    }
+
+    /// Takes the answer of the backend that was waited for. It wants no memory.
+    pub fn backend_answer(&mut self, b: BackendId, answer: Answer) -> Result<Action, NoMemory>
+        requires going { self.old.must_give_up ≡ false }
+        requires may { MayHappen (machine_of self.old.standing) (events.Taken b answer) }
+        ensures state { machine_of self.new.standing ≡
+            after (machine_of self.old.standing) (events.Taken b answer) }
+        ensures action { result ≡ Ok (next_action (machine_of self.new.standing)) }
+        ensures goes_on { self.new.must_give_up ≡ false }
+    {
+        Ok(self.standing.taken(b, answer))
+    }
+
+    /// The backend that was waited for is lost: its count of faults before and after.
+    pub fn backend_lost(&mut self, b: BackendId, before: u64, after: u64) -> Action
+        requires going { self.old.must_give_up ≡ false }
+        requires may { MayHappen (machine_of self.old.standing) (events.Faulted b before after) }
+        ensures state { machine_of self.new.standing ≡
+            Rattle.session_machine.specs.Rules.after (machine_of self.old.standing)
+            (events.Faulted b before after) }
+        ensures action { result ≡ next_action (machine_of self.new.standing) }
+        ensures goes_on { self.new.must_give_up ≡ false }
+    {
+        self.standing.faulted(before, after)
+    }
+
+    /// The client is gone, wherever the session stands; no request may be pending.
+    pub fn give_up(&mut self) -> Action
+        requires { may_leave (machine_of self.old.standing).point ≡ true }
+        ensures action { (moment : ℤ) → result ≡ next_action
+            (after (machine_of self.old.standing)
+            (events.Ordered (record { moment = moment; body = orders.Leave }))) }
+        ensures state { (moment : ℤ) → machine_of self.new.standing ≡ handed
+            (after (machine_of self.old.standing)
+            (events.Ordered (record { moment = moment; body = orders.Leave }))) }
+        ensures goes_on { self.new.must_give_up ≡ false }
+    {
+        self.standing.left();
+        self.must_give_up = false;
+        self.standing.hand_out_end()
+    }
+}
