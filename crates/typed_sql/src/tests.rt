@@ -140,23 +140,44 @@ fn the_least_int4_is_a_literal_under_one_minus(rt: HostRuntime) -> Result<(), Fa
     Ok(())
 }
 
+/// The code of a comparison of a column with a string behind it.
+fn behind(alloc: Global, name: &str, given: &str) -> Result<[u8; 5], NoMemory> {
+    let both = equal(alloc, column(alloc, name)?, string(alloc, given)?)?;
+    Ok(code(alloc, asks_bool(), &both))
+}
+
+/// The code of a comparison of a string with a column behind it.
+fn before(alloc: Global, name: &str, given: &str) -> Result<[u8; 5], NoMemory> {
+    let both = equal(alloc, string(alloc, given)?, column(alloc, name)?)?;
+    Ok(code(alloc, asks_bool(), &both))
+}
+
+/// Names of columns, strings beside them, and the codes.
+const STRINGS: [(&str, &str, &[u8; 5]); 8] = [
+    ("id", "5", b"00000"),
+    ("id", "x", b"22P02"),
+    ("id", "99999999999", b"22003"),
+    ("v", "99999999999", b"00000"),
+    ("s", "x", b"00000"),
+    ("b", "maybe", b"22P02"),
+    ("m", "2024-02-30", b"22008"),
+    ("m", "soon", b"22007"),
+];
+
 #[test]
-fn a_string_takes_the_type_beside_it(rt: HostRuntime) -> Result<(), Fail> {
+fn a_string_takes_the_type_before_it(rt: HostRuntime) -> Result<(), Fail> {
     let alloc = rt.alloc();
-    for (name, given, wanted) in [
-        ("id", "5", b"00000"),
-        ("id", "x", b"22P02"),
-        ("id", "99999999999", b"22003"),
-        ("v", "99999999999", b"00000"),
-        ("s", "x", b"00000"),
-        ("b", "maybe", b"22P02"),
-        ("m", "2024-02-30", b"22008"),
-        ("m", "soon", b"22007"),
-    ] {
-        let behind = equal(alloc, column(alloc, name)?, string(alloc, given)?)?;
-        assert!(rt; code(alloc, asks_bool(), &behind) == *wanted);
-        let before = equal(alloc, string(alloc, given)?, column(alloc, name)?)?;
-        assert!(rt; code(alloc, asks_bool(), &before) == *wanted);
+    for (name, given, wanted) in STRINGS {
+        assert!(rt; behind(alloc, name, given)? == *wanted);
+    }
+    Ok(())
+}
+
+#[test]
+fn a_string_takes_the_type_behind_it(rt: HostRuntime) -> Result<(), Fail> {
+    let alloc = rt.alloc();
+    for (name, given, wanted) in STRINGS {
+        assert!(rt; before(alloc, name, given)? == *wanted);
     }
     Ok(())
 }
