@@ -1,6 +1,6 @@
 //! Reading a text, and counting its statements.
-ghost use Rattle.std.specs.Prelude.{◌≡◌, ◌<◌, ◌≤◌, ◌*◌, ◌^◌, length, IfOk};
-ghost use Rattle.sql_reader.specs.Text.{IsTextOf};
+ghost use Rattle.std.specs.Prelude.{◌≡◌, ◌<◌, ◌≤◌, ◌*◌, ◌^◌, length, IfOk, IfErr};
+ghost use Rattle.sql_reader.specs.Text.{IsTextOf, IsRefusedBy};
 
 use sql_reader::{SqlFault, read_statements};
 use std::alloc::Global;
@@ -12,6 +12,7 @@ fn read_once(alloc: Global, text: &str) -> Result<usize, SqlFault>
         × (count ≡ length all)) }
     ensures only { (all : _) → IsTextOf text.now all → IfOk result (λ count. count ≡ length all) }
     ensures few { IfOk result (λ count. count ≤ 256) }
+    ensures refused { IfErr result (IsRefusedBy text.now) }
 {
     let statements = read_statements(alloc, text)?;
     Ok(statements.len())
@@ -23,6 +24,8 @@ pub fn read_times(alloc: Global, text: &str, times: u32) -> Result<u64, SqlFault
     // It is a text of SQL where it was read at all, and each time as the same statements.
     ensures found { IfOk result (λ total. 0 < times → (all : _) × IsTextOf text.now all
         × (total ≡ times * length all)) }
+    // It is refused as the reader refuses it.
+    ensures refused { IfErr result (IsRefusedBy text.now) }
 {
     let mut total: u64 = 0;
     for done in 0..times {

@@ -3,7 +3,7 @@ ghost use Rattle.std.specs.Prelude.{◌≡◌, ◌<◌, ◌^◌, ◌⊎◌, ◌�
 ghost use Rattle.sql_tree.specs.Trees.{IsStatement};
 ghost use Rattle.sql_print.specs.Printed.{statement_text};
 ghost use Rattle.sql_reader.specs.declared.fault.SqlFault.TheVariants.{TooLong as Passed, NoMemory as Memory};
-ghost use Rattle.sql_reader.specs.Text.{IsTextOf, IsReadAs};
+ghost use Rattle.sql_reader.specs.Text.{IsTextOf, IsRefusedBy, IsReadAs};
 ghost use Rattle.sql_round.specs.Fits.{Fits};
 
 use pool_base::List;
@@ -14,6 +14,11 @@ use std::alloc::Global;
 
 /// The statements that the text of a statement is read as, by the reader of texts of SQL.
 pub fn statements_again(alloc: Global, statement: &Statement) -> Result<List<Statement>, SqlFault>
+    // What is given is what the statement's text is read as.
+    ensures found { IfOk result (IsTextOf (statement_text statement.now)) }
+    ensures refused { length (statement_text statement.now) < 2 ^ 32
+        → IfErr result (IsRefusedBy (statement_text statement.now)) }
+
     // It is that very statement alone, where it is of the grammar and a text can have its tokens.
     ensures same { IsStatement statement.now → Fits statement.now
         → IfOk result (λ all. all ≡ statement.now ∷ []) }

@@ -1,0 +1,5 @@
+mod Chains
+mod Forms
+mod Junctions
+mod Members
+mod Numbers

@@ -1,0 +1,5 @@
+pub mod Outcome
+pub mod Arithmetic
+pub mod Order
+pub mod Logic
+pub mod Meaning
