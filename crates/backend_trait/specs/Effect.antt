@@ -2,8 +2,8 @@
 use Rattle.std.specs.Prelude.{◌≡◌, ℕ, ℤ, Bool, true, false, ◌||◌, List, [], ◌∷◌, Option, Some, None, option_to_list, codes}
 use Rattle.std.specs.FinMap as fin
 use Rattle.pg_values.specs.declared.value.Value.TheVariants.{Int4, Int8}
-use Rattle.sql_profile.specs.declared.statement.Statement.{Statement}
-use Rattle.sql_profile.specs.declared.statement.Statement.TheVariants as statements
+use Rattle.played_sql.specs.declared.statement.Statement.{Statement}
+use Rattle.played_sql.specs.declared.statement.Statement.TheVariants as statements
 use Rattle.backend_trait.specs.declared.row.Row.{Row}
 use Rattle.backend_trait.specs.declared.checked.Checked.{Checked}
 use Rattle.backend_trait.specs.declared.checked.Checked.TheVariants.{Insert, Select}

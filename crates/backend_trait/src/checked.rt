@@ -2,7 +2,7 @@
 ghost use Rattle.std.specs.Prelude.{◌≡◌};
 ghost use Rattle.backend_trait.specs.Effect.{checked_of};
 
-use sql_profile::Statement;
+use played_sql::Statement;
 
 /// A statement that was checked against the schema: table 0 is `t (id int4, v int8)`.
 #[derive(Clone, Copy, Debug, PartialEq, Eq)]

@@ -1,5 +1,5 @@
 use super::*;
-use sql_profile::Statement;
+use played_sql::Statement;
 
 #[test]
 fn a_statement_is_checked(rt: HostRuntime) {

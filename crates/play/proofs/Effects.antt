@@ -13,9 +13,9 @@ use Rattle.std.proofs.lemmas.List.{length-append}
 use Rattle.std.proofs.lemmas.List.Elements.{All-nil, All-cons}
 use Rattle.std.proofs.lemmas.Fmt.{length_signed_le}
 use Rattle.pool_base.specs.declared.code.Code.{Code}
-use Rattle.sql_profile.specs.declared.statement.Statement.{Statement}
-use Rattle.sql_profile.specs.declared.statement.Statement.TheVariants as statements
-use Rattle.sql_profile.specs.Grammar.{Spells}
+use Rattle.played_sql.specs.declared.statement.Statement.{Statement}
+use Rattle.played_sql.specs.declared.statement.Statement.TheVariants as statements
+use Rattle.played_sql.specs.Grammar.{Spells}
 use Rattle.backend_trait.specs.declared.row.Row.{Row}
 use Rattle.backend_trait.specs.declared.answer.Answer.{Answer}
 use Rattle.backend_trait.specs.declared.answer.Answer.TheVariants as answers

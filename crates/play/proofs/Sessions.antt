@@ -3,9 +3,9 @@ use Rattle.std.proofs.Common.{◌≡◌, ℕ, ◌≤◌, ◌-◌, Bool, true, fa
 use Rattle.std.proofs.lemmas.List.{take_all}
 use Rattle.std.specs.Prelude.{Option, Some, None, ◌==◌}
 use Rattle.std.proofs.lemmas.Bool.{false≢true}
-use Rattle.sql_profile.specs.Grammar.{Spells}
-use Rattle.sql_profile.specs.declared.statement.Statement.{Statement}
-use Rattle.sql_profile.specs.declared.statement.Statement.TheVariants.{Insert, Select}
+use Rattle.played_sql.specs.Grammar.{Spells}
+use Rattle.played_sql.specs.declared.statement.Statement.{Statement}
+use Rattle.played_sql.specs.declared.statement.Statement.TheVariants.{Insert, Select}
 use Rattle.pgproto.specs.Line.{Line, line_of, session, query, terminate}
 use Rattle.pgproto.specs.declared.line.ScriptLine.{ScriptLine}
 use Rattle.play.proofs.ScriptLemmas.{none_left}

@@ -5,7 +5,7 @@ use Rattle.std.specs.List.{flat_map}
 use Rattle.std.specs.Fmt.{decimal, signed_decimal}
 use Rattle.pg_values.specs.declared.value.Value.{Value}
 use Rattle.pg_values.specs.declared.value.Value.TheVariants as values
-use Rattle.sql_profile.specs.declared.statement.Statement.{Statement}
+use Rattle.played_sql.specs.declared.statement.Statement.{Statement}
 use Rattle.pool_base.specs.declared.code.Code.{Code}
 use Rattle.backend_trait.specs.declared.row.Row.{Row}
 use Rattle.backend_trait.specs.declared.answer.Answer.{Answer}

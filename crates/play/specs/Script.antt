@@ -1,7 +1,7 @@
 -- The scripts that are played: what each line asks of session 1, and which lines may follow which.
 use Rattle.std.specs.Prelude.{◌≡◌, ℕ, List, [], ◌∷◌, Option, Some, None}
-use Rattle.sql_profile.specs.Grammar.{Spells}
-use Rattle.sql_profile.specs.declared.statement.Statement.{Statement}
+use Rattle.played_sql.specs.Grammar.{Spells}
+use Rattle.played_sql.specs.declared.statement.Statement.{Statement}
 use Rattle.pgproto.specs.Line.{Line, session, query, terminate}
 use Rattle.play.specs.declared.script.Step.{Step}
 use Rattle.play.specs.declared.script.Step.TheVariants.{Connect, Ask, Leave, Other}

@@ -2,7 +2,7 @@
 use Rattle.std.specs.Prelude.{ℕ, Bool, true, false, List, [], ◌∷◌, ◌++◌, Option, codes}
 use Rattle.std.specs.List.{flat_map}
 use Rattle.backend_trait.specs.Rows.{Rows}
-use Rattle.sql_profile.specs.declared.statement.Statement.{Statement}
+use Rattle.played_sql.specs.declared.statement.Statement.{Statement}
 use Rattle.pg_messages.specs.declared.server.ServerMessage.{ServerMessage}
 use Rattle.pgproto.specs.Spelling.{echoed}
 use Rattle.pgproto.specs.Rendering.{rendered}

@@ -5,8 +5,8 @@ ghost use Rattle.backend_trait.specs.Alone.{IsEffect};
 ghost use Rattle.play.specs.Replies.{given_on, rows_after};
 
 use backend_trait::Answer;
+use played_sql::Statement;
 use pool_base::NoMemory;
-use sql_profile::Statement;
 
 /// What runs one statement after another, each in a transaction of its own that is committed.
 pub trait Database {

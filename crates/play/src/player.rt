@@ -7,7 +7,7 @@ ghost use Rattle.pgproto.specs.Line.{line_of};
 ghost use Rattle.pgproto.specs.Spelling.{IsOfGrammar, echoed};
 ghost use Rattle.play.specs.Opening.{HoldsClient};
 ghost use Rattle.pool_base.specs.Outside.{Appends, AppendsFront, Rose};
-ghost use Rattle.sql_profile.specs.declared.statement.Statement.{Statement};
+ghost use Rattle.played_sql.specs.declared.statement.Statement.{Statement};
 ghost use Rattle.pg_messages.specs.declared.server.ServerMessage.{ServerMessage};
 ghost use Rattle.pg_messages.specs.declared.client.ClientMessage.TheVariants as sent;
 ghost use Rattle.pg_messages.specs.Client.{Fits};

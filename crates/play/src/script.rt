@@ -4,7 +4,7 @@ ghost use Rattle.pgproto.specs.Line.{Line, line_of, query, session, terminate};
 ghost use Rattle.play.specs.Script.{Deed, IsAnyAsked, IsSession, IsStep, IsTailOf, line_for};
 
 use pgproto::ScriptLine;
-use sql_profile::read_statement;
+use played_sql::read_statement;
 
 /// What a line has session 1 do.
 #[derive(Clone, Copy)]

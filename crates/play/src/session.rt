@@ -4,8 +4,8 @@ ghost use Rattle.std.specs.Fmt.{decimal};
 ghost use Rattle.pg_messages.specs.Server.{Fits};
 ghost use Rattle.pg_messages.specs.declared.client.ClientMessage.TheVariants as sent;
 ghost use Rattle.pg_messages.specs.declared.server.ServerMessage.TheVariants as messages;
-ghost use Rattle.sql_profile.specs.Grammar.{Spells};
-ghost use Rattle.sql_profile.specs.declared.statement.Statement.{Statement};
+ghost use Rattle.played_sql.specs.Grammar.{Spells};
+ghost use Rattle.played_sql.specs.declared.statement.Statement.{Statement};
 ghost use Rattle.play.specs.Replies.{Sent, settings, start_up, columns, row_message, error_message, answer_messages, replies_to, rows_left_by, RowFits, RowsFit, AnswerFits};
 ghost use Rattle.play.specs.Script.{IsAsked};
 ghost use Rattle.play.specs.Opening.{HoldsStart, HoldsClient, is_start, query_in, is_label};
@@ -16,8 +16,8 @@ use backend_trait::{Answer, Row};
 use pg_messages::{
     ClientMessage, Read, ServerMessage, StartMessage, read_client, read_start, write_server,
 };
+use played_sql::read_statement;
 use pool_base::{Code, List, NoMemory, SessionId};
-use sql_profile::read_statement;
 use std::alloc::Global;
 
 /// The status of a session without a transaction.

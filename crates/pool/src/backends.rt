@@ -6,9 +6,9 @@ ghost use Rattle.pool.specs.Shelf.{AreBackends};
 
 use backend_trait::{Answer, Backend, Checked};
 use play::Database;
+use played_sql::Statement;
 use pool_base::{NoMemory, SessionId};
 use session_core::run_statement;
-use sql_profile::Statement;
 use write_path::Chain;
 
 /// A shelf whose first boxes, `count` of them, run the statements of a session.

@@ -1,8 +1,8 @@
 //! Reading a text, and counting its statements.
 ghost use Rattle.std.specs.Prelude.{◌≡◌, ◌<◌, ◌≤◌, ◌*◌, ◌^◌, length, IfOk, IfErr};
-ghost use Rattle.sql_reader.specs.Text.{IsTextOf, IsRefusedBy};
+ghost use Rattle.sql_profile.specs.Text.{IsTextOf, IsRefusedBy};
 
-use sql_reader::{SqlFault, read_statements};
+use sql_profile::{SqlFault, read_statements};
 use std::alloc::Global;
 
 /// Reads the text, and counts its statements.

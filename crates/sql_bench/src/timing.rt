@@ -4,7 +4,7 @@ ghost use Rattle.std.specs.Prelude.{◌<◌, ◌^◌, length};
 use crate::reading::read_times;
 use crate::samples::{POINT, THREE, of_rows};
 use pool_base::NoMemory;
-use sql_reader::SqlFault;
+use sql_profile::SqlFault;
 use std::io;
 use std::time::{Duration, Instant};
 

@@ -1,11 +1,15 @@
-//! The statements that the pool takes, read from their texts.
+//! SQL as the pool takes it: the trees of statements, a text read as its statements or refused by
+//! name, and the one text of a statement. What it exports is built and proved in the crates below.
 #![tactic(auto)]
 
-mod reader;
-mod statement;
-
-pub use reader::read_statement;
-pub use statement::Statement;
+pub use sql_print::print_statement;
+pub use sql_reader::{SqlFault, read_statements};
+pub use sql_round::statements_again;
+pub use sql_text::STATEMENT_LIMIT;
+pub use sql_tree::{
+    Cell, Comparison, Delete, Expr, Insert, OrderItem, ProductPart, ProductSign, Select,
+    SelectItem, SelectList, SetItem, Statement, SumPart, Update,
+};
 
 #[cfg(test)]
 mod tests;

@@ -1,24 +1,58 @@
-use super::*;
+use crate::{Statement, print_statement, read_statements, statements_again};
+use std::alloc::Global;
+
+/// The text of the statement that the text is, if it is one.
+fn printed(alloc: Global, text: &str, wanted: &str) -> bool {
+    if text.len() > u32::MAX as usize {
+        return false;
+    }
+    let Ok(all) = read_statements(alloc, text) else {
+        return false;
+    };
+    let [statement] = all.as_slice() else {
+        return false;
+    };
+    match print_statement(alloc, statement) {
+        Ok(text) => text.as_str() == wanted,
+        Err(_) => false,
+    }
+}
+
+/// Whether the text of the statement is read as that statement alone.
+fn comes_again(alloc: Global, statement: &Statement) -> bool {
+    match statements_again(alloc, statement) {
+        Ok(all) => match all.as_slice() {
+            [again] => again == statement,
+            _ => false,
+        },
+        Err(_) => false,
+    }
+}
+
+/// Texts, and the one text of the statement that each is.
+static PRINTED: [(&str, &str); 4] = [
+    ("select A, B from T", "SELECT a, b FROM t"),
+    (
+        "INSERT INTO \"T\" VALUES (default, 'it''s');",
+        "INSERT INTO \"T\" VALUES (DEFAULT, 'it''s')",
+    ),
+    (
+        "UPDATE t SET v=v-1 WHERE NOT id<>2 AND b",
+        "UPDATE t SET v = v - 1 WHERE (NOT (id <> 2)) AND b",
+    ),
+    ("begin", "BEGIN"),
+];
 
 #[test]
-fn both_forms_are_read_and_nothing_else(rt: HostRuntime) {
-    let insert = Statement::Insert {
-        key: -2147483648,
-        value: 9223372036854775807,
-    };
-    let text = b"INSERT INTO t (id, v) VALUES (-2147483648, 9223372036854775807)";
-    assert_eq!(rt; read_statement(text), Some(insert));
-    let text = b"SELECT id, v FROM t WHERE id = 007";
-    assert_eq!(rt; read_statement(text), Some(Statement::Select { key: 7 }));
-    let text = b"SELECT id, v FROM t WHERE id = -0";
-    assert_eq!(rt; read_statement(text), Some(Statement::Select { key: 0 }));
-    assert_eq!(rt;
-        read_statement(b"SELECT id, v FROM t WHERE id = 2147483648"),
-        None
-    );
-    assert_eq!(rt; read_statement(b"SELECT id, v FROM t WHERE id = 7 "), None);
-    assert_eq!(rt;
-        read_statement(b"INSERT INTO t (id, v) VALUES (1, -)"),
-        None
-    );
+fn a_text_is_printed_in_its_one_spelling(rt: HostRuntime) {
+    for (text, wanted) in PRINTED {
+        assert!(rt; printed(rt.alloc(), text, wanted), "{text}");
+    }
+}
+
+#[test]
+fn what_is_printed_is_read_again(rt: HostRuntime) {
+    let alloc = rt.alloc();
+    assert!(rt; comes_again(alloc, &Statement::Begin));
+    assert!(rt; comes_again(alloc, &Statement::Recover(7)));
 }

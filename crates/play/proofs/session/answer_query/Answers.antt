@@ -1,6 +1,6 @@
 use Rattle.std.proofs.Common.{◌≡◌, true, refl, sym, subst}
 use Rattle.std.specs.Prelude.{Option}
-use Rattle.sql_profile.specs.declared.statement.Statement.{Statement}
+use Rattle.played_sql.specs.declared.statement.Statement.{Statement}
 use Rattle.play.specs.Replies.{Sent, replies_to, rows_left_by}
 use Rattle.play.proofs.ScriptLemmas.{none_left}
 use Rattle.play.proofs.Sessions.{nothing_asked}

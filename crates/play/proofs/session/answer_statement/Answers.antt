@@ -1,6 +1,6 @@
 use Rattle.std.proofs.Common.{◌≡◌, ◌∷◌, ◌++◌, [], List, true, refl, sym, ap, ◌∙◌, subst, Option, Some, None}
-use Rattle.sql_profile.specs.declared.statement.Statement.{Statement}
-use Rattle.sql_profile.specs.Grammar.{Spells}
+use Rattle.played_sql.specs.declared.statement.Statement.{Statement}
+use Rattle.played_sql.specs.Grammar.{Spells}
 use Rattle.backend_trait.specs.Rows.{Rows}
 use Rattle.pg_messages.specs.declared.server.ServerMessage.{ServerMessage}
 use Rattle.pg_messages.specs.declared.server.ServerMessage.TheVariants.{Ready}

@@ -1,5 +1,5 @@
 use Rattle.std.proofs.Common.{◌≡◌, ◌∙◌, length, ap}
-use Rattle.sql_reader.specs.Text.{IsTextOf}
+use Rattle.sql_profile.specs.Text.{IsTextOf}
 use Rattle.sql_bench.proofs.reading.read_once.Goals as goal
 
 -- src/reading.rt:9:1

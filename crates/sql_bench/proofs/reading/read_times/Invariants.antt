@@ -1,5 +1,5 @@
 use Rattle.std.proofs.Common.{◌≡◌, ◌<◌, ◌≤◌, ◌*◌, length}
-use Rattle.sql_reader.specs.Text.{IsTextOf}
+use Rattle.sql_profile.specs.Text.{IsTextOf}
 use Rattle.sql_bench.proofs.reading.read_times.Given as goal
 
 abbrev pub invariant-loop-done : goal.invariant-loop-done

@@ -1,7 +1,7 @@
 use Rattle.std.proofs.lemmas.Bool.Decides.{Decides-eqb}
 use Rattle.std.proofs.lemmas.Slice.Eq.{strip_prefix_is}
-use Rattle.sql_profile.proofs.Fronts.{stripped}
-use Rattle.sql_profile.proofs.reader.behind.Goals as goal
+use Rattle.played_sql.proofs.Fronts.{stripped}
+use Rattle.played_sql.proofs.reader.behind.Goals as goal
 
 pub returns : goal.returns
 returns c =

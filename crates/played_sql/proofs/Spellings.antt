@@ -5,11 +5,11 @@ use Rattle.std.specs.Int.{w32, w64}
 use Rattle.std.proofs.lemmas.Int.{ints}
 use Rattle.std.proofs.lemmas.List.{append-nil}
 use Rattle.std.proofs.lemmas.Bool.Decides.{nat_tests, eqb_tells}
-use Rattle.sql_profile.specs.declared.statement.Statement.{Statement}
-use Rattle.sql_profile.specs.declared.statement.Statement.TheVariants.{Insert, Select}
-use Rattle.sql_profile.specs.Grammar.{IsDigit, AreDigits, continued, SpellsWhole, SpellsNumber, SpellsKey, Spells}
-use Rattle.sql_profile.specs.Reading.{◌>>=◌, after_prefix, digits_from, is_digit, begins_with_digit, whole_at, number_behind, number_at, key_at, where_fits, fits_i32, fits_i64, at_end, insert_of, select_of, first_of_two, statement_of}
-use Rattle.sql_profile.proofs.Fronts.{after_prefix_is}
+use Rattle.played_sql.specs.declared.statement.Statement.{Statement}
+use Rattle.played_sql.specs.declared.statement.Statement.TheVariants.{Insert, Select}
+use Rattle.played_sql.specs.Grammar.{IsDigit, AreDigits, continued, SpellsWhole, SpellsNumber, SpellsKey, Spells}
+use Rattle.played_sql.specs.Reading.{◌>>=◌, after_prefix, digits_from, is_digit, begins_with_digit, whole_at, number_behind, number_at, key_at, where_fits, fits_i32, fits_i64, at_end, insert_of, select_of, first_of_two, statement_of}
+use Rattle.played_sql.proofs.Fronts.{after_prefix_is}
 
 -- the two steps of a reading that succeeds
 pub record Stepped {A B : Type 0} (r : Option A) (f : A → Option B) (b : B) : Type 0 where

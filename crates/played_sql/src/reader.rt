@@ -1,8 +1,8 @@
 //! The reader of statements.
 ghost use Rattle.std.specs.Prelude.{◌≡◌, ◌+◌, ◌-◌, ◌*◌, ◌^◌, ◌<◌, Option, Some, None, IfSome, SomeIff, option_map};
-ghost use Rattle.sql_profile.specs.Grammar.{Spells, IsDigit};
-ghost use Rattle.sql_profile.specs.Reading.{after_prefix, whole_at, number_at, key_at, insert_of, select_of, statement_of};
-ghost use Rattle.sql_profile.specs.declared.statement.Statement.{Statement};
+ghost use Rattle.played_sql.specs.Grammar.{Spells, IsDigit};
+ghost use Rattle.played_sql.specs.Reading.{after_prefix, whole_at, number_at, key_at, insert_of, select_of, statement_of};
+ghost use Rattle.played_sql.specs.declared.statement.Statement.{Statement};
 
 use crate::statement::Statement;
 

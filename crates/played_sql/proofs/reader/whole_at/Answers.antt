@@ -1,10 +1,10 @@
 use Rattle.std.proofs.Common.{◌≡◌, ◌+◌, ◌-◌, ◌*◌, ◌^◌, ◌<◌, ◌≤◌, None, true, length, drop, arith, rules, get_or}
 use Rattle.std.proofs.lemmas.Bool.Decides.{nat_tests}
 use Rattle.std.proofs.lemmas.Grind.{common_steps}
-use Rattle.sql_profile.specs.Reading.{is_digit, digits_from}
-use Rattle.sql_profile.proofs.Fronts.{too_large, read_whole, digits_from-other, digits_from-end, rest_of}
-use Rattle.sql_profile.proofs.reader.whole_at.Goals as goal
-use Rattle.sql_profile.proofs.reader.whole_at.Goals.{else-loop-byte-test, then-loop-byte-test+then-not-is_ascii_digit}
+use Rattle.played_sql.specs.Reading.{is_digit, digits_from}
+use Rattle.played_sql.proofs.Fronts.{too_large, read_whole, digits_from-other, digits_from-end, rest_of}
+use Rattle.played_sql.proofs.reader.whole_at.Goals as goal
+use Rattle.played_sql.proofs.reader.whole_at.Goals.{else-loop-byte-test, then-loop-byte-test+then-not-is_ascii_digit}
 
 pub returns-in_err-value : goal.returns-in_err-value
 returns-in_err-value c =

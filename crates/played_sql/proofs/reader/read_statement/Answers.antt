@@ -1,6 +1,6 @@
 use Rattle.std.proofs.Common.{◌∙◌}
-use Rattle.sql_profile.proofs.Spellings.{found, only}
-use Rattle.sql_profile.proofs.reader.read_statement.Goals as goal
+use Rattle.played_sql.proofs.Spellings.{found, only}
+use Rattle.played_sql.proofs.reader.read_statement.Goals as goal
 
 pub returns-clause-found : goal.returns-clause-found
 returns-clause-found c = found c.args.text.now c.statement_at.result c.statement_at.ensures

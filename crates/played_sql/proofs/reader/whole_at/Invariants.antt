@@ -1,6 +1,6 @@
 use Rattle.std.proofs.Common.{◌≡◌, ◌<◌, ◌^◌, drop, true}
-use Rattle.sql_profile.specs.Reading.{digits_from, begins_with_digit}
-use Rattle.sql_profile.proofs.reader.whole_at.Given as goal
+use Rattle.played_sql.specs.Reading.{digits_from, begins_with_digit}
+use Rattle.played_sql.proofs.reader.whole_at.Given as goal
 
 abbrev pub invariant-loop-byte : goal.invariant-loop-byte
 invariant-loop-byte l = record {

@@ -3,7 +3,7 @@ use Rattle.std.proofs.Common.{◌≡◌, ◌≢◌, ℕ, zero, suc, ◌+◌, ◌
 use Rattle.std.specs.Prelude.{Option, Some, None, MatchOption, option_map}
 use Rattle.std.proofs.lemmas.Bool.Decides.{nat_tests, eqb_tells}
 use Rattle.std.proofs.lemmas.List.{drop_all, take_all, length-drop}
-use Rattle.sql_profile.specs.Reading.{after_prefix, digits_from, is_digit, begins_with_digit, whole_at}
+use Rattle.played_sql.specs.Reading.{after_prefix, digits_from, is_digit, begins_with_digit, whole_at}
 
 pub after_prefix-append : (p rest : List ℕ) → after_prefix p (p ++ rest) ≡ Some rest
 after_prefix-append [] rest = refl

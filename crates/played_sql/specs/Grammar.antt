@@ -1,8 +1,8 @@
 -- The texts of the statements: which text spells which statement.
 use Rattle.std.specs.Prelude.{◌≡◌, ◌⊎◌, ◌≤◌, ℕ, ◌+◌, ◌-◌, ◌*◌, ℤ, pos, neg_ℤ, List, [], ◌∷◌, ◌++◌, FitsSigned, codes}
 use Rattle.std.specs.Int.{w32, w64}
-use Rattle.sql_profile.specs.declared.statement.Statement.{Statement}
-use Rattle.sql_profile.specs.declared.statement.Statement.TheVariants.{Insert, Select}
+use Rattle.played_sql.specs.declared.statement.Statement.{Statement}
+use Rattle.played_sql.specs.declared.statement.Statement.TheVariants.{Insert, Select}
 
 -- a digit of ASCII
 abbrev pub IsDigit : ℕ → Type 0

@@ -1,7 +1,7 @@
 -- Reading from the front of a text, as functions on lists.
 use Rattle.std.specs.Prelude.{ℕ, ◌+◌, ◌-◌, ◌*◌, ◌^◌, ℤ, pos, negsuc, neg_ℤ, Bool, false, ◌&&◌, nat_le, nat_lt, ◌==◌, if◌then◌else◌, List, [], ◌∷◌, Option, Some, None, codes}
-use Rattle.sql_profile.specs.declared.statement.Statement.{Statement}
-use Rattle.sql_profile.specs.declared.statement.Statement.TheVariants.{Insert, Select}
+use Rattle.played_sql.specs.declared.statement.Statement.{Statement}
+use Rattle.played_sql.specs.declared.statement.Statement.TheVariants.{Insert, Select}
 
 infixl 10 ◌>>=◌
 abbrev pub ◌>>=◌ : {A B : Type 0} → Option A → (A → Option B) → Option B
