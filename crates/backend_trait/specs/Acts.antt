@@ -83,9 +83,20 @@ has_lock st s requests.Rollback = false
 has_lock st s (requests.ReadSerial table) = false
 has_lock st s (requests.SetSerial table n) = false
 
--- another session crosses the request: it has not the lock that its own is for, and asks for what
--- conflicts with what this one holds or asks for
+-- a run or a lock alone can be crossed
+abbrev pub may_be_crossed : Request → Bool
+may_be_crossed requests.TakeSnapshot = false
+may_be_crossed (requests.Run checked) = true
+may_be_crossed (requests.Lock table) = true
+may_be_crossed requests.Commit = false
+may_be_crossed requests.Rollback = false
+may_be_crossed (requests.ReadSerial table) = false
+may_be_crossed (requests.SetSerial table n) = false
+
+-- another session crosses a run or a lock: it has not the lock that its own request is for, and asks for
+-- what conflicts with what this one holds or asks for
 pub record Crosses (st : Store) (s : ℕ) (request : Request) : Type 0 where
+  pub kind : may_be_crossed request ≡ true
   pub other : ℕ
   pub another : other ≢ s
   pub its : Pending

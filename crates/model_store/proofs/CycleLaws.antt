@@ -14,7 +14,7 @@ use Rattle.backend_trait.specs.Keys.{Place}
 use Rattle.backend_trait.specs.Rows.{Rows}
 use Rattle.backend_trait.specs.Effect.{Wants, nothing, both_wants, one_place, place_of, Conflicts, same_place, same_table, table_left, table_right, Given, Fails, Gives, insert_given, effect_of, table_in}
 use Rattle.backend_trait.specs.Store.{Store, Live, Transaction, Absent, Alive, Dead, Pending, WhereLive, held_by, table_lock, view_of}
-use Rattle.backend_trait.specs.Acts.{MayRefuse, MayAnswer, Crosses, IsCrossed, WhereSome, WaitsInRun, WaitsIn, WaitsFor, IsPath, IsInCycle, wants_in, wants_of_run, asked_by, has_lock, given_of}
+use Rattle.backend_trait.specs.Acts.{MayRefuse, MayAnswer, Crosses, IsCrossed, WhereSome, WaitsInRun, WaitsIn, WaitsFor, IsPath, IsInCycle, wants_in, wants_of_run, asked_by, has_lock, may_be_crossed, given_of}
 use Rattle.model_store.specs.declared.change.ChangeSet.{ChangeSet}
 use Rattle.model_store.specs.declared.seat.Seat.{Seat}
 use Rattle.model_store.specs.Seats.{transaction_in, store_of}
@@ -120,6 +120,16 @@ waits_unlocked st s held requests.Rollback apart h = refl
 waits_unlocked st s held (requests.ReadSerial table) apart h = refl
 waits_unlocked st s held (requests.SetSerial table n) apart h = refl
 
+-- a run or a lock alone waits
+waits_kind : (st : Store) (s : ℕ) (held : Wants) (request : Request) → WaitsIn st s held request → may_be_crossed request ≡ true
+waits_kind st s held requests.TakeSnapshot h = absurd h
+waits_kind st s held (requests.Run statement) h = refl
+waits_kind st s held (requests.Lock table) h = refl
+waits_kind st s held requests.Commit h = absurd h
+waits_kind st s held requests.Rollback h = absurd h
+waits_kind st s held (requests.ReadSerial table) h = absurd h
+waits_kind st s held (requests.SetSerial table n) h = absurd h
+
 -- the first wait of a path, and the last
 first_wait : (st : Store) (s : ℕ) (between : List ℕ) (last : ℕ) → IsPath st s between last → (o : ℕ) × WaitsFor st s o
 first_wait st s [] last path = (last, path)
@@ -134,11 +144,12 @@ some_there P None h = absurd h
 some_there P (Some p) h = (p, refl, h)
 
 module _ (st : Store) (apart : (a b : ℕ) → a ≢ b → ¬ (Conflicts (held_by (st.transaction a)) (held_by (st.transaction b)))) (s : ℕ) where
-  -- who waits for a session crosses its request
-  crosses : (o : ℕ) (request : Request) → WaitsFor st o s → Crosses st s request
-  crosses o request (other, waits) =
+  -- who waits for a session crosses its run or lock
+  crosses : (o : ℕ) (request : Request) → may_be_crossed request ≡ true → WaitsFor st o s → Crosses st s request
+  crosses o request kind (other, waits) =
       let (its, is, h) = some_there (λ p. WaitsIn st o (held_by (st.transaction s)) p.request) (st.pending o) waits in
       record {
+        kind = kind;
         other = o;
         another = λ e. other (sym e);
         its = its;
@@ -175,8 +186,9 @@ module _ (st : Store) (apart : (a b : ℕ) → a ≢ b → ¬ (Conflicts (held_b
   cycle_refused request code is pending (between, path) =
       let (next, first) = first_wait st s between s path in
       let (before, last) = last_wait st s between s path in
-      refuse_waiting request next code is first.0 (crosses before request last)
-      (subst (λ (x : Option Pending). WhereSome x (λ p. WaitsIn st s (held_by (st.transaction next)) p.request)) pending first.1)
+      let waits : WaitsIn st s (held_by (st.transaction next)) request =
+      subst (λ (x : Option Pending). WhereSome x (λ p. WaitsIn st s (held_by (st.transaction next)) p.request)) pending first.1 in
+      refuse_waiting request next code is first.0 (crosses before request (waits_kind st s (held_by (st.transaction next)) request waits) last) waits
 
 -- what seats hold is what their transactions hold
 pub apart_there : (log : List ChangeSet) (seats : List Seat) (lost : Bool) → AreApart seats → (a b : ℕ) → a ≢ b → ¬ (Conflicts (held_by ((store_of log seats lost).transaction a)) (held_by ((store_of log seats lost).transaction b)))

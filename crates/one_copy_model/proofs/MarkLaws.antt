@@ -13,7 +13,7 @@ use Rattle.backend_trait.specs.declared.request.Request.TheVariants as requests
 use Rattle.backend_trait.specs.Keys.{Place, place_order, is_place}
 use Rattle.backend_trait.specs.Effect.{Wants, both_wants, place_of, Conflicts, same_place, same_table, table_left, table_right, insert_given, effect_of}
 use Rattle.backend_trait.specs.Store.{Live, Transaction, Absent, Alive, Dead, Pending, Store, held_by, view_of}
-use Rattle.backend_trait.specs.Acts.{Crosses, asked_by, has_lock, wants_in, wants_of_run}
+use Rattle.backend_trait.specs.Acts.{Crosses, asked_by, has_lock, may_be_crossed, wants_in, wants_of_run}
 use Rattle.plain_store.proofs.Telling.{or_true, or_left, or_right, and_true, both_true}
 use Rattle.plain_store.proofs.SeenLaws.{one_and_same}
 use Rattle.one_copy_model.specs.Numbers.{some_below}
@@ -78,11 +78,12 @@ named_to a b places tables e = elim (or_true (list_any (conflict_at a b) places)
   | inr h ↦ let (t, is) = any_some (conflict_in a b) tables h in in_to a b t is
 ]
 
-by_to : (st : Store) (s : ℕ) (request : Request) (o : ℕ) (x : Option Pending) → o ≢ s → st.pending o ≡ x → crosses_by st s request o x ≡ true → Crosses st s request
-by_to st s request o None other is e = absurd (let n : false ≡ true = e in cc)
-by_to st s request o (Some its) other is e =
+by_to : (st : Store) (s : ℕ) (request : Request) (o : ℕ) (x : Option Pending) → may_be_crossed request ≡ true → o ≢ s → st.pending o ≡ x → crosses_by st s request o x ≡ true → Crosses st s request
+by_to st s request o None kind other is e = absurd (let n : false ≡ true = e in cc)
+by_to st s request o (Some its) kind other is e =
     let both = and_true (not (has_lock st o its.request)) (conflict_named (asked_by st o its.request) (both_wants (asked_by st s request) (held_by (st.transaction s))) (places_for st s request its.request) (tables_named its.request)) e in
     record {
+      kind = kind;
       other = o;
       another = other;
       its = its;
@@ -95,9 +96,10 @@ by_to st s request o (Some its) other is e =
 pub marked_only : (st : Store) (s : ℕ) (request : Request) → is_crossed st s request ≡ true → Crosses st s request
 unfolding is_crossed
 marked_only st s request e =
-    let (o, is) = below_some (crosses_from st s request) 65 e in
+    let crossed = and_true (may_be_crossed request) (some_below (crosses_from st s request) 65) e in
+    let (o, is) = below_some (crosses_from st s request) 65 crossed.1 in
     let both = and_true (not (o == s)) (crosses_by st s request o (st.pending o)) is in
-    by_to st s request o (st.pending o) (is_other o s both.0) refl both.1
+    by_to st s request o (st.pending o) crossed.0 (is_other o s both.0) refl both.1
 
 -- what a request asks for it names
 insert_place : (f : Place → Bool) (p : Place) (key value : ℤ) (row : Option Row) → f p ≡ true → (wants_in (insert_given key value row)).places p ≡ true → list_any f (place_of key ∷ []) ≡ true
@@ -208,8 +210,9 @@ marked_all st s request holds within c =
       | inl q ↦ absurd (let none : st.pending c.other ≡ None = within c.other q.1 in let some : st.pending c.other ≡ Some c.its = c.waits in cc)
       | inr q ↦ (let z : c.other < 65 = omega (arith, q.1) in z)
     ] in
-    below_all (crosses_from st s request) 65 c.other below
+    both_true (may_be_crossed request) (some_below (crosses_from st s request) 65) c.kind
+    (below_all (crosses_from st s request) 65 c.other below
     (both_true (not (c.other == s)) (crosses_by st s request c.other (st.pending c.other)) (not_same c.other s c.another)
     (subst (λ (x : Option Pending). crosses_by st s request c.other x ≡ true) (sym c.waits)
     (both_true (not (has_lock st c.other c.its.request)) (conflict_named (asked_by st c.other c.its.request) (both_wants (asked_by st s request) (held_by (st.transaction s))) (places_for st s request c.its.request) (tables_named c.its.request))
-    (ap not c.unlocked) (named_from st s request c.other c.its.request holds c.conflict))))
+    (ap not c.unlocked) (named_from st s request c.other c.its.request holds c.conflict)))))

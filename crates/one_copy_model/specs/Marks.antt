@@ -9,7 +9,7 @@ use Rattle.backend_trait.specs.declared.request.Request.TheVariants as requests
 use Rattle.backend_trait.specs.Keys.{Place}
 use Rattle.backend_trait.specs.Effect.{Wants, both_wants, place_of, table_in}
 use Rattle.backend_trait.specs.Store.{Live, Transaction, Absent, Alive, Dead, Pending, Store, held_by}
-use Rattle.backend_trait.specs.Acts.{asked_by, has_lock}
+use Rattle.backend_trait.specs.Acts.{asked_by, has_lock, may_be_crossed}
 use Rattle.one_copy_model.specs.Numbers.{some_below}
 
 -- the place that a statement names, the places that a transaction has changed, and the tables that a request names
@@ -70,9 +70,9 @@ crosses_by st s request o (Some its) = crosses_with st s request o its.request
 abbrev pub crosses_from : Store → ℕ → Request → ℕ → Bool
 crosses_from st s request o = not (o == s) && crosses_by st s request o (st.pending o)
 
--- some session's does, of the numbers 1 to 64
+-- it is a run or a lock, and some session's crosses it, of the numbers 1 to 64
 unfoldable pub is_crossed : Store → ℕ → Request → Bool
-is_crossed st s request = some_below (crosses_from st s request) 65
+is_crossed st s request = may_be_crossed request && some_below (crosses_from st s request) 65
 
 abbrev pub with_mark : Store → ℕ → Option Pending → Option Pending
 with_mark st s None = None

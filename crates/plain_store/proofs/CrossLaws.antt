@@ -11,7 +11,7 @@ use Rattle.backend_trait.specs.declared.request.Request.{Request}
 use Rattle.backend_trait.specs.declared.request.Request.TheVariants as requests
 use Rattle.backend_trait.specs.Effect.{Wants, nothing, both_wants, place_of, insert_given, effect_of, table_in, Conflicts}
 use Rattle.backend_trait.specs.Store.{Transaction, Absent, Alive, Dead, Pending, Store, held_by, view_of}
-use Rattle.backend_trait.specs.Acts.{given_of, wants_in, wants_of_run, asked_by, has_lock, Crosses, WhereSome}
+use Rattle.backend_trait.specs.Acts.{given_of, wants_in, wants_of_run, asked_by, has_lock, may_be_crossed, Crosses, WhereSome}
 use Rattle.plain_store.specs.declared.data.Wanted.{Wanted}
 use Rattle.plain_store.specs.declared.data.Wanted.TheVariants as wanted
 use Rattle.plain_store.specs.declared.data.ChangeSet.{ChangeSet}
@@ -23,7 +23,7 @@ use Rattle.plain_store.specs.declared.data.Database.{Database}
 use Rattle.plain_store.specs.Meaning.{wants_one, live_of, transaction_of, transaction_in, request_at, mark_in, pending_of, store_in, store_of}
 use Rattle.plain_store.specs.Acting.{IsCrossedNow}
 use Rattle.plain_store.specs.Deciding.{clash, seen, phase_at, wants_work, wants_run, wants_by, locks_table, is_locked, clash_wanted, holds_phase, meets, crosses_by, crosses_at, some_below, crosses, crosses_waiting}
-use Rattle.plain_store.proofs.Telling.{Tells, or_true, or_left, or_right, both_told, either_told, not_told, told_as, never, is_false}
+use Rattle.plain_store.proofs.Telling.{Tells, or_true, or_left, or_right, both_told, either_told, not_told, told_as, itself, never, is_false}
 use Rattle.plain_store.proofs.SeenLaws.{as_row, seen_is}
 use Rattle.plain_store.proofs.HeldLaws.{no_conflict, nothing_conflicts, split, to_left, to_right, clash_to, clash_from, tables_are, phase_told}
 
@@ -153,10 +153,10 @@ module _ (log : List ChangeSet) (numbers : List Number) (all : List Phase) (aske
   from_told : (s : ℕ) (request : Request) (o : ℕ) → Tells (crosses_at all asked s request o) (CrossesFrom s request o)
   from_told s request o = both_told _ _ _ _ (other_told o s) (by_told s request o (request_at (slice_get asked o)) (mark_in (slice_get marks o)))
 
-  to_crosses : (s : ℕ) (request : Request) (o : ℕ) → CrossesFrom s request o → Crosses here s request
-  to_crosses s request o h =
+  to_crosses : (s : ℕ) (request : Request) (o : ℕ) → may_be_crossed request ≡ true → CrossesFrom s request o → Crosses here s request
+  to_crosses s request o kind h =
       let (its, is, so) = some_there (CrossesAs s request o) (here.pending o) h.1 in
-      record { other = o; another = h.0; its = its; waits = is; unlocked = so.0; conflict = so.1 }
+      record { kind = kind; other = o; another = h.0; its = its; waits = is; unlocked = so.0; conflict = so.1 }
 
   from_crosses : (s : ℕ) (request : Request) (c : Crosses here s request) → CrossesFrom s request c.other
   from_crosses s request c = (c.another, subst (λ (x : Option Pending). WhereSome x (CrossesAs s request c.other)) (sym c.waits) (c.unlocked, c.conflict))
@@ -171,9 +171,9 @@ module _ (log : List ChangeSet) (numbers : List Number) (all : List Phase) (aske
   pub crosses_told : (s : ℕ) (request : Request) → length asked ≡ 65 → Tells (crosses all asked s request) (Crosses here s request)
   unfolding crosses
   crosses_told s request len =
-      told_as _ _ _ (below_told (crosses_at all asked s request) (CrossesFrom s request) (from_told s request) 65)
-      (λ (o, below, h). to_crosses s request o h)
-      (λ c. (c.other, is_below c.other (CrossesAs s request c.other) len (from_crosses s request c).1, from_crosses s request c))
+      told_as _ _ _ (both_told _ _ _ _ (itself (may_be_crossed request)) (below_told (crosses_at all asked s request) (CrossesFrom s request) (from_told s request) 65))
+      (λ (kind, found). let (o, below, h) = found in to_crosses s request o kind h)
+      (λ c. (c.kind, (c.other, is_below c.other (CrossesAs s request c.other) len (from_crosses s request c).1, from_crosses s request c)))
 
   waiting_told : (s : ℕ) (request : Option Request) (mark : Bool) → length asked ≡ 65 → Tells (crosses_waiting all asked s request) (WhereSome (pending_of request mark) (λ p. Crosses here s p.request))
   waiting_told s None mark len = never _ (λ h. h)

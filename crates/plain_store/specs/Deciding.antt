@@ -10,6 +10,7 @@ use Rattle.backend_trait.specs.declared.checked.Checked.{Checked}
 use Rattle.backend_trait.specs.declared.checked.Checked.TheVariants.{Insert, Select}
 use Rattle.backend_trait.specs.declared.request.Request.{Request}
 use Rattle.backend_trait.specs.declared.request.Request.TheVariants as requests
+use Rattle.backend_trait.specs.Acts.{may_be_crossed}
 use Rattle.backend_trait.specs.declared.answer.Answer.{Answer}
 use Rattle.backend_trait.specs.declared.answer.Answer.TheVariants as answers
 use Rattle.plain_store.specs.declared.data.Wanted.{Wanted}
@@ -276,9 +277,9 @@ abbrev pub some_below : (ℕ → Bool) → ℕ → Bool
 some_below p zero = false
 some_below p (suc n) = p n || some_below p n
 
--- whether another session crosses a request of the session
+-- whether another session crosses a run or a lock of the session
 unfoldable pub crosses : List Phase → List (Option Request) → ℕ → Request → Bool
-crosses all asked s request = some_below (crosses_at all asked s request) 65
+crosses all asked s request = may_be_crossed request && some_below (crosses_at all asked s request) 65
 
 abbrev pub crosses_waiting : List Phase → List (Option Request) → ℕ → Option Request → Bool
 crosses_waiting all asked s None = false

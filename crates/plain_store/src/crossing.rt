@@ -1,5 +1,6 @@
 //! Which requests are crossed.
 ghost use Rattle.std.specs.Prelude.{◌≡◌, ◌<◌, ◌≤◌, ◌↔◌, IsTrue, length, slice_get};
+ghost use Rattle.backend_trait.specs.Acts.{may_be_crossed};
 ghost use Rattle.plain_store.specs.Meaning.{request_at, store_of};
 ghost use Rattle.plain_store.specs.Acting.{IsCrossedNow};
 ghost use Rattle.plain_store.specs.Deciding.{wants_work, wants_run, wants_by, locks_table, is_locked, clash_wanted, meets, crosses_by, crosses_at, some_below, crosses, crosses_waiting};
@@ -140,6 +141,20 @@ fn some_below(
         || some_below(phases, requests, s, request, n - 1)
 }
 
+/// A run or a lock alone can be crossed.
+fn may_be_crossed(request: &Request) -> bool
+    ensures { result ≡ may_be_crossed request.now }
+{
+    match request {
+        Request::Run(_) | Request::Lock(_) => true,
+        Request::TakeSnapshot
+        | Request::Commit
+        | Request::Rollback
+        | Request::ReadSerial(_)
+        | Request::SetSerial(_, _) => false,
+    }
+}
+
 /// Whether another session crosses a request of session `s`.
 #[tactic(auto, unfolding(crate::specs::Deciding::crosses))]
 pub(crate) fn crosses(
@@ -153,7 +168,7 @@ pub(crate) fn crosses(
     requires s { s < 65 }
     ensures { result ≡ crosses phases.now requests.now s request.now }
 {
-    some_below(phases, requests, s, request, 65)
+    may_be_crossed(request) && some_below(phases, requests, s, request, 65)
 }
 
 fn crosses_waiting(

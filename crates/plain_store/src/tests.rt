@@ -93,6 +93,26 @@ fn two_that_wait_for_one_another_cross(rt: HostRuntime) {
     assert!(rt; deadlocked(alloc, 5, 6) == Ok((false, false, true)));
 }
 
+/// Whether session 1 is crossed where session 2 wants the key that it has inserted.
+fn is_crossed_asking(alloc: Global, request: Request) -> Result<bool, NoMemory> {
+    let mut store = inserting(alloc, 5, 1)?;
+    store.requests[1] = Some(request);
+    Ok(is_crossed(&store, S1))
+}
+
+#[test]
+fn a_run_or_a_lock_alone_is_crossed(rt: HostRuntime) {
+    let alloc = rt.alloc();
+    for (request, expected) in [
+        (Request::Run(Checked::Select { key: 1 }), true),
+        (Request::Lock(0), true),
+        (Request::Commit, false),
+        (Request::Rollback, false),
+    ] {
+        assert!(rt; is_crossed_asking(alloc, request) == Ok(expected));
+    }
+}
+
 /// The store once a session has asked that and got the answer. None: one of them may not be.
 fn answered(
     store: Database,
