@@ -1,6 +1,6 @@
 -- One copy and acknowledged commits follow, where the invariant holds at every moment.
-use Rattle.std.proofs.Common.{◌≡◌, ◌≢◌, ℕ, true, false, List, [], ◌∷◌, refl, sym, ap, ◌∙◌, subst}
-use Rattle.std.specs.Prelude.{is_some, Option, Some, None}
+use Rattle.std.proofs.Common.{◌≡◌, ◌≢◌, ℕ, Bool, true, false, List, [], ◌∷◌, refl, sym, ap, ◌∙◌, subst}
+use Rattle.std.specs.Prelude.{◌&&◌, is_some, Option, Some, None}
 use Rattle.pool_base.specs.declared.backend_set.BackendSet.{BackendSet}
 use Rattle.session_machine.specs.declared.order.OrderBody.{OrderBody}
 use Rattle.session_machine.specs.declared.order.OrderBody.TheVariants as orders
@@ -14,6 +14,7 @@ use Rattle.session_machine.specs.declared.machine.Point.{Point}
 use Rattle.session_machine.specs.declared.machine.Point.TheVariants.{Resting, ReplyDue}
 use Rattle.session_machine.specs.declared.machine.Session.{Session}
 use Rattle.session_machine.specs.Rules.{action_at}
+use Rattle.session_machine.specs.Classes.{is_classed}
 use Rattle.session_machine.specs.Allowed.{MayHappen as MachineMay, is_resting, fits_at_rest, may_order}
 use Rattle.one_copy_model.specs.declared.event.Event.{Event}
 use Rattle.one_copy_model.specs.declared.event.Event.TheVariants.{Of, Act, Lost}
@@ -31,10 +32,16 @@ rests : (point : Point) (session : Session) (body : OrderBody) (told : Option To
 rests Resting session body told may under = under
 rests point session body told may under = absurd (cc)
 
+second_true : (p q : Bool) → (p && q) ≡ true → q ≡ true
+second_true true q e = e
+second_true false q e = absurd (cc)
+
 follows : (session : Session) (point : Point) (body : OrderBody) (told : Option Told) → may_order session point body ≡ true → IsUnderWay point told → FollowsReply body told
 follows session point orders.Leave told may under = tt
 follows session point (orders.Recover b) told may under = absurd (cc)
-follows session point (orders.Statement work) told may under = rests point session (orders.Statement work) told may under
+follows session point (orders.Statement work) told may under =
+    rests point session (orders.Statement work) told
+    (second_true (is_classed work) (fits_at_rest (is_resting point) session.status session.gate (orders.Statement work)) may) under
 follows session point orders.Begin told may under = rests point session orders.Begin told may under
 follows session point orders.Commit told may under = rests point session orders.Commit told may under
 follows session point orders.Rollback told may under = rests point session orders.Rollback told may under

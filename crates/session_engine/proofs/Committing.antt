@@ -1,6 +1,6 @@
 -- A commit that is entered goes on to its reply or its end.
 use Rattle.std.proofs.Common.{◌≡◌, ◌⊎◌, ◌+◌, ℕ, Bool, true, false, Some, None, refl, sym, subst, inl, inr}
-use Rattle.std.specs.Prelude.{Option}
+use Rattle.std.specs.Prelude.{Option, ◌&&◌}
 use Rattle.pool_base.specs.declared.backend_id.BackendId.{BackendId}
 use Rattle.pool_base.specs.declared.backend_set.BackendSet.{BackendSet}
 use Rattle.pool_base.specs.declared.gate_call.View.{View}
@@ -30,6 +30,7 @@ use Rattle.session_machine.specs.declared.machine.Session.{Session}
 use Rattle.session_machine.specs.declared.machine.Machine.{Machine}
 use Rattle.session_machine.specs.Allowed.{MayHappen, may_order, fits_at_rest, is_resting, may_leave, answers_call}
 use Rattle.session_machine.specs.Answers.{next_of, kept, first_other, goes_on}
+use Rattle.session_machine.specs.Classes.{is_classed}
 use Rattle.session_machine.specs.Rules.{due, action_at, primary, ended, decided, split, judged, asked, looked_at, commit_entered, with_view, in_phase, granted, called, stage_posted, posted, taken, faulted, lost_one, parted, parted_at, detached, after, after_at}
 use Rattle.session_engine.specs.Sound.{splits_select}
 use Rattle.session_engine.specs.Committing.{IsOfCommit, IsCommitting, IsOver}
@@ -284,7 +285,7 @@ not_leaving (EnterDue work) on = absurd on
 not_leaving (LookDue stage) on = rw (is_commit stage on) refl
 not_leaving (PostDue stage c) on = rw (is_commit stage on) refl
 not_leaving (Waiting stage c) on = refl
-not_leaving (LostDue stage c x y) on = rw (is_commit stage on) refl
+not_leaving (LostDue stage c x y) on = refl
 not_leaving (SplitDue stage best own among more) on = rw (is_commit stage on) refl
 not_leaving (ChooseDue work) on = absurd on
 not_leaving ShowDue on = absurd on
@@ -300,9 +301,15 @@ unfit : (t : Bool) (status : Status) (phase : GatePhase) (body : OrderBody) → 
 unfit false status phase body rests fits = cc
 unfit true status phase body rests fits = cc
 
+second_true : (t u : Bool) → (t && u) ≡ true → u ≡ true
+second_true true u e = e
+second_true false u e = absurd (cc)
+
 no_order : (s : Session) (p : Point) (body : OrderBody) → is_resting p ≡ false → may_leave p ≡ false → may_order s p body ≡ true → ⊥
 no_order s p orders.Leave rests leaves may = cc
-no_order s p (orders.Statement work) rests leaves may = unfit (is_resting p) s.status s.gate (orders.Statement work) rests may
+no_order s p (orders.Statement work) rests leaves may =
+    unfit (is_resting p) s.status s.gate (orders.Statement work) rests
+    (second_true (is_classed work) (fits_at_rest (is_resting p) s.status s.gate (orders.Statement work)) may)
 no_order s p orders.Begin rests leaves may = unfit (is_resting p) s.status s.gate orders.Begin rests may
 no_order s p orders.Commit rests leaves may = unfit (is_resting p) s.status s.gate orders.Commit rests may
 no_order s p orders.Rollback rests leaves may = unfit (is_resting p) s.status s.gate orders.Rollback rests may

@@ -6,4 +6,5 @@ pub mod Calls
 pub mod Hands
 pub mod Committing
 pub mod Giving
+pub mod Classes
 pub mod Tidying

@@ -5,3 +5,4 @@ pub mod Handing
 pub mod Sound
 pub mod Tidying
 pub mod Committing
+pub mod Cores

@@ -1,6 +1,6 @@
 -- What holds wherever a session stands: each backend has answered its chain once at most, the one that is asked has not
--- answered, and rows stand only among the answers to a SELECT.
-use Rattle.std.specs.Prelude.{◌≡◌, Bool, true, false, ◌&&◌, List, [], ◌∷◌, ⊤}
+-- answered, rows stand only among the answers to a SELECT, and the statement under way has its own class.
+use Rattle.std.specs.Prelude.{◌≡◌, Bool, true, false, ◌&&◌, not, List, [], ◌∷◌, ⊤}
 use Rattle.backend_trait.specs.declared.checked.Checked.TheVariants.{Insert, Select}
 use Rattle.backend_trait.specs.declared.request.Request.{Request}
 use Rattle.backend_trait.specs.declared.request.Request.TheVariants as requests
@@ -13,6 +13,7 @@ use Rattle.session_machine.specs.declared.machine.Point.{Point}
 use Rattle.session_machine.specs.declared.machine.Point.TheVariants.{Resting, EnterDue, LookDue, PostDue, Waiting, LostDue, SplitDue, ChooseDue, ShowDue, LeaveSnapshotDue, UnwindDue, EnterCommitDue, LeaveCommitDue, FinishDue, ReplyDue, EndDue}
 use Rattle.session_machine.specs.declared.machine.Machine.{Machine}
 use Rattle.session_machine.specs.Rules.{request_of}
+use Rattle.session_machine.specs.Classes.{is_classed}
 use Rattle.session_machine.specs.Answers.{has_answered}
 
 -- no backend has answered twice
@@ -125,31 +126,32 @@ IsSplit (FinishDue ending) = ⊥
 IsSplit (ReplyDue outcome) = ⊥
 IsSplit EndDue = ⊥
 
--- answers to a serial insert differ, whose statement is a SELECT: no statement is both
-abbrev pub IsSerialAt : Stage → Type 0
-IsSerialAt (Opening work) = ⊥
-IsSerialAt (Reading work ticket) = ⊥
-IsSerialAt (Running work) = ⊥
-IsSerialAt (Locking work table) = ⊥
-IsSerialAt (Inserting work posted) = is_select (requests.Run work.statement) ≡ true
-IsSerialAt Committing = ⊥
-IsSerialAt Closing = ⊥
-IsSerialAt (RollingBack ending) = ⊥
+-- The statement under way was ordered with its own class: so that of a serial insert is no SELECT.
 
-abbrev pub IsSerial : Point → Type 0
-IsSerial Resting = ⊥
-IsSerial (EnterDue work) = ⊥
-IsSerial (LookDue stage) = ⊥
-IsSerial (PostDue stage b) = ⊥
-IsSerial (Waiting stage b) = ⊥
-IsSerial (LostDue stage b before after) = ⊥
-IsSerial (SplitDue stage best own among more) = IsSerialAt stage
-IsSerial (ChooseDue work) = ⊥
-IsSerial ShowDue = ⊥
-IsSerial (LeaveSnapshotDue work) = ⊥
-IsSerial (UnwindDue ending) = ⊥
-IsSerial EnterCommitDue = ⊥
-IsSerial (LeaveCommitDue ending) = ⊥
-IsSerial (FinishDue ending) = ⊥
-IsSerial (ReplyDue outcome) = ⊥
-IsSerial EndDue = ⊥
+abbrev pub is_classed_at : Stage → Bool
+is_classed_at (Opening work) = is_classed work
+is_classed_at (Reading work ticket) = true
+is_classed_at (Running work) = true
+is_classed_at (Locking work table) = not (is_select (requests.Run work.statement))
+is_classed_at (Inserting work posted) = not (is_select (requests.Run work.statement))
+is_classed_at Committing = true
+is_classed_at Closing = true
+is_classed_at (RollingBack ending) = true
+
+abbrev pub is_classed_in : Point → Bool
+is_classed_in Resting = true
+is_classed_in (EnterDue work) = is_classed work
+is_classed_in (LookDue stage) = is_classed_at stage
+is_classed_in (PostDue stage b) = is_classed_at stage
+is_classed_in (Waiting stage b) = is_classed_at stage
+is_classed_in (LostDue stage b before after) = is_classed_at stage
+is_classed_in (SplitDue stage best own among more) = is_classed_at stage
+is_classed_in (ChooseDue work) = true
+is_classed_in ShowDue = true
+is_classed_in (LeaveSnapshotDue work) = is_classed work
+is_classed_in (UnwindDue ending) = true
+is_classed_in EnterCommitDue = true
+is_classed_in (LeaveCommitDue ending) = true
+is_classed_in (FinishDue ending) = true
+is_classed_in (ReplyDue outcome) = true
+is_classed_in EndDue = true

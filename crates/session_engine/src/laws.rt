@@ -1,5 +1,5 @@
 //! Laws of the words of the clauses.
-ghost use Rattle.std.specs.Prelude.{◌≡◌, ◌⊎◌, ◌↔◌, true, false, List};
+ghost use Rattle.std.specs.Prelude.{◌≡◌, ◌⊎◌, ◌↔◌, false, List};
 ghost use Rattle.pool_base.specs.declared.gate_call.View.{View};
 ghost use Rattle.pool_base.specs.declared.gate_call.GateCall.{GateCall};
 ghost use Rattle.pool_base.specs.declared.gate_call.GateAnswer.TheVariants as answers;
@@ -11,9 +11,9 @@ ghost use Rattle.session_machine.specs.declared.machine.Machine.{Machine};
 ghost use Rattle.session_machine.specs.declared.machine.Session.{Session};
 ghost use Rattle.session_machine.specs.declared.outcome.Outcome.{Outcome};
 ghost use Rattle.session_machine.specs.declared.status.Status.{Status};
-ghost use Rattle.session_machine.specs.Allowed.{MayHappen, may_leave};
+ghost use Rattle.session_machine.specs.Allowed.{MayHappen};
 ghost use Rattle.session_machine.specs.Rules.{due, after, next_action};
-ghost use Rattle.session_engine.specs.Sound.{splits_select, IsSerial};
+ghost use Rattle.session_engine.specs.Sound.{splits_select};
 ghost use Rattle.session_engine.specs.Handing.{handed};
 ghost use Rattle.session_engine.specs.Tidying.{tidied, after_all};
 ghost use Rattle.session_engine.specs.Committing.{IsCommitting, IsOver};
@@ -28,13 +28,6 @@ pub fn commit_wants_nothing()
         → (IsCommitting (after m event).point ⊎ IsOver (after m event).point) }
     ensures under_way { (point : Point) → IsCommitting point → splits_select point ≡ false }
     ensures over { (point : Point) → IsOver point → splits_select point ≡ false }
-{}
-
-/// Where want of memory comes, giving up is allowed, but where a serial insert's statement is a
-/// SELECT.
-pub fn want_may_give_up()
-    ensures { (point : Point) → splits_select point ≡ true
-        → (IsSerial point ⊎ (may_leave point ≡ true)) }
 {}
 
 /// A reply that is handed out has been given, but for the answers behind it, which nothing reads: a

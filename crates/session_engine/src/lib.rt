@@ -16,6 +16,6 @@ mod standing;
 
 pub use answers::Answers;
 pub use due::Due;
-pub use laws::{commit_wants_nothing, unread_answers_are_dropped, want_may_give_up};
+pub use laws::{commit_wants_nothing, unread_answers_are_dropped};
 pub use session::Core;
 pub use standing::Standing;

@@ -159,8 +159,9 @@ impl Standing {
         match self.gate {
             GatePhase::Out => self.due = Due::EndDue,
             GatePhase::InSnapshot | GatePhase::Live(_, _) | GatePhase::InCommit => {
+                let stage = Stage::RollingBack(Ending::Leaves);
                 self.answers.clear();
-                self.due = Due::LookDue(Stage::RollingBack(Ending::Leaves));
+                self.due = Due::LookDue(stage);
             }
         }
     }

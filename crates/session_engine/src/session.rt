@@ -6,7 +6,7 @@ ghost use Rattle.session_machine.specs.declared.action.SessionEvent.TheVariants 
 ghost use Rattle.session_machine.specs.declared.order.OrderBody.TheVariants as orders;
 ghost use Rattle.session_engine.specs.Meaning.{machine_of};
 ghost use Rattle.session_engine.specs.Handing.{handed, gate_event, IsPost};
-ghost use Rattle.session_engine.specs.Sound.{IsSound, splits_select};
+ghost use Rattle.session_engine.specs.Sound.{IsSound, splits_select, is_classed_in};
 
 use crate::standing::Standing;
 use backend_trait::Answer;
@@ -20,20 +20,22 @@ use std::alloc::Global;
 /// what is due was not handed out, and `give_up` is the one call that is left.
 #[derive(Debug, Drop)]
 pub struct Core {
-    pub standing: Standing,
+    standing: Standing,
     /// The last call answered want of memory.
-    pub must_give_up: bool,
+    must_give_up: bool,
     ghost sound: { ∥ IsSound (machine_of standing) ∥₁ },
+    ghost classed: { is_classed_in (machine_of standing).point ≡ true },
 }
 
 impl Core {
     ghost use Rattle.session_machine.specs.Rules.{new_machine, after, next_action};
     ghost use Rattle.session_machine.specs.Allowed.{MayHappen, may_leave};
+    ghost use Rattle.session_engine.specs.Cores.{machine_in, must_give_up};
 
     /// A session at its start, with room for the answers of its chains.
     pub fn new(alloc: Global, id: SessionId, policy: ReadPolicy) -> Result<Core, NoMemory>
-        ensures start { IfOk result (λ core. machine_of core.standing ≡ new_machine id policy) }
-        ensures goes_on { IfOk result (λ core. core.must_give_up ≡ false) }
+        ensures start { IfOk result (λ core. machine_in core ≡ new_machine id policy) }
+        ensures goes_on { IfOk result (λ core. must_give_up core ≡ false) }
     {
         Ok(Core {
             standing: Standing::new(alloc, id, policy)?,
@@ -41,15 +43,29 @@ impl Core {
         })
     }
 
+    /// Where it stands.
+    pub fn standing(&self) -> &Standing
+        ensures { machine_of result.now ≡ machine_in self.now }
+    {
+        &self.standing
+    }
+
+    /// Whether the last call answered want of memory: then `give_up` is left.
+    pub fn must_give_up(&self) -> bool
+        ensures { result ≡ must_give_up self.now }
+    {
+        self.must_give_up
+    }
+
     /// Takes an order at rest. It wants no memory.
     pub fn order(&mut self, order: Order) -> Result<Action, NoMemory>
-        requires going { self.old.must_give_up ≡ false }
-        requires may { MayHappen (machine_of self.old.standing) (events.Ordered order) }
+        requires going { must_give_up self.old ≡ false }
+        requires may { MayHappen (machine_in self.old) (events.Ordered order) }
         ensures action { result ≡ Ok (next_action
-            (after (machine_of self.old.standing) (events.Ordered order))) }
-        ensures state { machine_of self.new.standing ≡ handed
-            (after (machine_of self.old.standing) (events.Ordered order)) }
-        ensures goes_on { self.new.must_give_up ≡ false }
+            (after (machine_in self.old) (events.Ordered order))) }
+        ensures state { machine_in self.new ≡ handed
+            (after (machine_in self.old) (events.Ordered order)) }
+        ensures goes_on { must_give_up self.new ≡ false }
     {
         self.standing.ordered(order);
         self.standing.hand_out()
@@ -57,24 +73,25 @@ impl Core {
 
     /// Takes the gate's answer to the call or to the detachment that was due.
     pub fn gate_answer(&mut self, answer: GateAnswer) -> Result<Action, NoMemory>
-        requires going { self.old.must_give_up ≡ false }
-        requires may { MayHappen (machine_of self.old.standing)
-            (gate_event (next_action (machine_of self.old.standing)) answer) }
+        requires going { must_give_up self.old ≡ false }
+        requires may { MayHappen (machine_in self.old)
+            (gate_event (next_action (machine_in self.old)) answer) }
         ensures action { IfOk result (λ action. action ≡ next_action
-            (after (machine_of self.old.standing)
-            (gate_event (next_action (machine_of self.old.standing)) answer))) }
-        ensures state { OnOk result (machine_of self.new.standing ≡ handed
-            (after (machine_of self.old.standing)
-            (gate_event (next_action (machine_of self.old.standing)) answer))) }
+            (after (machine_in self.old)
+            (gate_event (next_action (machine_in self.old)) answer))) }
+        ensures state { OnOk result (machine_in self.new ≡ handed
+            (after (machine_in self.old)
+            (gate_event (next_action (machine_in self.old)) answer))) }
 
         // Want of memory, with what was taken: it comes where answers to a SELECT differ.
-        ensures taken { OnErr result (machine_of self.new.standing ≡
-            after (machine_of self.old.standing)
-            (gate_event (next_action (machine_of self.old.standing)) answer)) }
+        ensures taken { OnErr result (machine_in self.new ≡
+            after (machine_in self.old)
+            (gate_event (next_action (machine_in self.old)) answer)) }
         ensures want { IfErr result (λ _. splits_select
-            (after (machine_of self.old.standing)
-            (gate_event (next_action (machine_of self.old.standing)) answer)).point ≡ true) }
-        ensures must { self.new.must_give_up ≡ is_err result }
+            (after (machine_in self.old)
+            (gate_event (next_action (machine_in self.old)) answer)).point ≡ true) }
+        ensures leaves { IfErr result (λ _. may_leave (machine_in self.new).point ≡ true) }
+        ensures must { must_give_up self.new ≡ is_err result }
     {
         self.standing.gate_answered(answer);
         let action = self.standing.hand_out();
@@ -84,52 +101,52 @@ impl Core {
 
     /// The request that was due is posted.
     pub fn posted(&mut self) -> Action
-        requires going { self.old.must_give_up ≡ false }
-        requires may { IsPost (next_action (machine_of self.old.standing)) }
+        requires going { must_give_up self.old ≡ false }
+        requires may { IsPost (next_action (machine_in self.old)) }
         ensures state { (b : BackendId) → (request : Request)
-            → machine_of self.new.standing ≡
-            after (machine_of self.old.standing) (events.Posted b request) }
-        ensures action { result ≡ next_action (machine_of self.new.standing) }
-        ensures goes_on { self.new.must_give_up ≡ false }
+            → machine_in self.new ≡
+            after (machine_in self.old) (events.Posted b request) }
+        ensures action { result ≡ next_action (machine_in self.new) }
+        ensures goes_on { must_give_up self.new ≡ false }
     {
         self.standing.posted()
     }
 
     /// Takes the answer of the backend that was waited for. It wants no memory.
     pub fn backend_answer(&mut self, b: BackendId, answer: Answer) -> Result<Action, NoMemory>
-        requires going { self.old.must_give_up ≡ false }
-        requires may { MayHappen (machine_of self.old.standing) (events.Taken b answer) }
-        ensures state { machine_of self.new.standing ≡
-            after (machine_of self.old.standing) (events.Taken b answer) }
-        ensures action { result ≡ Ok (next_action (machine_of self.new.standing)) }
-        ensures goes_on { self.new.must_give_up ≡ false }
+        requires going { must_give_up self.old ≡ false }
+        requires may { MayHappen (machine_in self.old) (events.Taken b answer) }
+        ensures state { machine_in self.new ≡
+            after (machine_in self.old) (events.Taken b answer) }
+        ensures action { result ≡ Ok (next_action (machine_in self.new)) }
+        ensures goes_on { must_give_up self.new ≡ false }
     {
         Ok(self.standing.taken(b, answer))
     }
 
     /// The backend that was waited for is lost: its count of faults before and after.
     pub fn backend_lost(&mut self, b: BackendId, before: u64, after: u64) -> Action
-        requires going { self.old.must_give_up ≡ false }
-        requires may { MayHappen (machine_of self.old.standing) (events.Faulted b before after) }
-        ensures state { machine_of self.new.standing ≡
-            Rattle.session_machine.specs.Rules.after (machine_of self.old.standing)
+        requires going { must_give_up self.old ≡ false }
+        requires may { MayHappen (machine_in self.old) (events.Faulted b before after) }
+        ensures state { machine_in self.new ≡
+            Rattle.session_machine.specs.Rules.after (machine_in self.old)
             (events.Faulted b before after) }
-        ensures action { result ≡ next_action (machine_of self.new.standing) }
-        ensures goes_on { self.new.must_give_up ≡ false }
+        ensures action { result ≡ next_action (machine_in self.new) }
+        ensures goes_on { must_give_up self.new ≡ false }
     {
         self.standing.faulted(before, after)
     }
 
     /// The client is gone, wherever the session stands; no request may be pending.
     pub fn give_up(&mut self) -> Action
-        requires { may_leave (machine_of self.old.standing).point ≡ true }
+        requires { may_leave (machine_in self.old).point ≡ true }
         ensures action { (moment : ℤ) → result ≡ next_action
-            (after (machine_of self.old.standing)
+            (after (machine_in self.old)
             (events.Ordered (record { moment = moment; body = orders.Leave }))) }
-        ensures state { (moment : ℤ) → machine_of self.new.standing ≡ handed
-            (after (machine_of self.old.standing)
+        ensures state { (moment : ℤ) → machine_in self.new ≡ handed
+            (after (machine_in self.old)
             (events.Ordered (record { moment = moment; body = orders.Leave }))) }
-        ensures goes_on { self.new.must_give_up ≡ false }
+        ensures goes_on { must_give_up self.new ≡ false }
     {
         self.standing.left();
         self.must_give_up = false;

@@ -1,5 +1,5 @@
 -- Which events may happen at a session.
-use Rattle.std.specs.Prelude.{◌≡◌, ℕ, Bool, true, false}
+use Rattle.std.specs.Prelude.{◌≡◌, ℕ, Bool, true, false, ◌&&◌}
 use Rattle.pool_base.specs.Outside.{Rose}
 use Rattle.pool_base.specs.declared.gate_call.GateCall.{GateCall}
 use Rattle.pool_base.specs.declared.gate_call.GateCall.TheVariants as calls
@@ -23,6 +23,7 @@ use Rattle.session_machine.specs.declared.machine.Point.TheVariants.{Resting, En
 use Rattle.session_machine.specs.declared.machine.Session.{Session}
 use Rattle.session_machine.specs.declared.machine.Machine.{Machine}
 use Rattle.session_machine.specs.Rules.{next_action, request_of}
+use Rattle.session_machine.specs.Classes.{is_classed}
 
 -- Orders come at rest, but for a Leave.
 
@@ -93,14 +94,15 @@ may_stop Committing = false
 may_stop Closing = true
 may_stop (RollingBack ending) = true
 
--- a Leave may come wherever no request waits for its answer and nothing has to be completed
+-- a Leave may come wherever no request is pending and nothing has to be completed: at a lost backend its request is pending until
+-- the backend is detached
 abbrev pub may_leave : Point → Bool
 may_leave Resting = true
 may_leave (EnterDue work) = true
 may_leave (LookDue stage) = may_stop stage
 may_leave (PostDue stage b) = may_stop stage
 may_leave (Waiting stage b) = false
-may_leave (LostDue stage b before after) = may_stop stage
+may_leave (LostDue stage b before after) = false
 may_leave (SplitDue stage best own among more) = may_stop stage
 may_leave (ChooseDue work) = true
 may_leave ShowDue = true
@@ -118,7 +120,9 @@ fits_at_rest true status phase body = fits status phase body
 
 abbrev pub may_order : Session → Point → OrderBody → Bool
 may_order session point orders.Leave = may_leave point
-may_order session point (orders.Statement work) = fits_at_rest (is_resting point) session.status session.gate (orders.Statement work)
+-- a statement is ordered with its own class and tables
+may_order session point (orders.Statement work) =
+    is_classed work && fits_at_rest (is_resting point) session.status session.gate (orders.Statement work)
 may_order session point orders.Begin = fits_at_rest (is_resting point) session.status session.gate orders.Begin
 may_order session point orders.Commit = fits_at_rest (is_resting point) session.status session.gate orders.Commit
 may_order session point orders.Rollback = fits_at_rest (is_resting point) session.status session.gate orders.Rollback

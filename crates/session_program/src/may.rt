@@ -3,6 +3,7 @@ ghost use Rattle.std.specs.Prelude.{◌≡◌, ◌↔◌, IsTrue};
 ghost use Rattle.session_machine.specs.Allowed.{MayHappen, is_resting, is_out, fits, may_stop, may_leave, fits_at_rest, may_order, is_seen, is_granted, is_granted_or_spent, is_seen_or_granted, answers_call};
 ghost use Rattle.session_machine.specs.Deciding.{call_at, is_call, is_post_due, is_waiting_for, is_fault, is_difference, is_detach_due, is_reply_due, is_end_due, has_form, rose, happens};
 
+use crate::class::is_classed;
 use crate::form::is_of_stage;
 use backend_trait::{Answer, Request};
 use pool_base::{BackendId, GateAnswer, GateCall};
@@ -90,11 +91,9 @@ fn may_leave(point: &Point) -> bool
     ensures { result ≡ may_leave point.now }
 {
     match point {
-        Point::LookDue(stage)
-        | Point::PostDue(stage, _)
-        | Point::LostDue(stage, _, _, _)
-        | Point::SplitDue(stage, _, _, _, _) => may_stop(stage),
-        Point::Waiting(_, _) | Point::LeaveCommitDue(_) => false,
+        Point::LookDue(stage) | Point::PostDue(stage, _) | Point::SplitDue(stage, _, _, _, _) =>
+            may_stop(stage),
+        Point::Waiting(_, _) | Point::LostDue(_, _, _, _) | Point::LeaveCommitDue(_) => false,
         Point::Resting
         | Point::EnterDue(_)
         | Point::ChooseDue(_)
@@ -124,8 +123,10 @@ fn may_order(session: &Session, point: &Point, body: &OrderBody) -> bool
     match body {
         OrderBody::Leave => may_leave(point),
         OrderBody::Recover(_) => false,
-        OrderBody::Statement(_)
-        | OrderBody::Begin
+        OrderBody::Statement(work) => {
+            is_classed(*work) && fits_at_rest(is_resting(point), session.status, session.gate, body)
+        }
+        OrderBody::Begin
         | OrderBody::Commit
         | OrderBody::Rollback
         | OrderBody::Settle

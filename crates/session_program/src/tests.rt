@@ -59,10 +59,14 @@ fn statement(ask: Ask, class: Class) -> OrderBody {
             Checked::Insert { key: 1, value: 10 }
         }
     };
+    let tables = match class {
+        Class::Read | Class::LockingRead => 0,
+        Class::Write(_) | Class::SerialInsert(_) => 1,
+    };
     OrderBody::Statement(Work {
         statement,
         class,
-        tables: 1,
+        tables,
     })
 }
 

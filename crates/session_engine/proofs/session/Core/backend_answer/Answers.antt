@@ -2,6 +2,7 @@ use Rattle.std.proofs.Common.{◌∙◌}
 use Rattle.std.proofs.Math.Logic.{∥∥₁_map}
 use Rattle.session_engine.specs.Meaning.{session_of, machine_of}
 use Rattle.session_engine.proofs.Events.{taken_sound}
+use Rattle.session_engine.proofs.Classes.{taken_keeps, carried}
 use Rattle.session_engine.proofs.Calls.{taken_is, waiting, room, led}
 use Rattle.session_engine.proofs.session.Core.backend_answer.Goals as goal
 
@@ -19,6 +20,7 @@ invariant_of-self c =
       sound =
           ∥∥₁_map c.args.self.now.sound
           (λ sound. led _ _ c.taken.ensures.state (taken_sound m.session c.args.b c.args.answer m.point sound c.requires.may.0 c.requires.may.1));
+      classed = carried _ _ c.taken.ensures.state (taken_keeps m.session c.args.b c.args.answer m.point c.args.self.now.classed);
     }
 
 pub returns-clause-state : goal.returns-clause-state

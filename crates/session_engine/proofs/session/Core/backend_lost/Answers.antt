@@ -2,6 +2,7 @@ use Rattle.std.proofs.Common.{◌∙◌}
 use Rattle.std.proofs.Math.Logic.{∥∥₁_map}
 use Rattle.session_engine.specs.Meaning.{session_of, machine_of}
 use Rattle.session_engine.proofs.Events.{faulted_sound}
+use Rattle.session_engine.proofs.Classes.{faulted_keeps, carried}
 use Rattle.session_engine.proofs.Calls.{faulted_is, waiting, led}
 use Rattle.session_engine.proofs.session.Core.backend_lost.Goals as goal
 
@@ -15,6 +16,7 @@ invariant_of-self c =
       sound =
           ∥∥₁_map c.args.self.now.sound
           (λ sound. led _ _ c.faulted.ensures.state (faulted_sound m.session c.args.before c.args.after m.point sound));
+      classed = carried _ _ c.faulted.ensures.state (faulted_keeps m.session c.args.before c.args.after m.point c.args.self.now.classed);
     }
 
 pub returns-clause-state : goal.returns-clause-state

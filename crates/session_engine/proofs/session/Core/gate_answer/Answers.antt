@@ -6,6 +6,8 @@ use Rattle.session_engine.specs.Meaning.{machine_of}
 use Rattle.session_engine.specs.Handing.{handed}
 use Rattle.session_engine.specs.Sound.{splits_select}
 use Rattle.session_engine.proofs.Calls.{gate_event_sound, led, handed_or_kept, wanted}
+use Rattle.session_engine.proofs.Classes.{gate_event_keeps, carried, own_or_kept}
+use Rattle.session_engine.proofs.Giving.{want_may_leave}
 use Rattle.session_engine.proofs.session.Core.gate_answer.Goals as goal
 
 pub invariant_of-self : goal.invariant_of-self
@@ -16,6 +18,9 @@ invariant_of-self c =
           ∥∥₁_map c.args.self.now.sound
           (λ sound. handed_or_kept c.hand_out-action.result (machine_of c.gate_answered.new.self) _ c.hand_out-action.ensures.ok c.hand_out-action.ensures.err
           (led _ _ c.gate_answered.ensures (gate_event_sound m (next_action m) c.args.answer sound)));
+      classed =
+          own_or_kept c.hand_out-action.result (machine_of c.gate_answered.new.self) _ c.hand_out-action.ensures.ok c.hand_out-action.ensures.err
+          (carried _ _ c.gate_answered.ensures (gate_event_keeps m (next_action m) c.args.answer c.args.self.now.classed));
     }
 
 pub returns-clause-action : goal.returns-clause-action
@@ -35,3 +40,11 @@ returns-clause-want c =
     let m = machine_of c.args.self.now.standing in
     subst (λ (n : Machine). IfErr c.hand_out-action.result (λ _. splits_select n.point ≡ true)) c.gate_answered.ensures
     (wanted c.hand_out-action.result (machine_of c.gate_answered.new.self) (∥∥₁_map c.args.self.now.sound (λ sound. led _ _ c.gate_answered.ensures (gate_event_sound m (next_action m) c.args.answer sound))) c.hand_out-action.ensures.split c.hand_out-action.ensures.want)
+
+pub returns-clause-leaves : goal.returns-clause-leaves
+returns-clause-leaves c =
+    let m = machine_of c.args.self.now.standing in
+    want_may_leave c.hand_out-action.result (machine_of c.gate_answered.new.self) (machine_of c.hand_out-action.new.self)
+    (carried _ _ c.gate_answered.ensures (gate_event_keeps m (next_action m) c.args.answer c.args.self.now.classed))
+    (wanted c.hand_out-action.result (machine_of c.gate_answered.new.self) (∥∥₁_map c.args.self.now.sound (λ sound. led _ _ c.gate_answered.ensures (gate_event_sound m (next_action m) c.args.answer sound))) c.hand_out-action.ensures.split c.hand_out-action.ensures.want)
+    c.hand_out-action.ensures.err

@@ -5,6 +5,7 @@ use Rattle.session_engine.specs.Meaning.{session_of, machine_of}
 use Rattle.session_engine.specs.Handing.{handed}
 use Rattle.session_engine.proofs.Soundness.{left_sound}
 use Rattle.session_engine.proofs.Events.{handed_too}
+use Rattle.session_engine.proofs.Classes.{left_keeps, carried, handed_own}
 use Rattle.session_engine.proofs.Calls.{leave_is, led}
 use Rattle.session_engine.proofs.session.Core.give_up.Goals as goal
 
@@ -16,6 +17,7 @@ invariant_of-self c =
       sound =
           ∥∥₁_map c.args.self.now.sound
           (λ sound. led _ _ c.hand_out_end.ensures.state (handed_too left_at (led _ left_at c.left.ensures.is (left_sound m.session m.point sound))));
+      classed = carried _ _ c.hand_out_end.ensures.state (handed_own left_at (carried _ left_at c.left.ensures.is (left_keeps m.session m.point)));
     }
 
 pub returns-clause-action : goal.returns-clause-action

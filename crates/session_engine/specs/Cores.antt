@@ -1,0 +1,12 @@
+-- Where a core stands, and whether it goes on.
+use Rattle.std.specs.Prelude.{Bool}
+use Rattle.session_machine.specs.declared.machine.Machine.{Machine}
+use Rattle.session_engine.specs.declared.session.Core.{Core}
+use Rattle.session_engine.specs.Meaning.{machine_of}
+
+abbrev pub machine_in : Core → Machine
+machine_in core = machine_of core.standing
+
+-- its last call answered want of memory
+abbrev pub must_give_up : Core → Bool
+must_give_up core = core.must_give_up
