@@ -24,7 +24,8 @@ use Rattle.one_copy_model.specs.Tracking.{Told, Tracked, first_tracked, tracked_
 use Rattle.one_copy_model.specs.Replies.{IsReply, IsDoneBy, WhereEntered, FollowsReply, RepliesRightAt, RepliesRight, RepliesMatch, AcknowledgedAt, Acknowledged, AllAcknowledged}
 use Rattle.one_copy_model.specs.Statement.{IsOneCopy}
 use Rattle.one_copy_model.specs.Standing.{Leaving, standing_by, standing_of}
-use Rattle.one_copy_model.specs.Invariant.{Invariant, AlwaysHolds, IsUnderWay, reply_in}
+use Rattle.one_copy_model.specs.Orders.{reply_in}
+use Rattle.one_copy_model.specs.Invariant.{Invariant, AlwaysHolds, IsUnderWay}
 use Rattle.one_copy_model.proofs.InvariantLaws.{open_stays}
 
 -- an order comes at rest, where none is under way

@@ -1,15 +1,20 @@
 -- The invariant holds at the start, and agreement follows from it.
 use Rattle.std.proofs.Common.{◌≡◌, ◌≢◌, ℕ, zero, suc, ◌≤◌, Bool, true, false, List, [], ◌∷◌, refl, sym, ◌∙◌, subst, arith, inl, inr}
 use Rattle.std.specs.Prelude.{◌⊎◌, if◌then◌else◌, Option, Some, None}
+use Rattle.std.specs.FinMap as fin
 use Rattle.std.proofs.lemmas.Bool.Decides.{leb_tells}
 use Rattle.pool_base.specs.declared.backend_set.BackendSet.{BackendSet}
 use Rattle.backend_trait.specs.declared.request.Request.{Request}
 use Rattle.backend_trait.specs.declared.request.Request.TheVariants as requests
 use Rattle.backend_trait.specs.declared.answer.Answer.{Answer}
-use Rattle.backend_trait.specs.Keys.{Place}
+use Rattle.backend_trait.specs.Keys.{Place, place_order}
+use Rattle.backend_trait.specs.Rows.{no_rows}
+use Rattle.backend_trait.specs.Acts.{HasColumns}
+use Rattle.backend_trait.specs.declared.row.Row.{Row}
 use Rattle.backend_trait.specs.Effect.{nothing, Conflicts, same_place, same_table, table_left, table_right}
 use Rattle.backend_trait.specs.Store.{Absent, Alive, blank, is_refusal}
 use Rattle.backend_trait.proofs.RowLaws.{same_rows}
+use Rattle.session_machine.specs.declared.action.Action.TheVariants as actions
 use Rattle.session_machine.specs.declared.machine.ReadPolicy.{ReadPolicy}
 use Rattle.session_machine.specs.declared.machine.GatePhase.{GatePhase}
 use Rattle.session_machine.specs.declared.machine.GatePhase.TheVariants as phases
@@ -19,10 +24,11 @@ use Rattle.session_machine.specs.declared.machine.Point.{Point}
 use Rattle.session_machine.specs.declared.machine.Point.TheVariants.{Resting, EnterDue, LookDue, PostDue, Waiting, LostDue, SplitDue, ChooseDue, ShowDue, LeaveSnapshotDue, UnwindDue, EnterCommitDue, LeaveCommitDue, FinishDue, ReplyDue, EndDue}
 use Rattle.one_copy_model.specs.Places.{asks_of}
 use Rattle.one_copy_model.specs.Deaths.{stage_at, answer_from}
-use Rattle.one_copy_model.specs.Tracking.{Tracked, first_tracked}
+use Rattle.one_copy_model.specs.Tracking.{Tracked, in_commit, first_tracked}
+use Rattle.one_copy_model.specs.Chains.{AreShaped}
 use Rattle.one_copy_model.specs.Statement.{NobodyCommits, NobodyInserts, IsInserting, ReplicasAgree}
 use Rattle.one_copy_model.specs.Standing.{Standing, Nowhere, Fresh, Ahead, Leaving, Fallen, Ending, told_in, standing_in, standing_open, standing_by}
-use Rattle.one_copy_model.specs.Invariant.{Invariant, IsSound, Leaves, InsertsIn, IsInsertingIn, IsStranger, FitsPoint, fits_stage, in_commit}
+use Rattle.one_copy_model.specs.Invariant.{Invariant, AnswersAlike, IsSound, Leaves, InsertsIn, IsInsertingIn, IsStranger, FitsPoint, fits_stage}
 
 -- a store before its first request is sound
 no_conflict : ¬ (Conflicts nothing nothing)
@@ -38,6 +44,23 @@ blank_sound = record {
   fresh = λ s t p e. absurd (let n : Absent ≡ Alive t = e in cc);
 }
 
+no_row : (row : Row) (found : Option Row) → found ≡ None → found ≡ Some row → HasColumns row
+no_row row found none e = absurd (let n : None ≡ Some row = sym none ∙ e in cc)
+
+blank_shaped : AreShaped blank
+blank_shaped = record {
+  rows = λ p row e. no_row row (fin.get no_rows p) (fin.get-empty place_order p) e;
+  bases = λ s t p row e. absurd (let n : Absent ≡ Alive t = e in cc);
+  changes = λ s t p row e. absurd (let n : Absent ≡ Alive t = e in cc);
+}
+
+pub alike_first : (policy : ReadPolicy) (attached : BackendSet) → AnswersAlike (first_tracked policy attached)
+alike_first policy attached = record {
+  uncrossed = λ s b lower p stage here below less e. absurd (let n : None ≡ Some stage = e in cc);
+  lowest = λ s b lower stage code here below e. absurd (let n : None ≡ Some stage = e in cc);
+  stopped = λ s b c stage answer here e. absurd (let n : None ≡ Some stage = e in cc);
+}
+
 pub holds_first : (policy : ReadPolicy) (attached : BackendSet) → Invariant (first_tracked policy attached)
 holds_first policy attached = record {
   counts = record { snaps = refl; commits = refl; live = refl; apart = inl refl; quiet = λ e. absurd (let n : 0 ≡ 3 = e in omega (arith, n)) };
@@ -48,23 +71,30 @@ holds_first policy attached = record {
     untold = λ p e. absurd (let n : None ≡ Some p = e in cc);
     told = λ answer e. absurd (let n : None ≡ Some answer = e in cc);
   };
+  in_order = λ s stage e. absurd (let n : None ≡ Some stage = e in cc);
+  heard = λ s b stage answer here e. absurd (let n : None ≡ Some stage = e in cc);
+  parting = λ s stage best own among more e. absurd (let n : Resting ≡ SplitDue stage best own among more = e in cc);
+  causes = λ s b cause e. absurd (let n : actions.Rest ≡ actions.Detach b cause = e in cc);
   stands = λ s b here. (refl, refl);
   sound = λ b here. blank_sound;
+  shaped = λ b. blank_shaped;
   sound_there = blank_sound;
   stale = λ o s p last u in_it. absurd (let n : false ≡ true = in_it in cc);
   stale_known = λ s b l u p here e. absurd (let n : Absent ≡ Alive l = e in cc);
   crossed_there = λ s b p q here kept e. absurd (let n : None ≡ Some p = e in cc);
-  uncrossed = λ s b lower p here below less kept e. absurd (let n : None ≡ Some p = e in cc);
   unchanged = λ s u tables e. absurd (let n : phases.Out ≡ phases.Live false tables = e in cc);
   rows_same = λ b p here none. refl;
   rows_left = λ o b p last here leaves e. absurd (let n : Absent ≡ Alive last = e in cc);
   numbers = λ b table here. inl refl;
   alive = λ s e. absurd (let n : false ≡ true = e in cc);
-  reasons = λ s b stage code here e. absurd (let n : None ≡ Some stage = e in cc);
+  reasons = λ s stage told code e. absurd (let n : None ≡ Some stage = e in cc);
   run = tt;
   posts = λ s. refl;
   replies = λ s told outcome e. absurd (let n : None ≡ Some told = e in cc);
   orders = λ s. refl;
+  order_is = λ s told e. absurd (let n : None ≡ Some told = e in cc);
+  since = λ s told e. absurd (let n : None ≡ Some told = e in cc);
+  commits = λ s b told here e. absurd (let n : None ≡ Some told = e in cc);
   done_first = λ s b told e. absurd (let n : None ≡ Some told = e in cc);
 }
 

@@ -17,7 +17,8 @@ use Rattle.one_copy_model.specs.Deaths.{is_live, is_alive_at, is_alive, fell, fa
 use Rattle.one_copy_model.specs.Tracking.{Told, Tracked, single, tracked_after}
 use Rattle.one_copy_model.specs.Replies.{IsOwn, of_moment, of_counts, of_backends, of_refusal, of_nodes, IsRight}
 use Rattle.one_copy_model.specs.Standing.{Stands, standing_of, leaving_of}
-use Rattle.one_copy_model.specs.Invariant.{Invariant, IsAtRest, IsInLine, HasLine, IsSound, Leaves, KnowsStale, InsertsIn}
+use Rattle.one_copy_model.specs.Chains.{AreShaped}
+use Rattle.one_copy_model.specs.Invariant.{Invariant, AnswersAlike, IsAtRest, IsInLine, HasLine, IsSound, Leaves, KnowsStale, InsertsIn}
 
 -- a fact that a loss keeps of one store it keeps of each
 keeps : (P : Store → Type 0) → ((x : Store) → P x → P (lost_by x)) → (st : ℕ → Store) (b k : ℕ) → P (st k) → P (with_at st b (lost_by (st b)) k)
@@ -108,13 +109,17 @@ module _ (t : Tracked) (b : BackendId) (h : Invariant t) where
     strangers = λ s stranger. to_rest s (h.strangers s stranger);
     inside = h.inside;
     line = λ s k. to_line s k (h.line s k);
+    in_order = h.in_order;
+    heard = h.heard;
+    parting = h.parting;
+    causes = h.causes;
     stands = λ s k here. keeps (λ x. Stands (single t) s (leaving_of s t.history) (standing_of t.world s k) (x.transaction s) ((single t).transaction s)) (λ x e. e) t.world.store b.number k (h.stands s k here);
     sound = λ k here. keeps IsSound (λ x sound. record { apart = sound.apart; changed = sound.changed; fresh = sound.fresh }) t.world.store b.number k (h.sound k here);
+    shaped = λ k. keeps AreShaped (λ x shaped. record { rows = shaped.rows; bases = shaped.bases; changes = shaped.changes }) t.world.store b.number k (h.shaped k);
     sound_there = h.sound_there;
     stale = h.stale;
     stale_known = λ s k l u p here. keeps (λ x. x.transaction s ≡ Alive l → (single t).transaction s ≡ Alive u → KnowsStale there s k l u p) (λ x f. f) t.world.store b.number k (λ e g. to_stale s k l u p (h.stale_known s k l u p here e g));
     crossed_there = λ s k p q here. keeps (λ x. x.lost ≡ false → x.pending s ≡ Some p → (single t).pending s ≡ Some q → p.crossed ≡ true → q.crossed ≡ true) (λ x f kept. absurd (let n : true ≡ false = kept in cc)) t.world.store b.number k (h.crossed_there s k p q here);
-    uncrossed = λ s k lower p here below less. keeps (λ x. x.lost ≡ false → x.pending s ≡ Some p → p.crossed ≡ false) (λ x f kept. absurd (let n : true ≡ false = kept in cc)) t.world.store b.number k (h.uncrossed s k lower p here below less);
     unchanged = h.unchanged;
     rows_same = λ k p here none. keeps (λ x. fin.get x.rows p ≡ fin.get (single t).rows p) (λ x e. e) t.world.store b.number k (h.rows_same k p here (λ o l. none o (to_leaves o k p l)));
     rows_left = λ o k p last here l. h.rows_left o k p last here (from_leaves o k p l);
@@ -125,10 +130,28 @@ module _ (t : Tracked) (b : BackendId) (h : Invariant t) where
     posts = h.posts;
     replies = λ s told outcome e g. to_right s told outcome (h.replies s told outcome e g);
     orders = h.orders;
+    order_is = h.order_is;
+    since = h.since;
+    commits = h.commits;
     done_first = h.done_first;
   }
+
+  alike_there : AnswersAlike t → AnswersAlike there
+  alike_there a = record {
+    uncrossed = λ s k lower p stage here below less at may. keeps (λ x. x.lost ≡ false → x.pending s ≡ Some p → p.crossed ≡ false) (λ x f kept. absurd (let n : true ≡ false = kept in cc)) t.world.store b.number k (a.uncrossed s k lower p stage here below less at may);
+    lowest = a.lowest;
+    stopped = a.stopped;
+  }
+
+  no_history : fallen new t.history 65 ≡ t.history
+  no_history = none_fall new t.history (λ s live. same_alive s ∙ h.alive s live) 65
+
+  pub loss_alike : AnswersAlike t → AnswersAlike (tracked_after t (Lost b))
+  loss_alike a =
+      subst (λ (history : List Entry). AnswersAlike (record { world = new; history = history; orders = t.orders; done = t.done }))
+      (sym no_history) (alike_there a)
 
   pub loss_kept : Invariant (tracked_after t (Lost b))
   loss_kept =
       subst (λ (history : List Entry). Invariant (record { world = new; history = history; orders = t.orders; done = t.done }))
-      (sym (none_fall new t.history (λ s live. same_alive s ∙ h.alive s live) 65)) holds_there
+      (sym no_history) holds_there

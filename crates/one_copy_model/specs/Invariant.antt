@@ -1,9 +1,10 @@
 -- What holds at every moment of every schedule: named facts. "Here" is an attached backend, lost or not; "there" is the single run.
-use Rattle.std.specs.Prelude.{◌≡◌, ◌≢◌, ◌⊎◌, ℕ, zero, suc, ◌+◌, ◌<◌, ◌≤◌, Bool, true, false, ◌&&◌, ◌==◌, is_some, if◌then◌else◌, List, [], ◌∷◌, Option, Some, None}
+use Rattle.std.specs.Prelude.{◌≡◌, ◌≢◌, ◌⊎◌, ℕ, zero, suc, ◌+◌, ◌<◌, ◌≤◌, Bool, true, false, ◌==◌, is_some, if◌then◌else◌, List, [], ◌∷◌, length, Option, Some, None}
 use Rattle.std.specs.FinMap as fin
 use Rattle.pool_base.specs.Sets.{has}
 use Rattle.pool_base.specs.declared.code.Code.{Code}
 use Rattle.pool_base.specs.declared.backend_id.BackendId.{BackendId}
+use Rattle.pool_base.specs.declared.backend_set.BackendSet.{BackendSet}
 use Rattle.backend_trait.specs.declared.request.Request.{Request}
 use Rattle.backend_trait.specs.declared.request.Request.TheVariants as requests
 use Rattle.backend_trait.specs.declared.answer.Answer.{Answer}
@@ -11,28 +12,33 @@ use Rattle.backend_trait.specs.declared.answer.Answer.TheVariants as answers
 use Rattle.backend_trait.specs.Keys.{Place}
 use Rattle.backend_trait.specs.Rows.{no_changes}
 use Rattle.backend_trait.specs.Effect.{Conflicts}
-use Rattle.backend_trait.specs.Store.{Live, Absent, Alive, Pending, Store, held_by}
-use Rattle.backend_trait.specs.Acts.{MayAnswer, IsOf}
+use Rattle.backend_trait.specs.Store.{Live, Absent, Alive, Pending, Store, held_by, is_refusal}
+use Rattle.backend_trait.specs.Acts.{MayAnswer, IsOf, IsOutOfMemory}
 use Rattle.session_machine.specs.declared.order.Class.TheVariants as classes
 use Rattle.session_machine.specs.declared.outcome.Outcome.{Outcome}
+use Rattle.session_machine.specs.declared.action.Cause.{Cause}
+use Rattle.session_machine.specs.declared.action.Action.TheVariants as actions
 use Rattle.session_machine.specs.declared.machine.GatePhase.{GatePhase}
 use Rattle.session_machine.specs.declared.machine.GatePhase.TheVariants as phases
-use Rattle.session_machine.specs.declared.machine.Ending.TheVariants as endings
+use Rattle.session_machine.specs.declared.machine.Heard.{Heard}
 use Rattle.session_machine.specs.declared.machine.Stage.{Stage}
 use Rattle.session_machine.specs.declared.machine.Stage.TheVariants.{Opening, Reading, Running, Locking, Inserting, Committing, Closing, RollingBack}
 use Rattle.session_machine.specs.declared.machine.Point.{Point}
-use Rattle.session_machine.specs.declared.machine.Point.TheVariants.{Resting, EnterDue, Waiting, ChooseDue, ShowDue, LeaveSnapshotDue, UnwindDue, EnterCommitDue, LeaveCommitDue, FinishDue, ReplyDue, EndDue}
+use Rattle.session_machine.specs.declared.machine.Point.TheVariants.{Resting, EnterDue, Waiting, SplitDue, ChooseDue, ShowDue, LeaveSnapshotDue, UnwindDue, EnterCommitDue, LeaveCommitDue, FinishDue, ReplyDue, EndDue}
 use Rattle.session_machine.specs.declared.machine.Machine.{Machine}
-use Rattle.session_machine.specs.Rules.{request_of}
+use Rattle.session_machine.specs.Rules.{next_action, request_of, commit_outcome}
 use Rattle.one_copy_model.specs.declared.deed.Deed.TheVariants.{Asks, Gets}
 use Rattle.one_copy_model.specs.declared.deed.Entry.{Entry}
 use Rattle.one_copy_model.specs.SingleRun.{store_after, IsRun, is_fall}
 use Rattle.one_copy_model.specs.World.{World}
 use Rattle.one_copy_model.specs.Places.{asks_of}
-use Rattle.one_copy_model.specs.Deaths.{is_live, is_alive, stage_at, answer_from, recorded}
+use Rattle.one_copy_model.specs.Deaths.{is_live, is_alive, stage_at, heard_from, answer_from, recorded}
 use Rattle.one_copy_model.specs.declared.event.Event.{Event}
-use Rattle.one_copy_model.specs.Tracking.{Told, Tracked, single, tracked_after}
-use Rattle.one_copy_model.specs.Replies.{IsRight}
+use Rattle.one_copy_model.specs.Tracking.{Told, Tracked, in_commit, single, tracked_after}
+use Rattle.one_copy_model.specs.Replies.{given, IsRight}
+use Rattle.one_copy_model.specs.Statement.{HasCause}
+use Rattle.one_copy_model.specs.Chains.{IsInOrder, IsParting, IsKept, IsHeard, AreShaped, asked_in}
+use Rattle.one_copy_model.specs.Orders.{OrderAt, reply_in, is_of_commit}
 use Rattle.one_copy_model.specs.Standing.{Leaving, Stands, standing_of, leaving_of}
 
 abbrev pub IsHere : World → ℕ → Type 0
@@ -47,10 +53,6 @@ count_below p (suc n) = count_below p n + (if p n then 1 else 0)
 abbrev pub in_snapshot : GatePhase → Bool
 in_snapshot phases.InSnapshot = true
 in_snapshot phase = false
-
-abbrev pub in_commit : GatePhase → Bool
-in_commit phases.InCommit = true
-in_commit phase = false
 
 abbrev pub in_transaction : GatePhase → Bool
 in_transaction phases.Out = false
@@ -170,26 +172,41 @@ abbrev pub request_in : Option Pending → Option Request
 request_in None = None
 request_in (Some p) = Some p.request
 
--- The code that a backend has given is one that the single run may give now, or could give at the session's latest death.
+-- The code that a backend has given is one that the single run may give now, or could give at the session's death: its latest deed,
+-- which came since the order, when the run had so many entries. A snapshot is refused for want of memory alone.
 
 abbrev pub MayCode : List Entry → ℕ → Code → Type 0
 MayCode history s code = (p : Pending) × ((store_after history).pending s ≡ Some p) × MayAnswer (store_after history) s p (answers.Refused code)
 
-abbrev pub AtDeathIf : Bool → ℕ → Code → List Entry → Type 0 → Type 0
-AtDeathIf true s code history before = MayCode history s code
-AtDeathIf false s code history before = before
+abbrev pub AtDeathIf : Bool → ℕ → Code → ℕ → Entry → List Entry → Type 0 → Type 0
+AtDeathIf true s code since e history before = (is_fall e.deed ≡ true) × (since ≤ length history) × MayCode history s code
+AtDeathIf false s code since e history before = before
 
-abbrev pub AtDeath : ℕ → Code → List Entry → Type 0
-AtDeath s code [] = ⊥
-AtDeath s code (e ∷ es) = AtDeathIf ((e.session == s) && is_fall e.deed) s code es (AtDeath s code es)
+abbrev pub AtDeath : ℕ → Code → ℕ → List Entry → Type 0
+AtDeath s code since [] = ⊥
+AtDeath s code since (e ∷ es) = AtDeathIf (e.session == s) s code since e es (AtDeath s code since es)
 
 -- a serial insert's run comes behind its lock there
 abbrev pub reached : Stage → ℕ → List Entry → List Entry
 reached (Inserting work posted) s history = recorded s (Gets answers.Locked ∷ Asks (requests.Run work.statement) ∷ []) history
 reached stage s history = history
 
-abbrev pub HasReason : Stage → ℕ → Code → List Entry → Type 0
-HasReason stage s code history = MayCode (reached stage s history) s code ⊎ AtDeath s code history
+abbrev pub NowOrAtDeath : Stage → ℕ → Code → ℕ → List Entry → Type 0
+NowOrAtDeath stage s code since history = MayCode (reached stage s history) s code ⊎ AtDeath s code since history
+
+abbrev pub HasReason : Stage → ℕ → Code → ℕ → List Entry → Type 0
+HasReason (Opening work) s code since history = IsOutOfMemory code
+HasReason (Reading work ticket) s code since history = NowOrAtDeath (Reading work ticket) s code since history
+HasReason (Running work) s code since history = NowOrAtDeath (Running work) s code since history
+HasReason (Locking work table) s code since history = NowOrAtDeath (Locking work table) s code since history
+HasReason (Inserting work posted) s code since history = NowOrAtDeath (Inserting work posted) s code since history
+HasReason Committing s code since history = Unit {0}
+HasReason Closing s code since history = Unit {0}
+HasReason (RollingBack ending) s code since history = Unit {0}
+
+-- the answers that may decide: of an attached backend; or the kept one where answers differ, also when its backend has left
+abbrev pub Decides : World → ℕ → Answer → Type 0
+Decides w s answer = ((b : ℕ) × IsHere w b × (answer_from w s b ≡ Some answer)) ⊎ IsKept (w.machine s).point answer
 
 -- Serial numbers: they differ only by the serial insert under way, which holds its table's lock wherever its run is to act.
 
@@ -200,14 +217,6 @@ IsInsertingIn stage table = ⊥
 pub record InsertsIn (w : World) (s table : ℕ) : Type 0 where
   pub inserts : IsInsertingIn (stage_at (w.machine s).point) table
   pub locked : (b : ℕ) → IsHere w b → answer_from w s b ≡ None → (held_by ((w.store b).transaction s)).tables table ≡ true
-
--- The replies that are due.
-
-abbrev pub reply_in : Point → Option Outcome
-reply_in (ReplyDue outcome) = Some outcome
-reply_in (FinishDue (endings.Replies outcome)) = Some outcome
-reply_in (LeaveCommitDue (endings.Replies outcome)) = Some outcome
-reply_in point = None
 
 -- An order is under way exactly where the session does not rest.
 
@@ -222,9 +231,19 @@ pub record Invariant (t : Tracked) : Type 0 where
   pub strangers : (s : ℕ) → IsStranger s → IsAtRest t s
   pub inside : (s : ℕ) → FitsPoint (stage_at (t.world.machine s).point) (t.world.machine s).point (t.world.machine s).session.gate
   pub line : (s b : ℕ) → HasLine t.world s b
+  pub in_order : (s : ℕ) (stage : Stage) → stage_at (t.world.machine s).point ≡ Some stage
+      → IsInOrder t.world.gate.attached.bits (t.world.machine s) stage
+  pub heard : (s b : ℕ) (stage : Stage) (answer : Answer) → IsHere t.world b → stage_at (t.world.machine s).point ≡ Some stage
+      → answer_from t.world s b ≡ Some answer → IsHeard (single t) s stage answer
+  pub parting : (s : ℕ) (stage : Stage) (best own : Heard) (among : BackendSet) (more : Bool)
+      → (t.world.machine s).point ≡ SplitDue stage best own among more
+      → IsParting t.world.gate.attached.bits (t.world.machine s) best own among more
+  pub causes : (s : ℕ) (b : BackendId) (cause : Cause) → next_action (t.world.machine s) ≡ actions.Detach b cause
+      → HasCause (t.world.machine s) b cause
   pub stands : (s b : ℕ) → IsHere t.world b
       → Stands (single t) s (leaving_of s t.history) (standing_of t.world s b) ((t.world.store b).transaction s) ((single t).transaction s)
   pub sound : (b : ℕ) → IsHere t.world b → IsSound (t.world.store b)
+  pub shaped : (b : ℕ) → AreShaped (t.world.store b)
   pub sound_there : IsSound (single t)
   pub stale : (o s : ℕ) (p : Place) (last u : Live) → in_commit (t.world.machine o).session.gate ≡ true
       → leaving_of o t.history ≡ Alive last → is_some (fin.get last.changes p) ≡ true
@@ -233,8 +252,6 @@ pub record Invariant (t : Tracked) : Type 0 where
       → (t.world.store b).transaction s ≡ Alive l → (single t).transaction s ≡ Alive u → KnowsStale t s b l u p
   pub crossed_there : (s b : ℕ) (p q : Pending) → IsHere t.world b → (t.world.store b).lost ≡ false
       → (t.world.store b).pending s ≡ Some p → (single t).pending s ≡ Some q → p.crossed ≡ true → q.crossed ≡ true
-  pub uncrossed : (s b lower : ℕ) (p : Pending) → IsHere t.world b → IsHere t.world lower → lower < b
-      → (t.world.store b).lost ≡ false → (t.world.store b).pending s ≡ Some p → p.crossed ≡ false
   pub unchanged : (s : ℕ) (u : Live) (tables : ℕ) → (t.world.machine s).session.gate ≡ phases.Live false tables
       → (single t).transaction s ≡ Alive u → u.changes ≡ no_changes
   pub rows_same : (b : ℕ) (p : Place) → IsHere t.world b → ((o : ℕ) → ¬ (Leaves t o b p))
@@ -244,16 +261,47 @@ pub record Invariant (t : Tracked) : Type 0 where
   pub numbers : (b table : ℕ) → IsHere t.world b
       → ((t.world.store b).next table ≡ (single t).next table) ⊎ ((s : ℕ) × InsertsIn t.world s table)
   pub alive : (s : ℕ) → is_live ((single t).transaction s) ≡ true → is_alive t.world s ≡ true
-  pub reasons : (s b : ℕ) (stage : Stage) (code : Code) → IsHere t.world b → stage_at (t.world.machine s).point ≡ Some stage
-      → is_some (asks_at stage) ≡ true → answer_from t.world s b ≡ Some (answers.Refused code) → HasReason stage s code t.history
+  pub reasons : (s : ℕ) (stage : Stage) (told : Told) (code : Code) → stage_at (t.world.machine s).point ≡ Some stage
+      → t.orders s ≡ Some told → Decides t.world s (answers.Refused code) → HasReason stage s code told.entries t.history
   pub run : IsRun t.history
   pub posts : (s : ℕ) → request_in ((single t).pending s)
       ≡ where_live (is_live ((single t).transaction s)) (wants_of (t.world.machine s).point (stage_at (t.world.machine s).point))
   pub replies : (s : ℕ) (told : Told) (outcome : Outcome) → t.orders s ≡ Some told
       → reply_in (t.world.machine s).point ≡ Some outcome → IsRight t s told outcome
   pub orders : (s : ℕ) → IsUnderWay (t.world.machine s).point (t.orders s)
+  pub order_is : (s : ℕ) (told : Told) → t.orders s ≡ Some told → OrderAt (t.world.machine s).session (t.world.machine s).point told
+  pub since : (s : ℕ) (told : Told) → t.orders s ≡ Some told → told.entries ≤ length t.history
+  pub commits : (s b : ℕ) (told : Told) → IsHere t.world b → t.orders s ≡ Some told
+      → is_of_commit (stage_at (t.world.machine s).point) ≡ true
+      → given t s told ≡ Some (commit_outcome (t.world.machine s).session.status)
   pub done_first : (s b : ℕ) (told : Told) → t.orders s ≡ Some told → told.entered ≡ true → IsHere t.world b
       → standing_of t.world s b ≢ Leaving → t.done s b ≡ true
+
+-- Beside it, in schedules in which no backend refuses for want of memory, so that the answers to one request never differ: nobody is
+-- crossed at a backend while a lower one is attached, but a serial insert that has its lock; and where a refusal stops the chain it is
+-- that of the lowest attached backend, and nobody is asked behind it.
+
+abbrev pub stops : Stage → Bool
+stops (Running work) = true
+stops (Locking work table) = true
+stops stage = false
+
+abbrev pub may_cross : Stage → Bool
+may_cross (Reading work ticket) = true
+may_cross (Running work) = true
+may_cross (Locking work table) = true
+may_cross stage = false
+
+pub record AnswersAlike (t : Tracked) : Type 0 where
+  pub uncrossed : (s b lower : ℕ) (p : Pending) (stage : Stage) → IsHere t.world b → IsHere t.world lower → lower < b
+      → stage_at (t.world.machine s).point ≡ Some stage → may_cross stage ≡ true
+      → (t.world.store b).lost ≡ false → (t.world.store b).pending s ≡ Some p → p.crossed ≡ false
+  pub lowest : (s b lower : ℕ) (stage : Stage) (code : Code) → IsHere t.world b → IsHere t.world lower
+      → stage_at (t.world.machine s).point ≡ Some stage → stops stage ≡ true
+      → answer_from t.world s b ≡ Some (answers.Refused code) → b ≤ lower
+  pub stopped : (s b c : ℕ) (stage : Stage) (answer : Answer) → IsHere t.world c
+      → stage_at (t.world.machine s).point ≡ Some stage → stops stage ≡ true → asked_in (t.world.machine s).point ≡ Some b
+      → heard_from (t.world.machine s).session.heard c ≡ Some answer → is_refusal answer ≡ false
 
 -- it holds at every moment of a list of events
 abbrev pub AlwaysHolds : Tracked → List Event → Type 0

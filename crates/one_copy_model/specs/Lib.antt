@@ -8,4 +8,6 @@ pub mod Tracking
 pub mod Replies
 pub mod Statement
 pub mod Standing
+pub mod Chains
+pub mod Orders
 pub mod Invariant

@@ -1,7 +1,8 @@
 -- The replies that clients read: what the single run answers to an order, and which are the pool's own.
-use Rattle.std.specs.Prelude.{◌≡◌, ◌⊎◌, ℕ, ◌<◌, Bool, true, false, List, [], ◌∷◌, length, Option, Some, None}
+use Rattle.std.specs.Prelude.{◌≡◌, ◌⊎◌, ℕ, ◌<◌, Bool, true, false, if◌then◌else◌, List, [], ◌∷◌, length, Option, Some, None}
 use Rattle.pool_base.specs.Sets.{has}
 use Rattle.pool_base.specs.declared.code.Code.{Code}
+use Rattle.backend_trait.specs.declared.request.Request.TheVariants as requests
 use Rattle.backend_trait.specs.declared.answer.Answer.{Answer}
 use Rattle.backend_trait.specs.declared.answer.Answer.TheVariants as answers
 use Rattle.session_machine.specs.Codes.{in_a_block, outside_a_block, moment_out_of_range, counts_spent, no_backend}
@@ -16,6 +17,8 @@ use Rattle.session_machine.specs.declared.status.Status.TheVariants.{Idle, InBlo
 use Rattle.session_machine.specs.declared.action.SessionEvent.{SessionEvent}
 use Rattle.session_machine.specs.declared.action.SessionEvent.TheVariants as events
 use Rattle.session_machine.specs.Rules.{done_with, error_of, tag_of, rewritten}
+use Rattle.one_copy_model.specs.declared.deed.Deed.{Deed}
+use Rattle.one_copy_model.specs.declared.deed.Deed.TheVariants.{Asks, Gets}
 use Rattle.one_copy_model.specs.declared.event.Event.{Event}
 use Rattle.one_copy_model.specs.declared.event.Event.TheVariants.{Of}
 use Rattle.one_copy_model.specs.World.{World}
@@ -32,50 +35,51 @@ statement_reply work (Some (answers.Count n)) = Some (done_with (tag_of work.cla
 statement_reply work (Some (answers.Refused code)) = Some (error_of code)
 statement_reply work answer = None
 
--- to the end of a transaction: this where it has committed
-abbrev pub where_done : Outcome → Option Answer → Option Outcome
-where_done outcome (Some answers.Done) = Some outcome
-where_done outcome answer = None
+-- to the end of a transaction: this where it has committed, so that the latest deed is the answer to a COMMIT
+abbrev pub has_committed : List Deed → Bool
+has_committed (Gets answers.Done ∷ Asks requests.Commit ∷ deeds) = true
+has_committed deeds = false
 
 -- where one was begun it has to commit, and where none was there is nothing to do
-abbrev pub where_begun : Bool → Outcome → Option Answer → Option Outcome
-where_begun true outcome answer = where_done outcome answer
-where_begun false outcome answer = Some outcome
+abbrev pub where_begun : Bool → Outcome → List Deed → Option Outcome
+where_begun true outcome deeds = if has_committed deeds then Some outcome else None
+where_begun false outcome deeds = Some outcome
 
 abbrev pub begin_reply : Status → Outcome
 begin_reply Idle = done_with tags.Begin
 begin_reply InBlock = outcomes.Done tags.Begin (Some in_a_block)
 begin_reply Failed = outcomes.Done tags.Begin (Some in_a_block)
 
-abbrev pub commit_reply : Status → Bool → Option Answer → Option Outcome
-commit_reply Idle begun answer = Some (outcomes.Done tags.Commit (Some outside_a_block))
-commit_reply InBlock begun answer = where_begun begun (done_with tags.Commit) answer
-commit_reply Failed begun answer = Some (done_with tags.Rollback)
+abbrev pub commit_reply : Status → Bool → List Deed → Option Outcome
+commit_reply Idle begun deeds = Some (outcomes.Done tags.Commit (Some outside_a_block))
+commit_reply InBlock begun deeds = where_begun begun (done_with tags.Commit) deeds
+commit_reply Failed begun deeds = Some (done_with tags.Rollback)
 
 abbrev pub rollback_reply : Status → Outcome
 rollback_reply Idle = outcomes.Done tags.Rollback (Some outside_a_block)
 rollback_reply InBlock = done_with tags.Rollback
 rollback_reply Failed = done_with tags.Rollback
 
-abbrev pub settle_reply : Status → Bool → Option Answer → Option Outcome
-settle_reply Idle begun answer = where_begun begun outcomes.Settled answer
-settle_reply InBlock begun answer = Some outcomes.Settled
-settle_reply Failed begun answer = Some outcomes.Settled
+abbrev pub settle_reply : Status → Bool → List Deed → Option Outcome
+settle_reply Idle begun deeds = where_begun begun outcomes.Settled deeds
+settle_reply InBlock begun deeds = Some outcomes.Settled
+settle_reply Failed begun deeds = Some outcomes.Settled
 
-abbrev pub reply_to : OrderBody → Status → Bool → Option Answer → Option Outcome
-reply_to (orders.Statement work) status begun answer = statement_reply work answer
-reply_to orders.Begin status begun answer = Some (begin_reply status)
-reply_to orders.Commit status begun answer = commit_reply status begun answer
-reply_to orders.Rollback status begun answer = Some (rollback_reply status)
-reply_to orders.Settle status begun answer = settle_reply status begun answer
-reply_to orders.ShowNodes status begun answer = None
-reply_to (orders.Recover b) status begun answer = None
-reply_to (orders.Refuse code name) status begun answer = None
-reply_to orders.Leave status begun answer = None
+-- to an order, by the deeds of its session since
+abbrev pub reply_to : OrderBody → Status → Bool → List Deed → Option Outcome
+reply_to (orders.Statement work) status begun deeds = statement_reply work (answer_in deeds)
+reply_to orders.Begin status begun deeds = Some (begin_reply status)
+reply_to orders.Commit status begun deeds = commit_reply status begun deeds
+reply_to orders.Rollback status begun deeds = Some (rollback_reply status)
+reply_to orders.Settle status begun deeds = settle_reply status begun deeds
+reply_to orders.ShowNodes status begun deeds = None
+reply_to (orders.Recover b) status begun deeds = None
+reply_to (orders.Refuse code name) status begun deeds = None
+reply_to orders.Leave status begun deeds = None
 
 -- the answer of a session's order in the single run
 abbrev pub given : Tracked → ℕ → Told → Option Outcome
-given t s told = reply_to told.order.body told.status told.begun (answer_in (deeds_since s told.entries t.history))
+given t s told = reply_to told.order.body told.status told.begun (deeds_since s told.entries t.history)
 
 -- The pool's own replies.
 

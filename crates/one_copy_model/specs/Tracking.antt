@@ -15,6 +15,8 @@ use Rattle.session_machine.specs.declared.status.Status.{Status}
 use Rattle.session_machine.specs.declared.action.SessionEvent.{SessionEvent}
 use Rattle.session_machine.specs.declared.action.SessionEvent.TheVariants as events
 use Rattle.session_machine.specs.declared.machine.ReadPolicy.{ReadPolicy}
+use Rattle.session_machine.specs.declared.machine.GatePhase.{GatePhase}
+use Rattle.session_machine.specs.declared.machine.GatePhase.TheVariants.{InCommit}
 use Rattle.session_machine.specs.declared.machine.Session.{Session}
 use Rattle.session_machine.specs.declared.machine.Machine.{Machine}
 use Rattle.session_machine.specs.Allowed.{is_out}
@@ -134,6 +136,10 @@ abbrev pub done_of : SessionEvent → (ℕ → Bool) → ℕ → Bool
 done_of (events.Called call answer) done = done_called call answer done
 done_of event done = done
 
+abbrev pub in_commit : GatePhase → Bool
+in_commit InCommit = true
+in_commit phase = false
+
 abbrev pub is_commit : Request → Bool
 is_commit requests.Commit = true
 is_commit request = false
@@ -142,17 +148,17 @@ abbrev pub waits_for_commit : Option Pending → Bool
 waits_for_commit None = false
 waits_for_commit (Some p) = is_commit p.request
 
--- a backend that is attached later has it
+-- a backend that is attached has each commit that was left before
 abbrev pub attached_in : SessionEvent → Option ℕ
 attached_in (events.Called (calls.Attach b) (Granted view)) = Some b.number
 attached_in event = None
 
-abbrev pub joined : Option ℕ → (ℕ → ℕ → Bool) → ℕ → ℕ → Bool
-joined None done = done
-joined (Some b) done = λ s. with_at (done s) b true
+abbrev pub joined : World → Option ℕ → (ℕ → ℕ → Bool) → ℕ → ℕ → Bool
+joined w None done = done
+joined w (Some b) done = λ s. if in_commit (w.machine s).session.gate then done s else with_at (done s) b true
 
 abbrev pub done_after : Tracked → Event → ℕ → ℕ → Bool
-done_after t (Of s event) = joined (attached_in event) (with_at t.done s.number (done_of event (t.done s.number)))
+done_after t (Of s event) = joined t.world (attached_in event) (with_at t.done s.number (done_of event (t.done s.number)))
 done_after t (Act s b answer) =
     if waits_for_commit ((t.world.store b.number).pending s.number)
     then with_at t.done s.number (with_at (t.done s.number) b.number true) else t.done

@@ -13,7 +13,7 @@ ghost use Rattle.one_copy_model.specs.Marks.{is_crossed, HoldsChanges, AsksWithi
 ghost use Rattle.one_copy_model.specs.Tracking.{Tracked, first_tracked, tracked_after};
 ghost use Rattle.one_copy_model.specs.Replies.{AllAcknowledged};
 ghost use Rattle.one_copy_model.specs.Statement.{IsOneCopy, ReplicasAgree};
-ghost use Rattle.one_copy_model.specs.Invariant.{AlwaysHolds, Invariant};
+ghost use Rattle.one_copy_model.specs.Invariant.{AlwaysHolds, AnswersAlike, Invariant};
 ghost use Rattle.one_copy_model.specs.World.{World, first_world, after_all, IsSchedule, FailsAt};
 
 /// Snapshots and commits are never under way together, whatever the schedule.
@@ -40,10 +40,12 @@ pub fn marks_are_crossings()
         → Crosses st s request → is_crossed st s request ≡ true }
 {}
 
-/// The invariant holds at the start, whatever the configuration.
+/// The invariant holds at the start, whatever the configuration, and what keeps answers alike.
 pub fn starts_right()
-    ensures { (policy : ReadPolicy) (attached : BackendSet)
+    ensures holds { (policy : ReadPolicy) (attached : BackendSet)
         → Invariant (first_tracked policy attached) }
+    ensures alike { (policy : ReadPolicy) (attached : BackendSet)
+        → AnswersAlike (first_tracked policy attached) }
 {}
 
 /// Where the invariant holds, the attached backends agree with the single run.
@@ -67,8 +69,10 @@ pub fn acknowledged_follow()
         → AllAcknowledged (first_tracked policy attached) events }
 {}
 
-/// A loss keeps the invariant.
+/// A loss keeps the invariant, and what keeps answers alike.
 pub fn loss_keeps()
-    ensures { (t : Tracked) (b : BackendId) → Invariant t
+    ensures holds { (t : Tracked) (b : BackendId) → Invariant t
         → Invariant (tracked_after t (Lost b)) }
+    ensures alike { (t : Tracked) (b : BackendId) → Invariant t → AnswersAlike t
+        → AnswersAlike (tracked_after t (Lost b)) }
 {}
