@@ -7,4 +7,5 @@ pub mod PostLaws
 pub mod BlankLaws
 pub mod WaitLaws
 pub mod StepLaws
+pub mod MarkingLaws
 pub mod LawLemmas

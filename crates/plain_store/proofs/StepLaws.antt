@@ -28,12 +28,12 @@ use Rattle.plain_store.proofs.Telling.{Tells, same_test, fold-snoc}
 use Rattle.plain_store.proofs.SeenLaws.{as_row, place_told, seen_is}
 use Rattle.plain_store.proofs.HeldLaws.{changed_more}
 
-set_same : {A : Type 0} (xs : List A) (b : ℕ) (x : A) → b < length xs → slice_get (slice_set xs b x) b ≡ Some x
+pub set_same : {A : Type 0} (xs : List A) (b : ℕ) (x : A) → b < length xs → slice_get (slice_set xs b x) b ≡ Some x
 set_same [] b x below = absurd (omega arith)
 set_same (z ∷ xs) zero x below = refl
 set_same (z ∷ xs) (suc b) x below = set_same xs b x (omega arith)
 
-set_other : {A : Type 0} (xs : List A) (b j : ℕ) (x : A) → j ≢ b → slice_get (slice_set xs b x) j ≡ slice_get xs j
+pub set_other : {A : Type 0} (xs : List A) (b j : ℕ) (x : A) → j ≢ b → slice_get (slice_set xs b x) j ≡ slice_get xs j
 set_other [] b j x other = refl
 set_other (z ∷ xs) zero zero x other = absurd (other refl)
 set_other (z ∷ xs) zero (suc j) x other = refl

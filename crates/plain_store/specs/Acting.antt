@@ -1,8 +1,8 @@
 -- Where a store may give an answer, which of its requests are crossed, and what an answer leaves.
-use Rattle.std.specs.Prelude.{◌≡◌, ℕ, false, Option, Some, None}
+use Rattle.std.specs.Prelude.{◌≡◌, ◌↔◌, ℕ, Bool, true, false, Option, Some, None}
 use Rattle.backend_trait.specs.declared.answer.Answer.{Answer}
 use Rattle.backend_trait.specs.Store.{Store, Pending, acted}
-use Rattle.backend_trait.specs.Acts.{MayAnswer, Crosses, MustWait, IsInCycle, WhereSome}
+use Rattle.backend_trait.specs.Acts.{MayAnswer, Crosses, IsCrossed, MustWait, IsInCycle, WhereSome}
 
 -- it is not lost, a request of the session waits, and the table of answers allows it
 abbrev pub MayAct : Store → ℕ → Answer → Type 0
@@ -11,6 +11,19 @@ MayAct st s answer = (st.lost ≡ false) × WhereSome (st.pending s) (λ p. MayA
 -- another session crosses the request that waits, now
 abbrev pub IsCrossedNow : Store → ℕ → Type 0
 IsCrossedNow st s = WhereSome (st.pending s) (λ p. Crosses st s p.request)
+
+-- the mark of a request that waits tells whether another has crossed it since its post, or crosses it now
+abbrev pub IsMarkedAt : Store → ℕ → Option Pending → Option Pending → Type 0
+IsMarkedAt st s None new = new ≡ None
+IsMarkedAt st s (Some p) new = (mark : Bool) × (new ≡ Some (record { request = p.request; crossed = mark })) × ((mark ≡ true) ↔ IsCrossed st s p)
+
+-- the requests that another session crosses now are marked, and nothing else changes
+pub record IsMarked (old new : Store) : Type 0 where
+  pub rows : new.rows ≡ old.rows
+  pub next : new.next ≡ old.next
+  pub transaction : new.transaction ≡ old.transaction
+  pub lost : new.lost ≡ old.lost
+  pub pending : (s : ℕ) → IsMarkedAt old s (old.pending s) (new.pending s)
 
 -- the request that waits has to wait on
 abbrev pub IsHeldUp : Store → ℕ → Type 0

@@ -1,5 +1,5 @@
 -- The tests by which the program decides what a store may answer, and which requests cross.
-use Rattle.std.specs.Prelude.{ℕ, zero, suc, ◌+◌, ℤ, Bool, true, false, not, ◌&&◌, ◌||◌, ◌==◌, if◌then◌else◌, is_some, List, [], ◌∷◌, Option, Some, None, slice_get, nat_eq, codes}
+use Rattle.std.specs.Prelude.{ℕ, zero, suc, ◌+◌, ℤ, Bool, true, false, not, ◌&&◌, ◌||◌, ◌==◌, if◌then◌else◌, is_some, List, [], ◌∷◌, Option, Some, None, slice_get, slice_set, nat_eq, codes}
 use Rattle.std.specs.Ordering.{int_eq}
 use Rattle.std.specs.Cmp.Lexicographic.{pointwise}
 use Rattle.pool_base.specs.declared.code.Code.{Code}
@@ -284,6 +284,15 @@ crosses all asked s request = may_be_crossed request && some_below (crosses_at a
 abbrev pub crosses_waiting : List Phase → List (Option Request) → ℕ → Option Request → Bool
 crosses_waiting all asked s None = false
 crosses_waiting all asked s (Some request) = crosses all asked s request
+
+-- the marks, with those of the sessions below a number whose requests are crossed
+abbrev pub marked_if : Bool → ℕ → List Bool → List Bool
+marked_if true s marks = slice_set marks s true
+marked_if false s marks = marks
+
+abbrev pub marks_below : List Phase → List (Option Request) → List Bool → ℕ → List Bool
+marks_below all asked marks zero = marks
+marks_below all asked marks (suc n) = marked_if (crosses_waiting all asked n (request_at (slice_get asked n))) n (marks_below all asked marks n)
 
 -- The answers of the store.
 

@@ -171,7 +171,7 @@ pub(crate) fn crosses(
     may_be_crossed(request) && some_below(phases, requests, s, request, 65)
 }
 
-fn crosses_waiting(
+pub(crate) fn crosses_waiting(
     phases: &[Phase],
     requests: &[Option<Request>],
     s: usize,

@@ -9,6 +9,7 @@ mod crossing;
 mod data;
 mod holding;
 mod laws;
+mod marking;
 mod posting;
 mod seeing;
 mod steps;
