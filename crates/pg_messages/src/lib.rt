@@ -34,6 +34,3 @@ pub use server_reading::read_server;
 pub use server_writing::{server_fits, write_server};
 pub use start::{Pair, StartMessage};
 pub use start_reading::read_start;
-
-#[cfg(test)]
-mod tests;

@@ -24,6 +24,3 @@ pub use laws::{a_value_has_one_text, binary_is_read_again, text_is_read_again};
 pub use text_form::{from_text, text_of};
 pub use value::Value;
 pub use value_fault::ValueFault;
-
-#[cfg(test)]
-mod tests;

@@ -22,6 +22,3 @@ pub use message::message_of;
 pub use print::{echo, print_line};
 pub use rendering::render;
 pub use script::{ScriptFault, read_script};
-
-#[cfg(test)]
-mod tests;

@@ -38,6 +38,3 @@ pub use sure::{SureFiles, SureSink, SureSource};
 pub use system::{ReaderSource, SystemClock, SystemFiles, WriterSink};
 pub use text::Text;
 pub use write::{SinkFailed, write_all};
-
-#[cfg(test)]
-mod tests;

@@ -15,6 +15,3 @@ pub use config::{Config, Node};
 pub use fault::ConfigFault;
 pub use parse::parse_config;
 pub use write::write_config;
-
-#[cfg(test)]
-mod tests;

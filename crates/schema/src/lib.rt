@@ -15,6 +15,3 @@ mod text;
 pub use catalogue::{Catalogue, ColumnDef, Fill, TableDef};
 pub use fault::SchemaFault;
 pub use read::read_schema;
-
-#[cfg(test)]
-mod tests;

@@ -7,6 +7,3 @@ mod print;
 
 pub use laws::tables_in_range;
 pub use print::print_schema;
-
-#[cfg(test)]
-mod tests;

@@ -7,6 +7,3 @@ mod round;
 
 pub use laws::schemas_are_allowed;
 pub use round::schema_again;
-
-#[cfg(test)]
-mod tests;

@@ -5,6 +5,3 @@ mod ask;
 mod statement;
 
 pub use statement::run_statement;
-
-#[cfg(test)]
-mod tests;

@@ -14,6 +14,3 @@ mod ordered;
 pub use event::after;
 pub use may::may_happen;
 pub use next::next_action;
-
-#[cfg(test)]
-mod tests;

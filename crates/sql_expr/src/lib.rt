@@ -9,6 +9,3 @@ mod reading;
 mod words;
 
 pub use read::{NESTING_LIMIT, read_expr, read_front};
-
-#[cfg(test)]
-mod tests;

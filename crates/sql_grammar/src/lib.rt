@@ -5,6 +5,3 @@
 mod fault;
 
 pub use fault::{Awaited, Fault, ReadError, unexpected};
-
-#[cfg(test)]
-mod tests;

@@ -6,6 +6,3 @@ mod refusal;
 mod rules;
 
 pub use refusal::{Refusal, place_at, refusal_at};
-
-#[cfg(test)]
-mod tests;

@@ -17,6 +17,3 @@ pub use mark::Mark;
 pub use reader::read_tokens;
 pub use token::{Name, Placed, Token, TokenFault};
 pub use word::{WORDS, Word, all_words};
-
-#[cfg(test)]
-mod tests;

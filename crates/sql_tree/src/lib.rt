@@ -10,6 +10,3 @@ pub use expr::{Comparison, Expr, ProductPart, ProductSign, SumPart};
 pub use statement::{
     Cell, Delete, Insert, OrderItem, Select, SelectItem, SelectList, SetItem, Statement, Update,
 };
-
-#[cfg(test)]
-mod tests;

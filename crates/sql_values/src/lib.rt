@@ -14,6 +14,3 @@ pub use evaluate::value_of;
 pub use fault::ExprFault;
 pub use logic::is_true;
 pub use order::{compared, is_null, standing};
-
-#[cfg(test)]
-mod tests;

@@ -24,6 +24,3 @@ pub use schema::{ColumnDef, TableDef};
 pub use scope::Scope;
 pub use typed::{TypedExpr, TypedForm, TypedProductPart, TypedSumPart};
 pub use typing::{Check, typed_at};
-
-#[cfg(test)]
-mod tests;

@@ -1,0 +1,4 @@
+mod base;
+mod command_line;
+mod configuration;
+mod outside;

@@ -1,0 +1,5 @@
+mod printing;
+mod reading;
+mod typing;
+mod values;
+mod writing;

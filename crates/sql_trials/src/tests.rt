@@ -1,0 +1,7 @@
+mod expr;
+mod grammar;
+mod made;
+mod refusal;
+mod texts;
+mod tokens;
+mod tree;
