@@ -1,0 +1,13 @@
+pub mod TableLemmas
+pub mod Loops
+pub mod Lists
+pub mod Numbering
+pub mod Finding
+pub mod SelectLemmas
+pub mod InsertLemmas
+pub mod TargetLemmas
+pub mod SetLemmas
+pub mod ItemLemmas
+pub mod ColumnLemmas
+pub mod BodyLemmas
+pub mod CheckLemmas

@@ -1,0 +1,23 @@
+use Rattle.std.proofs.lemmas.Result.{err_from_is_err_and}
+use Rattle.typed_sql.specs.Meaning.{scope_of}
+use Rattle.catalogue.proofs.InsertLemmas.{sets_stop, change_filter_stops, change_gives}
+use Rattle.catalogue.proofs.change.change_of.Goals as goal
+
+pub returns-in_err-sets : goal.returns-in_err-sets
+returns-in_err-sets c =
+    let p = err_from_is_err_and c.from_residual.result c.from_residual.ensures.1 in
+    rw (p.1, p.2) (sets_stop c.args.parameters c.args.update.now (c.args.table.0, c.args.table.1.now) (scope_of c.over.result) c.over.ensures
+    c.args.known.now.items c.in_err-sets.field-0.0 c.sets_of.new.known.items c.sets_of.new.known.items (rw c.as_slice-items.ensures at c.in_err-sets.ensures))
+
+pub returns-in_err-filter : goal.returns-in_err-filter
+returns-in_err-filter c =
+    let p = err_from_is_err_and c.from_residual-in_err-filter.result c.from_residual-in_err-filter.ensures.1 in
+    rw (p.1, p.2) (change_filter_stops c.args.parameters c.args.update.now (c.args.table.0, c.args.table.1.now) (scope_of c.over.result) c.over.ensures
+    c.args.known.now.items c.in_ok-sets.sets c.sets_of.new.known.items c.in_err-filter.field-0.0 c.filter_of.new.known.items
+    c.filter_of.new.known.items (rw c.as_slice-items.ensures at c.in_ok-sets.ensures) c.in_err-filter.ensures)
+
+pub returns : goal.returns
+returns c =
+    rw c.new.ensures (change_gives c.args.parameters c.args.update.now (c.args.table.0, c.args.table.1.now) (scope_of c.over.result) c.over.ensures
+    c.args.known.now.items c.in_ok-sets.sets c.sets_of.new.known.items c.in_ok-filter.filter c.filter_of.new.known.items
+    (rw c.as_slice-items.ensures at c.in_ok-sets.ensures) c.in_ok-filter.ensures)

@@ -1,0 +1,4 @@
+pub mod Naming
+pub mod Statements
+pub mod Targets
+pub mod Checking
