@@ -1,0 +1,324 @@
+-- What is sound stays so with values in place of the parameters.
+use Rattle.std.proofs.Common.{◌≡◌, ℕ, zero, suc, List, [], ◌∷◌, map, ap, sym, ◌∙◌, refl, subst}
+use Rattle.std.specs.Prelude.{◌&&◌, Bool as Truth, true, false, Option, Some, None, slice_get}
+use Rattle.std.specs.List.{list_all}
+use Rattle.pg_values.specs.declared.col_type.ColType.{ColType}
+use Rattle.pg_values.specs.declared.col_type.ColType.TheVariants.{Bool, Int4, Int8, Text, Moment}
+use Rattle.pg_values.specs.declared.value.Value.{Value}
+use Rattle.schema.specs.declared.catalogue.ColumnDef.{ColumnDef}
+use Rattle.typed_sql.specs.declared.asks.Takes.{Takes}
+use Rattle.typed_sql.specs.declared.asks.Takes.TheVariants.{Any, Whole, Like}
+use Rattle.typed_sql.specs.declared.typed.TypedExpr.{TypedExpr, roll-TypedExpr}
+use Rattle.typed_sql.specs.declared.typed.TypedForm.{TypedForm, roll-TypedForm, map-TypedForm}
+use Rattle.typed_sql.specs.declared.typed.TypedForm.TheOpen.{TypedForm-F, TypedExpr-F, TypedProductPart-F, TypedSumPart-F}
+use Rattle.typed_sql.specs.declared.typed.TypedForm.TheFolds.{ind-TypedExpr}
+use Rattle.typed_sql.specs.declared.typed.TypedForm.TheVariants as form
+use Rattle.typed_sql.specs.declared.typed.TypedSumPart.{TypedSumPart}
+use Rattle.typed_sql.specs.declared.typed.TypedProductPart.{TypedProductPart}
+use Rattle.typed_sql.specs.Places.{same_kind, takes as takes_kind}
+use Rattle.checked_sql.specs.Sound.{Names, are_fit, chain_kind, form_in, has_this, is_parameter, is_sound, is_value, stands}
+use Rattle.checked_sql.specs.OfCatalogue.{around}
+use Rattle.checked_sql.specs.Binding.{bound, bound_factor, bound_form, bound_summand, value_or}
+use Rattle.checked_sql.proofs.Forms.{fits_and, fits_column, fits_compare, fits_concat, fits_current, fits_is_null, fits_literal, fits_member, fits_minus, fits_not, fits_now, fits_or, fits_param, fits_product, fits_sum, fits_transaction, gives_and, gives_column, gives_compare, gives_concat, gives_current, gives_is_null, gives_literal, gives_member, gives_minus, gives_not, gives_now, gives_or, gives_param, gives_product, gives_sum, gives_transaction, sound_by_form}
+use Rattle.checked_sql.proofs.Bound.{bound_and, bound_by_form, bound_column, bound_compare, bound_concat, bound_current, bound_is_null, bound_literal, bound_member, bound_minus, bound_not, bound_now, bound_or, bound_param, bound_product, bound_sum, bound_transaction}
+
+-- ---- truths
+
+pub and_true : (s t : Truth) → (s && t) ≡ true → (s ≡ true) × (t ≡ true)
+and_true true t e = (refl, e)
+and_true false t e = absurd (let f : false ≡ true = e in cc)
+
+pub both_true : (s t : Truth) → s ≡ true → t ≡ true → (s && t) ≡ true
+both_true s t x y = ap (λ (b : Truth). b && t) x ∙ y
+
+-- ---- values that fit
+
+same_is : (a b : ColType) → same_kind a b ≡ true → a ≡ b
+same_is Bool Bool e = refl
+same_is Int4 Int4 e = refl
+same_is Int8 Int8 e = refl
+same_is Text Text e = refl
+same_is Moment Moment e = refl
+same_is a b e = absurd (let f : false ≡ true = e in cc)
+
+-- there is a value for each parameter of a type
+fit_at : (kinds : List ColType) (values : List Value) (at : ℕ) (kind : ColType) → are_fit kinds values ≡ true → has_this kind (slice_get kinds at) ≡ true
+    → (v : Value) × (slice_get values at ≡ Some v) × (is_value kind v ≡ true)
+fit_at [] values at kind fit is = absurd (let f : false ≡ true = is in cc)
+fit_at (k ∷ kinds) [] at kind fit is = absurd (let f : false ≡ true = fit in cc)
+fit_at (k ∷ kinds) (v ∷ values) zero kind fit is =
+    (v, refl, ap (λ (c : ColType). is_value c v) (same_is kind k is) ∙ (and_true (is_value k v) (are_fit kinds values) fit).0)
+fit_at (k ∷ kinds) (v ∷ values) (suc at) kind fit is =
+    fit_at kinds values at kind (and_true (is_value k v) (are_fit kinds values) fit).1 is
+
+-- what holds of each part
+abbrev pub Each : {X : Type 0} → (X → Type 0) → List X → Type 0
+Each P [] = Unit {0}
+Each P (x ∷ xs) = P x × Each P xs
+
+each_of : {X E : Type 0} (f : X → E) (P : E → Type 0) → ((x : X) → P (f x)) → (xs : List X) → Each P (map f xs)
+each_of f P all [] = tt
+each_of f P all (x ∷ xs) = (all x, each_of f P all xs)
+
+-- the type stays
+pub kind_stays : (values : List Value) (e : TypedExpr) → (bound values e).kind ≡ e.kind
+kind_stays values e = ap (λ (x : TypedExpr). x.kind) (bound_by_form values e)
+
+summand_kinds : (values : List Value) (ss : List TypedSumPart) → map (λ s. s.part.kind) (map (bound_summand values) ss) ≡ map (λ s. s.part.kind) ss
+summand_kinds values [] = refl
+summand_kinds values (s ∷ ss) = ap (λ (k : ColType). k ∷ map (λ s. s.part.kind) (map (bound_summand values) ss)) (kind_stays values s.part)
+    ∙ ap (λ (ks : List ColType). s.part.kind ∷ ks) (summand_kinds values ss)
+
+factor_kinds : (values : List Value) (fs : List TypedProductPart) → map (λ f. f.part.kind) (map (bound_factor values) fs) ≡ map (λ f. f.part.kind) fs
+factor_kinds values [] = refl
+factor_kinds values (f ∷ fs) = ap (λ (k : ColType). k ∷ map (λ f. f.part.kind) (map (bound_factor values) fs)) (kind_stays values f.part)
+    ∙ ap (λ (ks : List ColType). f.part.kind ∷ ks) (factor_kinds values fs)
+
+module _ (columns : List ColumnDef) (kinds : List ColType) (values : List Value) (fit : are_fit kinds values ≡ true) where
+  abbrev before : Names
+  before = around columns kinds
+
+  abbrev after : Names
+  after = around columns []
+
+  -- a sound expression stays sound
+  abbrev pub Kept : TypedExpr → Type 0
+  Kept e = is_sound before e ≡ true → is_sound after (bound values e) ≡ true
+
+  abbrev KeptForm : TypedForm → Type 0
+  KeptForm f = ((kind : ColType) → (form_in before f).gives kind ≡ true → (form_in after (bound_form values f)).gives kind ≡ true)
+      × ((form_in before f).fits ≡ true → (form_in after (bound_form values f)).fits ≡ true)
+
+  -- where it may stand it may stand
+  stands_kept : (t : Takes) (e : TypedExpr) → Kept e → stands before t e ≡ true → stands after t (bound values e) ≡ true
+  stands_kept t e kept is =
+      let both = and_true (takes_kind t e.kind) (is_sound before e) is in
+      both_true (takes_kind t (bound values e).kind) (is_sound after (bound values e)) (ap (takes_kind t) (kind_stays values e) ∙ both.0) (kept both.1)
+
+  all_kept : (t : Takes) (es : List TypedExpr) → Each Kept es → list_all (stands before t) es ≡ true → list_all (stands after t) (map (bound values) es) ≡ true
+  all_kept t [] each is = refl
+  all_kept t (e ∷ es) each is =
+      let both = and_true (stands before t e) (list_all (stands before t) es) is in
+      both_true (stands after t (bound values e)) (list_all (stands after t) (map (bound values) es)) (stands_kept t e each.0 both.0) (all_kept t es each.1 both.1)
+
+  summands_kept : (ss : List TypedSumPart) → Each (λ s. Kept s.part) ss → list_all (λ s. stands before Whole s.part) ss ≡ true
+      → list_all (λ s. stands after Whole s.part) (map (bound_summand values) ss) ≡ true
+  summands_kept [] each is = refl
+  summands_kept (s ∷ ss) each is =
+      let both = and_true (stands before Whole s.part) (list_all (λ s. stands before Whole s.part) ss) is in
+      both_true (stands after Whole (bound values s.part)) (list_all (λ s. stands after Whole s.part) (map (bound_summand values) ss))
+      (stands_kept Whole s.part each.0 both.0) (summands_kept ss each.1 both.1)
+
+  factors_kept : (fs : List TypedProductPart) → Each (λ f. Kept f.part) fs → list_all (λ f. stands before Whole f.part) fs ≡ true
+      → list_all (λ f. stands after Whole f.part) (map (bound_factor values) fs) ≡ true
+  factors_kept [] each is = refl
+  factors_kept (f ∷ fs) each is =
+      let both = and_true (stands before Whole f.part) (list_all (λ f. stands before Whole f.part) fs) is in
+      both_true (stands after Whole (bound values f.part)) (list_all (λ f. stands after Whole f.part) (map (bound_factor values) fs))
+      (stands_kept Whole f.part each.0 both.0) (factors_kept fs each.1 both.1)
+
+  -- operands of a type with the first
+  beside_kept : (a b : TypedExpr) → Kept a → Kept b → (stands before Any a && stands before (Like a.kind) b) ≡ true
+      → (stands after Any (bound values a) && stands after (Like (bound values a).kind) (bound values b)) ≡ true
+  beside_kept a b ka kb is =
+      let both = and_true (stands before Any a) (stands before (Like a.kind) b) is in
+      both_true (stands after Any (bound values a)) (stands after (Like (bound values a).kind) (bound values b)) (stands_kept Any a ka both.0)
+      (ap (λ (k : ColType). stands after (Like k) (bound values b)) (kind_stays values a) ∙ stands_kept (Like a.kind) b kb both.1)
+
+  among_kept : (a : TypedExpr) (es : List TypedExpr) → Kept a → Each Kept es → (stands before Any a && list_all (stands before (Like a.kind)) es) ≡ true
+      → (stands after Any (bound values a) && list_all (stands after (Like (bound values a).kind)) (map (bound values) es)) ≡ true
+  among_kept a es ka kes is =
+      let both = and_true (stands before Any a) (list_all (stands before (Like a.kind)) es) is in
+      both_true (stands after Any (bound values a)) (list_all (stands after (Like (bound values a).kind)) (map (bound values) es)) (stands_kept Any a ka both.0)
+      (ap (λ (k : ColType). list_all (stands after (Like k)) (map (bound values) es)) (kind_stays values a) ∙ all_kept (Like a.kind) es kes both.1)
+
+  sum_kept : (a : TypedExpr) (ss : List TypedSumPart) → Kept a → Each (λ s. Kept s.part) ss → (stands before Whole a && list_all (λ s. stands before Whole s.part) ss) ≡ true
+      → (stands after Whole (bound values a) && list_all (λ s. stands after Whole s.part) (map (bound_summand values) ss)) ≡ true
+  sum_kept a ss ka kss is =
+      let both = and_true (stands before Whole a) (list_all (λ s. stands before Whole s.part) ss) is in
+      both_true (stands after Whole (bound values a)) (list_all (λ s. stands after Whole s.part) (map (bound_summand values) ss))
+      (stands_kept Whole a ka both.0) (summands_kept ss kss both.1)
+
+  product_kept : (a : TypedExpr) (fs : List TypedProductPart) → Kept a → Each (λ f. Kept f.part) fs → (stands before Whole a && list_all (λ f. stands before Whole f.part) fs) ≡ true
+      → (stands after Whole (bound values a) && list_all (λ f. stands after Whole f.part) (map (bound_factor values) fs)) ≡ true
+  product_kept a fs ka kfs is =
+      let both = and_true (stands before Whole a) (list_all (λ f. stands before Whole f.part) fs) is in
+      both_true (stands after Whole (bound values a)) (list_all (λ f. stands after Whole f.part) (map (bound_factor values) fs))
+      (stands_kept Whole a ka both.0) (factors_kept fs kfs both.1)
+
+  -- the type of a chain
+  sum_type : (a : TypedExpr) (ss : List TypedSumPart) (kind : ColType)
+      → same_kind (chain_kind (bound values a).kind (map (λ s. s.part.kind) (map (bound_summand values) ss))) kind ≡ same_kind (chain_kind a.kind (map (λ s. s.part.kind) ss)) kind
+  sum_type a ss kind =
+      ap (λ (k : ColType). same_kind (chain_kind k (map (λ s. s.part.kind) (map (bound_summand values) ss))) kind) (kind_stays values a)
+      ∙ ap (λ (ks : List ColType). same_kind (chain_kind a.kind ks) kind) (summand_kinds values ss)
+
+  product_type : (a : TypedExpr) (fs : List TypedProductPart) (kind : ColType)
+      → same_kind (chain_kind (bound values a).kind (map (λ f. f.part.kind) (map (bound_factor values) fs))) kind ≡ same_kind (chain_kind a.kind (map (λ f. f.part.kind) fs)) kind
+  product_type a fs kind =
+      ap (λ (k : ColType). same_kind (chain_kind k (map (λ f. f.part.kind) (map (bound_factor values) fs))) kind) (kind_stays values a)
+      ∙ ap (λ (ks : List ColType). same_kind (chain_kind a.kind ks) kind) (factor_kinds values fs)
+
+  -- what stands in place of a parameter
+  put_fits : (n : ℕ) (found : Option Value) (g : TypedForm) → g ≡ value_or n found → (form_in after g).fits ≡ true
+  put_fits n None g is = fits_param after g n is
+  put_fits n (Some v) g is = fits_literal after g v is
+
+  param_gives : (n : ℕ) (f : TypedForm) (kind : ColType) → f ≡ form.Param n → is_parameter kinds n kind ≡ true → (form_in after (bound_form values f)).gives kind ≡ true
+  param_gives zero f kind is given = absurd (let g : false ≡ true = given in cc)
+  param_gives (suc at) f kind is given =
+      let found = fit_at kinds values at kind fit given in
+      gives_literal after (bound_form values f) kind found.0 (bound_param values f (suc at) is ∙ ap (value_or (suc at)) found.1) ∙ found.2
+
+  param_fits : (n : ℕ) (f : TypedForm) → f ≡ form.Param n → (form_in after (bound_form values f)).fits ≡ true
+  param_fits zero f is = fits_param after (bound_form values f) zero (bound_param values f zero is)
+  param_fits (suc at) f is = put_fits (suc at) (slice_get values at) (bound_form values f) (bound_param values f (suc at) is)
+
+  kept_expr : (e : TypedExpr) → KeptForm e.form → Kept e
+  kept_expr e kept is =
+      let both = and_true ((form_in before e.form).gives e.kind) (form_in before e.form).fits (sym (sound_by_form before e) ∙ is) in
+      let made : TypedExpr = record { kind = e.kind; form = bound_form values e.form } in
+      ap (is_sound after) (bound_by_form values e) ∙ (sound_by_form after made
+      ∙ both_true ((form_in after made.form).gives e.kind) (form_in after made.form).fits (kept.0 e.kind both.0) (kept.1 both.1))
+
+  module _ {F E P S : Type 0} (f_of : F → TypedForm) (e_of : E → TypedExpr) (p_of : P → TypedProductPart) (s_of : S → TypedSumPart) (ex : (x : E) → Kept (e_of x)) (py : (y : P) → Kept (p_of y).part) (sz : (z : S) → Kept (s_of z).part) where
+    layer : (y : TypedForm-F F E P S) → KeptForm (roll-TypedForm (map-TypedForm F E P S TypedForm TypedExpr TypedProductPart TypedSumPart f_of e_of p_of s_of y))
+    layer (TypedForm-F.Or parts) =
+        let es = map e_of parts in
+        let f = roll-TypedForm (TypedForm-F.Or es) in
+        let is = form.rolls-Or es in
+        let to = bound_or values f es is in (
+          λ kind at. gives_or after (bound_form values f) kind (map (bound values) es) to ∙ (sym (gives_or before f kind es is) ∙ at),
+          λ fits. fits_or after (bound_form values f) (map (bound values) es) to ∙ all_kept (Like Bool) es (each_of e_of Kept ex parts) (sym (fits_or before f es is) ∙ fits),
+        )
+    layer (TypedForm-F.And parts) =
+        let es = map e_of parts in
+        let f = roll-TypedForm (TypedForm-F.And es) in
+        let is = form.rolls-And es in
+        let to = bound_and values f es is in (
+          λ kind at. gives_and after (bound_form values f) kind (map (bound values) es) to ∙ (sym (gives_and before f kind es is) ∙ at),
+          λ fits. fits_and after (bound_form values f) (map (bound values) es) to ∙ all_kept (Like Bool) es (each_of e_of Kept ex parts) (sym (fits_and before f es is) ∙ fits),
+        )
+    layer (TypedForm-F.Not x) =
+        let e = e_of x in
+        let f = roll-TypedForm (TypedForm-F.Not e) in
+        let is = form.rolls-Not e in
+        let to = bound_not values f e is in (
+          λ kind at. gives_not after (bound_form values f) kind (bound values e) to ∙ (sym (gives_not before f kind e is) ∙ at),
+          λ fits. fits_not after (bound_form values f) (bound values e) to ∙ stands_kept (Like Bool) e (ex x) (sym (fits_not before f e is) ∙ fits),
+        )
+    layer (TypedForm-F.IsNull x tests) =
+        let e = e_of x in
+        let f = roll-TypedForm (TypedForm-F.IsNull e tests) in
+        let is = form.rolls-IsNull e tests in
+        let to = bound_is_null values f e tests is in (
+          λ kind at. gives_is_null after (bound_form values f) kind (bound values e) tests to ∙ (sym (gives_is_null before f kind e tests is) ∙ at),
+          λ fits. fits_is_null after (bound_form values f) (bound values e) tests to ∙ stands_kept Any e (ex x) (sym (fits_is_null before f e tests is) ∙ fits),
+        )
+    layer (TypedForm-F.Compare how x y) =
+        let a = e_of x in
+        let b = e_of y in
+        let f = roll-TypedForm (TypedForm-F.Compare how a b) in
+        let is = form.rolls-Compare how a b in
+        let to = bound_compare values f how a b is in (
+          λ kind at. gives_compare after (bound_form values f) kind how (bound values a) (bound values b) to ∙ (sym (gives_compare before f kind how a b is) ∙ at),
+          λ fits. fits_compare after (bound_form values f) how (bound values a) (bound values b) to ∙ beside_kept a b (ex x) (ex y) (sym (fits_compare before f how a b is) ∙ fits),
+        )
+    layer (TypedForm-F.Member x negated parts) =
+        let a = e_of x in
+        let es = map e_of parts in
+        let f = roll-TypedForm (TypedForm-F.Member a negated es) in
+        let is = form.rolls-Member a negated es in
+        let to = bound_member values f a negated es is in (
+          λ kind at. gives_member after (bound_form values f) kind (bound values a) negated (map (bound values) es) to ∙ (sym (gives_member before f kind a negated es is) ∙ at),
+          λ fits. fits_member after (bound_form values f) (bound values a) negated (map (bound values) es) to
+              ∙ among_kept a es (ex x) (each_of e_of Kept ex parts) (sym (fits_member before f a negated es is) ∙ fits),
+        )
+    layer (TypedForm-F.Concat parts) =
+        let es = map e_of parts in
+        let f = roll-TypedForm (TypedForm-F.Concat es) in
+        let is = form.rolls-Concat es in
+        let to = bound_concat values f es is in (
+          λ kind at. gives_concat after (bound_form values f) kind (map (bound values) es) to ∙ (sym (gives_concat before f kind es is) ∙ at),
+          λ fits. fits_concat after (bound_form values f) (map (bound values) es) to ∙ all_kept (Like Text) es (each_of e_of Kept ex parts) (sym (fits_concat before f es is) ∙ fits),
+        )
+    layer (TypedForm-F.Sum x parts) =
+        let a = e_of x in
+        let ss = map s_of parts in
+        let f = roll-TypedForm (TypedForm-F.Sum a ss) in
+        let is = form.rolls-Sum a ss in
+        let to = bound_sum values f a ss is in (
+          λ kind at. gives_sum after (bound_form values f) kind (bound values a) (map (bound_summand values) ss) to ∙ (sum_type a ss kind ∙ (sym (gives_sum before f kind a ss is) ∙ at)),
+          λ fits. fits_sum after (bound_form values f) (bound values a) (map (bound_summand values) ss) to
+              ∙ sum_kept a ss (ex x) (each_of s_of (λ s. Kept s.part) sz parts) (sym (fits_sum before f a ss is) ∙ fits),
+        )
+    layer (TypedForm-F.Product x parts) =
+        let a = e_of x in
+        let fs = map p_of parts in
+        let f = roll-TypedForm (TypedForm-F.Product a fs) in
+        let is = form.rolls-Product a fs in
+        let to = bound_product values f a fs is in (
+          λ kind at. gives_product after (bound_form values f) kind (bound values a) (map (bound_factor values) fs) to ∙ (product_type a fs kind ∙ (sym (gives_product before f kind a fs is) ∙ at)),
+          λ fits. fits_product after (bound_form values f) (bound values a) (map (bound_factor values) fs) to
+              ∙ product_kept a fs (ex x) (each_of p_of (λ p. Kept p.part) py parts) (sym (fits_product before f a fs is) ∙ fits),
+        )
+    layer (TypedForm-F.Minus x) =
+        let e = e_of x in
+        let f = roll-TypedForm (TypedForm-F.Minus e) in
+        let is = form.rolls-Minus e in
+        let to = bound_minus values f e is in (
+          λ kind at. gives_minus after (bound_form values f) kind (bound values e) to
+              ∙ (ap (λ (k : ColType). same_kind k kind) (kind_stays values e) ∙ (sym (gives_minus before f kind e is) ∙ at)),
+          λ fits. fits_minus after (bound_form values f) (bound values e) to ∙ stands_kept Whole e (ex x) (sym (fits_minus before f e is) ∙ fits),
+        )
+    layer (TypedForm-F.Literal v) =
+        let f = roll-TypedForm (TypedForm-F.Literal v) in
+        let is = form.rolls-Literal v in
+        let to = bound_literal values f v is in (
+          λ kind at. gives_literal after (bound_form values f) kind v to ∙ (sym (gives_literal before f kind v is) ∙ at),
+          λ fits. fits_literal after (bound_form values f) v to,
+        )
+    layer (TypedForm-F.Param n) =
+        let f = roll-TypedForm (TypedForm-F.Param n) in
+        let is = form.rolls-Param n in
+        (λ kind at. param_gives n f kind is (sym (gives_param before f kind n is) ∙ at), λ fits. param_fits n f is)
+    layer (TypedForm-F.Column n) =
+        let f = roll-TypedForm (TypedForm-F.Column n) in
+        let is = form.rolls-Column n in
+        let to = bound_column values f n is in (
+          λ kind at. gives_column after (bound_form values f) kind n to ∙ (sym (gives_column before f kind n is) ∙ at),
+          λ fits. fits_column after (bound_form values f) n to,
+        )
+    layer TypedForm-F.CurrentTimestamp =
+        let f = roll-TypedForm TypedForm-F.CurrentTimestamp in
+        let is = form.rolls-CurrentTimestamp in
+        let to = bound_current values f is in
+        (λ kind at. gives_current after (bound_form values f) kind to ∙ (sym (gives_current before f kind is) ∙ at), λ fits. fits_current after (bound_form values f) to)
+    layer TypedForm-F.Now =
+        let f = roll-TypedForm TypedForm-F.Now in
+        let is = form.rolls-Now in
+        let to = bound_now values f is in
+        (λ kind at. gives_now after (bound_form values f) kind to ∙ (sym (gives_now before f kind is) ∙ at), λ fits. fits_now after (bound_form values f) to)
+    layer TypedForm-F.TransactionTimestamp =
+        let f = roll-TypedForm TypedForm-F.TransactionTimestamp in
+        let is = form.rolls-TransactionTimestamp in
+        let to = bound_transaction values f is in
+        (λ kind at. gives_transaction after (bound_form values f) kind to ∙ (sym (gives_transaction before f kind is) ∙ at), λ fits. fits_transaction after (bound_form values f) to)
+
+  from_layer : {F E P S : Type 0} (y : TypedForm-F F E P S) (f_of : F → TypedForm) (e_of : E → TypedExpr) (p_of : P → TypedProductPart) (s_of : S → TypedSumPart)
+      → ((x : E) → Kept (e_of x)) → ((y : P) → Kept (p_of y).part) → ((z : S) → Kept (s_of z).part)
+      → KeptForm (roll-TypedForm (map-TypedForm F E P S TypedForm TypedExpr TypedProductPart TypedSumPart f_of e_of p_of s_of y))
+  from_layer y f_of e_of p_of s_of ex py sz = layer f_of e_of p_of s_of ex py sz y
+
+  -- every expression
+  pub sound_kept : (e : TypedExpr) → Kept e
+  sound_kept = ind-TypedExpr KeptForm Kept (λ p. Kept p.part) (λ s. Kept s.part)
+      (λ x y is. subst (λ (z : TypedForm-F TypedForm TypedExpr TypedProductPart TypedSumPart). KeptForm (roll-TypedForm z)) is
+      (from_layer y (λ f. f.0) (λ e. e.0) (λ p. p.0) (λ s. s.0) (λ e. e.1) (λ p. p.1) (λ s. s.1)))
+      (λ x y is. subst (λ (z : TypedExpr-F TypedForm TypedExpr TypedProductPart TypedSumPart). Kept (roll-TypedExpr z)) is
+      (kept_expr (record { kind = y.kind; form = y.form.0 }) y.form.1))
+      (λ x y is. subst (λ (z : TypedProductPart-F TypedForm TypedExpr TypedProductPart TypedSumPart). Kept z.part) is y.part.1)
+      (λ x y is. subst (λ (z : TypedSumPart-F TypedForm TypedExpr TypedProductPart TypedSumPart). Kept z.part) is y.part.1)
+
+  pub stood_kept : (t : Takes) (e : TypedExpr) → stands before t e ≡ true → stands after t (bound values e) ≡ true
+  stood_kept t e = stands_kept t e (sound_kept e)

@@ -1,0 +1,5 @@
+pub mod Forms
+pub mod Bound
+pub mod Limits
+pub mod Kept
+mod KeptStatements

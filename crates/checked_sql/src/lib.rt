@@ -1,0 +1,17 @@
+//! Checked statements: whether one is of a catalogue, and values in place of its parameters. What
+//! is of a catalogue has numbers that are there and nodes of the types that the rules give them;
+//! binding changes the parameters alone.
+#![tactic(auto)]
+
+mod bind_expr;
+mod binding;
+mod kinds;
+mod names;
+mod nodes;
+mod of_catalogue;
+mod read;
+mod values;
+mod write;
+
+pub use binding::bind;
+pub use of_catalogue::is_of;

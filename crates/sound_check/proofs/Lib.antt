@@ -1,0 +1,10 @@
+mod Answered
+mod Keeping
+mod KnownTypes
+mod Leaves
+mod Limits
+mod Nodes
+mod Selects
+mod Tables
+mod Trees
+mod Writes
