@@ -1,0 +1,12 @@
+mod Changing
+mod Counting
+mod Drawing
+mod Entries
+mod Finding
+mod Inserting
+mod Ordering
+mod Reading
+mod Refusing
+mod Setting
+mod Sorting
+mod Walking

@@ -1,0 +1,7 @@
+pub mod Views
+pub mod Walks
+pub mod Ordered
+pub mod Reads
+pub mod Stored
+pub mod Inserts
+pub mod Effects
