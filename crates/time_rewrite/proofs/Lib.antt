@@ -1,0 +1,6 @@
+mod Forms
+mod Folding
+mod TimelessLemmas
+mod ValueLemmas
+mod Refusals
+mod Wholes
