@@ -1,0 +1,4 @@
+pub mod Fitting
+pub mod Proceeding
+pub mod Calling
+pub mod Keeping
