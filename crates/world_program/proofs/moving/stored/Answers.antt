@@ -1,0 +1,12 @@
+use Rattle.std.proofs.Common.{◌<◌, refl, arith, length}
+use Rattle.std.proofs.lemmas.Option.{slice_get_read}
+use Rattle.plain_store.specs.Meaning.{store_of}
+use Rattle.world_program.proofs.Stepping.{stored_is}
+use Rattle.world_program.proofs.moving.stored.Goals as goal
+
+pub returns : goal.returns
+returns c =
+    let w = c.args.w in
+    let below : c.args.b.number < length w.backends.items = omega (arith, w.numbered, c.args.b.below_8) in
+    let there = slice_get_read w.backends.items (length w.backends.items) c.args.b.number c.index_mut.result.now refl below c.index_mut.ensures.value in
+    stored_is w.policy w.gate.state w.machines.items w.backends.items c.args.b.number c.index_mut.result.now _ (store_of c.args.store) below there refl refl

@@ -1,0 +1,40 @@
+-- The world that the program's data mean.
+use Rattle.std.specs.Prelude.{ℕ, List, Option, Some, None, slice_get}
+use Rattle.backend_trait.specs.declared.answer.Answer.{Answer}
+use Rattle.backend_trait.specs.Store.{Store, blank}
+use Rattle.plain_store.specs.Meaning.{store_of}
+use Rattle.session_machine.specs.declared.machine.ReadPolicy.{ReadPolicy}
+use Rattle.session_machine.specs.declared.machine.Machine.{Machine}
+use Rattle.session_machine.specs.Rules.{new_machine}
+use Rattle.snapshot_gate.specs.declared.state.GateState.{GateState}
+use Rattle.one_copy_model.specs.Numbers.{session_of}
+use Rattle.one_copy_model.specs.World.{World}
+use Rattle.world_program.specs.declared.data.Replica.{Replica}
+use Rattle.world_program.specs.declared.data.Replicas.{Replicas}
+
+abbrev pub machine_in : ReadPolicy → ℕ → Option Machine → Machine
+machine_in policy s None = new_machine (session_of s) policy
+machine_in policy s (Some m) = m
+
+abbrev pub store_in : Option Replica → Store
+store_in None = blank
+store_in (Some r) = store_of r.store
+
+abbrev pub answer_at : Option (Option Answer) → Option Answer
+answer_at None = None
+answer_at (Some answer) = answer
+
+abbrev pub mail_in : Option Replica → ℕ → Option Answer
+mail_in None s = None
+mail_in (Some r) s = answer_at (slice_get r.mail.items s)
+
+abbrev pub world_in : ReadPolicy → GateState → List Machine → List Replica → World
+world_in policy gate machines backends = record {
+  gate = gate;
+  machine = λ s. machine_in policy s (slice_get machines s);
+  store = λ b. store_in (slice_get backends b);
+  mail = λ s b. mail_in (slice_get backends b) s;
+}
+
+abbrev pub world_of : Replicas → World
+world_of w = world_in w.policy w.gate.state w.machines.items w.backends.items

@@ -1,0 +1,27 @@
+//! What the program keeps of the world.
+ghost use Rattle.std.specs.Prelude.{◌≡◌, length};
+
+use backend_trait::Answer;
+use plain_store::Database;
+use session_machine::{Machine, ReadPolicy};
+use snapshot_gate::Gate;
+
+/// A backend: its store, and by session's number the answer that it has given and the session has
+/// not taken.
+#[derive(Debug, Drop)]
+pub struct Replica {
+    pub store: Database,
+    pub mail: Vec<Option<Answer>>,
+    ghost mailed: { length mail.items ≡ 65 },
+}
+
+/// The world: the gate, the machine of each session by its number, and each backend by its number.
+#[derive(Debug, Drop)]
+pub struct Replicas {
+    pub policy: ReadPolicy,
+    pub gate: Gate,
+    pub machines: Vec<Machine>,
+    pub backends: Vec<Replica>,
+    ghost sessions: { length machines.items ≡ 65 },
+    ghost numbered: { length backends.items ≡ 8 },
+}
