@@ -1,0 +1,4 @@
+pub mod Setting
+pub mod Following
+pub mod Rightness
+pub mod Counting
