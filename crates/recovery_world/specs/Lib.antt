@@ -1,0 +1,5 @@
+pub mod Copying
+pub mod Pool
+pub mod Holding
+pub mod Phases
+pub mod Sample

@@ -1,0 +1,39 @@
+-- Where each recovery stands at the gate, by the calls that it was granted; and that one alone has the gate's quiet.
+use Rattle.std.specs.Prelude.{◌≡◌, ℕ, Bool, true, false, ◌==◌, List, [], ◌∷◌}
+use Rattle.backend_trait.specs.Rows.{with_at}
+use Rattle.snapshot_gate.specs.declared.state.GateState.{GateState}
+use Rattle.online_recovery.specs.declared.action.RecoveryEvent.{RecoveryEvent}
+use Rattle.online_recovery.specs.declared.recovery.Quiet.TheVariants.{Open}
+use Rattle.online_recovery.specs.Runs.{Phase, outside, phase_after}
+use Rattle.recovery_world.specs.declared.step.Step.{Step}
+use Rattle.recovery_world.specs.declared.step.Step.TheVariants.{Serve, Recover, Answer as Answers}
+use Rattle.recovery_world.specs.Holding.{number_of}
+
+abbrev pub phases_after : (ℕ → Phase) → Step → ℕ → Phase
+phases_after phases (Serve event) = phases
+phases_after phases (Recover s event) = with_at phases s.number (phase_after (phases s.number) event)
+phases_after phases (Answers s b answer) = phases
+
+abbrev pub phases_all : (ℕ → Phase) → List Step → ℕ → Phase
+phases_all phases [] = phases
+phases_all phases (e ∷ es) = phases_all (phases_after phases e) es
+
+abbrev pub all_outside : ℕ → Phase
+all_outside s = outside
+
+-- one recovery at most has been granted the gate's quiet, and the gate's quiet is what that one was granted
+pub record QuietIsOne (g : GateState) (phases : ℕ → Phase) : Type 0 where
+  pub one : (s o : ℕ) → ¬ ((phases s).quiet ≡ Open) → ¬ ((phases o).quiet ≡ Open) → s ≡ o
+  pub quiet : (s : ℕ) → ¬ ((phases s).quiet ≡ Open) → g.quiet ≡ number_of (phases s).quiet
+  pub nobody : ((s : ℕ) → (phases s).quiet ≡ Open) → g.quiet ≡ 0
+
+-- the events of one session's recoveries
+abbrev pub with_event : Bool → RecoveryEvent → List RecoveryEvent → List RecoveryEvent
+with_event true event events = event ∷ events
+with_event false event events = events
+
+abbrev pub events_of : ℕ → List Step → List RecoveryEvent
+events_of n [] = []
+events_of n (Serve event ∷ es) = events_of n es
+events_of n (Recover s event ∷ es) = with_event (n == s.number) event (events_of n es)
+events_of n (Answers s b answer ∷ es) = events_of n es

@@ -1,0 +1,12 @@
+//! The replicated world with recoveries: a layer over the world of the sessions. What takes place
+//! in it, what a recovery is to hold, and laws: snapshots and commits are never under way together,
+//! and under entered quiet nobody has a transaction, recoveries included.
+#![tactic(auto)]
+
+mod laws;
+mod step;
+
+pub use laws::{
+    a_recovery_takes_place, never_together, quiet_is_of_one, quiet_is_still, without_recoveries,
+};
+pub use step::Step;

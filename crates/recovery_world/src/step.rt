@@ -1,0 +1,24 @@
+//! What takes place in the replicated world with recoveries.
+
+use backend_trait::Answer;
+use one_copy_model::Event;
+use online_recovery::RecoveryEvent;
+use pool_base::{BackendId, SessionId};
+
+/// What takes place.
+#[derive(Debug, PartialEq, Eq, Drop)]
+pub enum Step {
+    /// In the world of the sessions.
+    Serve(Event),
+    /// At the recovery that a session has ordered.
+    Recover {
+        s: SessionId,
+        event: RecoveryEvent,
+    },
+    /// A backend answers what a recovery asks.
+    Answer {
+        s: SessionId,
+        b: BackendId,
+        answer: Answer,
+    },
+}
