@@ -21,6 +21,3 @@ pub use data::{Change, ChangeSet, Database, Number, Phase, Wanted, Work};
 pub use laws::{commits_keep_rows, first_updater_wins};
 pub use posting::may_post;
 pub use waiting::{is_held_up, is_in_cycle};
-
-#[cfg(test)]
-mod tests;

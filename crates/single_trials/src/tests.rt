@@ -7,7 +7,7 @@ mod runs;
 mod words;
 
 use lines::Line;
-use playing::{Did, Schedule, leads};
+use playing::{Did, Schedule, have_done, leads};
 use pool_base::{BackendId, Code, NoMemory, SessionId};
 use session_machine::{Status, Tag};
 use std::alloc::Global;
@@ -25,9 +25,15 @@ const B2: BackendId = BackendId { number: 2 };
 
 const STALE: Code = Code { bytes: *b"40001" };
 
+const DEADLOCK: Code = Code { bytes: *b"40P01" };
+
 const DUPLICATE: Code = Code { bytes: *b"23505" };
 
 const NO_BACKEND: Code = Code { bytes: *b"57P03" };
+
+const COUNTS_SPENT: Code = Code { bytes: *b"54000" };
+
+const OUT_OF_RANGE: Code = Code { bytes: *b"22008" };
 
 const SNAPSHOT: Did = Did::Asked(Ask::Snapshot);
 
@@ -56,6 +62,17 @@ const TWO_WRITERS: [Line; 9] = [
     Line::Post(S2, B0, Ask::Insert(1)),
 ];
 
+/// What session 2 is not told where its key is stale: neither another code, nor one of the pool's
+/// own.
+const NOT_STALE: [Line; 6] = [
+    Line::Done(S2, Tag::Insert(1), Status::InBlock),
+    Line::Error(S2, DEADLOCK, Status::Failed),
+    Line::Error(S2, DUPLICATE, Status::Failed),
+    Line::Error(S2, NO_BACKEND, Status::Failed),
+    Line::Error(S2, COUNTS_SPENT, Status::Failed),
+    Line::Error(S2, OUT_OF_RANGE, Status::Failed),
+];
+
 /// Session 1 commits, and session 2 is refused.
 fn first_updater_wins(alloc: Global, attached: u8) -> Result<bool, NoMemory> {
     let schedule = Schedule {
@@ -66,6 +83,7 @@ fn first_updater_wins(alloc: Global, attached: u8) -> Result<bool, NoMemory> {
             Line::Answer(S2, B0, Say::Refused(STALE)),
             Line::Fail(S2, STALE, Status::Failed),
         ],
+        wrong: &NOT_STALE,
         history: &[
             (1, SNAPSHOT),
             (1, BEGAN),
@@ -101,6 +119,7 @@ fn a_death_has_its_reason_later(rt: HostRuntime) {
         attached: 1,
         start: &TWO_WRITERS,
         rest: &[Line::Commit(S1), Line::Act(S2, B0, Say::Refused(STALE))],
+        wrong: &[],
         history: &[
             (1, SNAPSHOT),
             (1, BEGAN),
@@ -138,6 +157,11 @@ fn a_rollback_lets_the_second_go_on(rt: HostRuntime) {
         attached: 7,
         start: &TWO_WRITERS,
         rest: &SECOND_GOES_ON,
+        wrong: &[
+            Line::Done(S2, Tag::Insert(2), Status::InBlock),
+            Line::Error(S2, STALE, Status::Failed),
+            Line::Error(S2, NO_BACKEND, Status::Failed),
+        ],
         history: &[
             (1, SNAPSHOT),
             (1, BEGAN),
@@ -183,6 +207,10 @@ fn no_snapshot_is_taken_during_a_commit(rt: HostRuntime) {
             Line::Look(S2),
             Line::Ask(S2, B0, Ask::Select(2), Say::Row(2)),
             Line::Found(S2, Some(2), Status::Idle),
+        ],
+        wrong: &[
+            Line::Found(S2, None, Status::Idle),
+            Line::Found(S2, Some(1), Status::Idle),
         ],
         history: &[
             (1, SNAPSHOT),
@@ -231,6 +259,10 @@ fn write_skew_is_allowed(rt: HostRuntime) {
             Line::Insert(S2, 2),
             Line::Commit(S1),
             Line::Commit(S2),
+        ],
+        wrong: &[
+            Line::Done(S2, Tag::Rollback, Status::Idle),
+            Line::Error(S2, STALE, Status::Idle),
         ],
         history: &SKEWED,
         replies: (8, 0),
@@ -286,6 +318,10 @@ fn a_failover_hands_the_lock_on(rt: HostRuntime) {
             Line::Ask(S1, B1, Ask::Insert(1), Say::Refused(STALE)),
             Line::Fail(S1, STALE, Status::Failed),
         ],
+        wrong: &[
+            Line::Done(S1, Tag::Insert(1), Status::InBlock),
+            Line::Error(S1, NO_BACKEND, Status::Failed),
+        ],
         history: &[
             (1, SNAPSHOT),
             (1, BEGAN),
@@ -324,6 +360,10 @@ fn a_refused_serial_insert_has_its_lock_and_its_run(rt: HostRuntime) {
         attached: 3,
         start: &INSERTED_AGAIN,
         rest: &[Line::Fail(S2, DUPLICATE, Status::Idle)],
+        wrong: &[
+            Line::Done(S2, Tag::Insert(1), Status::Idle),
+            Line::Error(S2, STALE, Status::Idle),
+        ],
         history: &[
             (1, SNAPSHOT),
             (1, BEGAN),
@@ -355,9 +395,174 @@ fn a_refusal_for_want_of_backends_is_the_pools_own(rt: HostRuntime) {
             Line::LeaveSnapshot(S1),
         ],
         rest: &[Line::Fail(S1, NO_BACKEND, Status::Idle)],
+        wrong: &[
+            Line::Found(S1, None, Status::Idle),
+            Line::Error(S1, STALE, Status::Idle),
+        ],
         history: &[],
         replies: (0, 1),
         keys: (false, false),
     };
     assert!(rt; leads(rt.alloc(), schedule) == Ok(true));
+}
+
+/// Each session has a key, and asks for that of the other, session 1 first.
+const BOTH_WAIT: [Line; 14] = [
+    Line::Begin(S1),
+    Line::Order(S1, Want::Insert(1)),
+    Line::Open(S1),
+    Line::Insert(S1, 1),
+    Line::Begin(S2),
+    Line::Order(S2, Want::Insert(2)),
+    Line::Open(S2),
+    Line::Insert(S2, 2),
+    Line::Order(S1, Want::Insert(2)),
+    Line::Look(S1),
+    Line::Post(S1, B0, Ask::Insert(2)),
+    Line::Order(S2, Want::Insert(1)),
+    Line::Look(S2),
+    Line::Post(S2, B0, Ask::Insert(1)),
+];
+
+const ONE_REFUSED: [(u8, Did); 11] = [
+    (1, SNAPSHOT),
+    (1, BEGAN),
+    (1, FIRST),
+    (1, ONE),
+    (2, SNAPSHOT),
+    (2, BEGAN),
+    (2, SECOND),
+    (2, ONE),
+    (1, SECOND),
+    (2, FIRST),
+    (2, Did::Died(Some(DEADLOCK))),
+];
+
+/// Session 2 is refused.
+#[test]
+fn of_two_that_wait_for_one_another_one_is_refused(rt: HostRuntime) {
+    let schedule = Schedule {
+        attached: 7,
+        start: &BOTH_WAIT,
+        rest: &[
+            Line::Answer(S2, B0, Say::Refused(DEADLOCK)),
+            Line::Fail(S2, DEADLOCK, Status::Failed),
+        ],
+        wrong: &[
+            Line::Done(S2, Tag::Insert(1), Status::InBlock),
+            Line::Error(S2, STALE, Status::Failed),
+        ],
+        history: &ONE_REFUSED,
+        replies: (5, 0),
+        keys: (false, false),
+    };
+    assert!(rt; leads(rt.alloc(), schedule) == Ok(true));
+}
+
+const OTHER_GOES_ON: [(u8, Did); 14] = [
+    (1, SNAPSHOT),
+    (1, BEGAN),
+    (1, FIRST),
+    (1, ONE),
+    (2, SNAPSHOT),
+    (2, BEGAN),
+    (2, SECOND),
+    (2, ONE),
+    (1, SECOND),
+    (2, FIRST),
+    (2, Did::Died(Some(DEADLOCK))),
+    (1, ONE),
+    (1, COMMIT),
+    (1, DONE),
+];
+
+/// Session 1 has both keys.
+#[test]
+fn the_other_of_the_two_goes_on(rt: HostRuntime) {
+    let schedule = Schedule {
+        attached: 7,
+        start: &BOTH_WAIT,
+        rest: &[
+            Line::Answer(S2, B0, Say::Refused(DEADLOCK)),
+            Line::Fail(S2, DEADLOCK, Status::Failed),
+            Line::Answer(S1, B0, Say::One),
+            Line::Ask(S1, B1, Ask::Insert(2), Say::One),
+            Line::Ask(S1, B2, Ask::Insert(2), Say::One),
+            Line::Done(S1, Tag::Insert(1), Status::InBlock),
+            Line::Commit(S1),
+        ],
+        wrong: &[
+            Line::Done(S1, Tag::Rollback, Status::Idle),
+            Line::Error(S1, DEADLOCK, Status::Idle),
+        ],
+        history: &OTHER_GOES_ON,
+        replies: (7, 0),
+        keys: (true, true),
+    };
+    assert!(rt; leads(rt.alloc(), schedule) == Ok(true));
+}
+
+/// Session 1 has entered its commit, and both backends are lost.
+const BOTH_LOST: [Line; 14] = [
+    Line::Begin(S1),
+    Line::Order(S1, Want::Insert(1)),
+    Line::Open(S1),
+    Line::Insert(S1, 1),
+    Line::Order(S1, Want::Commit),
+    Line::EnterCommit(S1),
+    Line::Look(S1),
+    Line::Post(S1, B0, Ask::Commit),
+    Line::Lose(B0),
+    Line::Lose(B1),
+    Line::Detach(S1, B0),
+    Line::Look(S1),
+    Line::Post(S1, B1, Ask::Commit),
+    Line::Detach(S1, B1),
+];
+
+/// It has committed in the run, where it entered; the session ends without a reply.
+#[test]
+fn a_commit_that_loses_its_backends_is_in_the_run(rt: HostRuntime) {
+    let schedule = Schedule {
+        attached: 3,
+        start: &BOTH_LOST,
+        rest: &[Line::LeaveCommit(S1), Line::End(S1)],
+        wrong: &[
+            Line::Done(S1, Tag::Rollback, Status::Idle),
+            Line::Error(S1, STALE, Status::Idle),
+        ],
+        history: &[
+            (1, SNAPSHOT),
+            (1, BEGAN),
+            (1, FIRST),
+            (1, ONE),
+            (1, COMMIT),
+            (1, DONE),
+        ],
+        replies: (2, 0),
+        keys: (true, false),
+    };
+    assert!(rt; leads(rt.alloc(), schedule) == Ok(true));
+}
+
+/// Session 1 has entered its commit.
+const ENTERED: [Line; 7] = [
+    Line::Begin(S1),
+    Line::Order(S1, Want::Insert(2)),
+    Line::Open(S1),
+    Line::Insert(S1, 2),
+    Line::Order(S1, Want::Commit),
+    Line::EnterCommit(S1),
+    Line::Look(S1),
+];
+
+/// Nobody has done it at first, then one backend after another.
+#[test]
+fn a_commit_is_done_by_one_backend_after_another(rt: HostRuntime) {
+    let alloc = rt.alloc();
+    let first = Line::Ask(S1, B0, Ask::Commit, Say::Done);
+    let second = Line::Ask(S1, B1, Ask::Commit, Say::Done);
+    assert!(rt; have_done(alloc, &ENTERED, &[]) == Ok(Some((false, false))));
+    assert!(rt; have_done(alloc, &ENTERED, &[first]) == Ok(Some((true, false))));
+    assert!(rt; have_done(alloc, &ENTERED, &[first, second]) == Ok(Some((true, true))));
 }

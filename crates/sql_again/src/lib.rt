@@ -7,6 +7,3 @@ mod fault;
 
 pub use again::tokens_again;
 pub use fault::AgainFault;
-
-#[cfg(test)]
-mod tests;

@@ -11,6 +11,3 @@ mod writer;
 
 pub use quoting::{push_name, push_string};
 pub use statement::print_statement;
-
-#[cfg(test)]
-mod tests;

@@ -7,6 +7,3 @@ mod reader;
 
 pub use fault::SqlFault;
 pub use reader::read_statements;
-
-#[cfg(test)]
-mod tests;

@@ -5,6 +5,3 @@
 mod round;
 
 pub use round::statements_again;
-
-#[cfg(test)]
-mod tests;

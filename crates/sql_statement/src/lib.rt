@@ -14,6 +14,3 @@ mod words;
 
 pub use read::{first_word, read_behind};
 pub use verb::Verb;
-
-#[cfg(test)]
-mod tests;

@@ -10,6 +10,3 @@ mod statements;
 pub use fault::{TextError, TextFault};
 pub use read::read_statements;
 pub use statements::STATEMENT_LIMIT;
-
-#[cfg(test)]
-mod tests;

@@ -41,6 +41,7 @@ fn add_behind(
 {
     let (statement, rest) = read_behind(alloc, verb, tokens)?;
     if lacks_from(&statement, rest) {
+        drop(statement);
         let left = tokens.len();
         return Err(TextError::Fault(TextFault::WithoutFrom { left }));
     }

@@ -3,3 +3,4 @@ mod both;
 mod histories;
 mod random;
 mod step;
+mod two_sessions;

@@ -27,6 +27,10 @@ const DEADLOCK: Code = Code { bytes: *b"40P01" };
 
 const DUPLICATE: Code = Code { bytes: *b"23505" };
 
+const OUT_OF_MEMORY: Code = Code { bytes: *b"53200" };
+
+const NO_BACKEND: Code = Code { bytes: *b"57P03" };
+
 /// Session 1 has inserted key 1 at three backends, and session 2 waits at the first for the same.
 const TWO_WRITERS: [Line; 9] = [
     Line::Begin(S1),
@@ -131,6 +135,41 @@ fn no_snapshot_is_taken_during_a_commit(rt: HostRuntime) {
         rest: &COMMIT_LEFT,
     };
     let others = [Line::EnterSnapshot(S2)];
+    assert!(rt; fails_by(rt.alloc(), parts, &others) == Ok(true));
+}
+
+/// Session 1 is due to enter its commit, and session 2 is in its snapshot.
+const SNAPSHOT_ENTERED: [Line; 7] = [
+    Line::Begin(S1),
+    Line::Order(S1, Deed::Insert(2)),
+    Line::Open(S1),
+    Line::Insert(S1, 2),
+    Line::Order(S2, Deed::Select(2)),
+    Line::EnterSnapshot(S2),
+    Line::Order(S1, Deed::Commit),
+];
+
+/// Session 2 reads what it saw, and session 1 commits.
+#[test]
+fn no_commit_is_entered_during_a_snapshot(rt: HostRuntime) {
+    let parts = Parts {
+        attached: 3,
+        start: &SNAPSHOT_ENTERED,
+        before: &[],
+        rest: &[
+            Line::Look(S2),
+            Line::Down(S2, Ask::Snapshot, Say::Began),
+            Line::LeaveSnapshot(S2),
+            Line::EnterCommit(S1),
+            Line::Look(S1),
+            Line::Down(S1, Ask::Commit, Say::Done),
+            Line::LeaveCommit(S1),
+            Line::Look(S2),
+            Line::Ask(S2, B0, Ask::Select(2), Say::NoRow),
+            Line::Found(S2, None, Status::Idle),
+        ],
+    };
+    let others = [Line::EnterCommit(S1), Line::Post(S1, B0, Ask::Commit)];
     assert!(rt; fails_by(rt.alloc(), parts, &others) == Ok(true));
 }
 
@@ -362,5 +401,73 @@ fn a_refused_serial_insert_goes_to_every_backend(rt: HostRuntime) {
         ],
     };
     let others = [Line::Post(S2, B0, Ask::Rollback)];
+    assert!(rt; fails_by(rt.alloc(), parts, &others) == Ok(true));
+}
+
+/// Session 1 has entered its commit, and both backends are lost.
+const BOTH_LOST: [Line; 14] = [
+    Line::Begin(S1),
+    Line::Order(S1, Deed::Insert(1)),
+    Line::Open(S1),
+    Line::Insert(S1, 1),
+    Line::Order(S1, Deed::Commit),
+    Line::EnterCommit(S1),
+    Line::Look(S1),
+    Line::Post(S1, B0, Ask::Commit),
+    Line::Lose(B0),
+    Line::Lose(B1),
+    Line::Detach(S1, B0),
+    Line::Look(S1),
+    Line::Post(S1, B1, Ask::Commit),
+    Line::Detach(S1, B1),
+];
+
+/// Nobody can tell whether it has committed.
+#[test]
+fn a_commit_that_loses_its_backends_has_no_reply(rt: HostRuntime) {
+    let parts = Parts {
+        attached: 3,
+        start: &BOTH_LOST,
+        before: &[Line::LeaveCommit(S1)],
+        rest: &[Line::End(S1)],
+    };
+    let others = [
+        Line::Done(S1, Tag::Commit, Status::Idle),
+        Line::Done(S1, Tag::Rollback, Status::Idle),
+        Line::Error(S1, NO_BACKEND, Status::Idle),
+    ];
+    assert!(rt; fails_by(rt.alloc(), parts, &others) == Ok(true));
+}
+
+/// The second of three backends has no memory for a snapshot.
+const SECOND_REFUSES: [Line; 6] = [
+    Line::Order(S1, Deed::Select(1)),
+    Line::EnterSnapshot(S1),
+    Line::Look(S1),
+    Line::Ask(S1, B0, Ask::Snapshot, Say::Began),
+    Line::Ask(S1, B1, Ask::Snapshot, Say::Refused(OUT_OF_MEMORY)),
+    Line::Ask(S1, B2, Ask::Snapshot, Say::Began),
+];
+
+#[test]
+fn a_backend_that_answers_otherwise_is_detached(rt: HostRuntime) {
+    let refusal = Say::Refused(OUT_OF_MEMORY);
+    let parts = Parts {
+        attached: 7,
+        start: &SECOND_REFUSES,
+        before: &[],
+        rest: &[
+            Line::Part(S1, B1, Say::Began, Say::Refused(OUT_OF_MEMORY)),
+            Line::LeaveSnapshot(S1),
+            Line::Look(S1),
+            Line::Ask(S1, B0, Ask::Select(1), Say::NoRow),
+            Line::Found(S1, None, Status::Idle),
+        ],
+    };
+    let others = [
+        Line::Part(S1, B1, refusal, Say::Began),
+        Line::Part(S1, B0, refusal, Say::Began),
+        Line::LeaveSnapshot(S1),
+    ];
     assert!(rt; fails_by(rt.alloc(), parts, &others) == Ok(true));
 }

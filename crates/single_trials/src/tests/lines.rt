@@ -37,11 +37,15 @@ pub(super) enum Line {
     Done(SessionId, Tag, Status),
     /// The reply to a SELECT, with its row.
     Found(SessionId, Option<i32>, Status),
+    /// The reply that refuses.
+    Error(SessionId, Code, Status),
     /// What follows a refusal: rollbacks, the gate, the reply.
     Fail(SessionId, Code, Status),
     Lose(BackendId),
-    /// A session sees the loss of a backend, and detaches it as the first.
+    /// A session sees the loss of a backend, and detaches it.
     Detach(SessionId, BackendId),
+    /// The session ends without a reply.
+    End(SessionId),
 }
 
 /// A list of events, and what the gate shows behind them.
@@ -204,7 +208,7 @@ impl Listing {
         let (before, after) = (0, 1);
         self.at(s, SessionEvent::Faulted { b, before, after })?;
         self.view.attached = self.view.attached.without(b);
-        self.view.epoch = 1;
+        self.view.epoch = self.view.epoch.wrapping_add(1);
         let cause = Cause::Fault { before, after };
         let answer = GateAnswer::Granted(self.view);
         self.at(s, SessionEvent::Detached { b, cause, answer })
@@ -230,9 +234,11 @@ impl Listing {
             Line::Commit(s) => self.commit(s),
             Line::Done(s, tag, status) => self.done(s, tag, status),
             Line::Found(s, key, status) => self.found(s, key, status),
+            Line::Error(s, code, status) => self.error(s, code, status),
             Line::Fail(s, code, status) => self.fail(s, code, status),
             Line::Lose(b) => self.add(Event::Lost { b }),
             Line::Detach(s, b) => self.detach(s, b),
+            Line::End(s) => self.at(s, SessionEvent::Ended),
         }
     }
 

@@ -2,10 +2,11 @@
 use super::lines::{Line, Listing};
 use super::words::{Ask, Say, answer, request};
 use one_copy_model::{Deed, Entry, Event};
-use pool_base::{BackendSet, Code, NoMemory, SessionId};
+use plain_store::Database;
+use pool_base::{BackendId, BackendSet, Code, NoMemory, SessionId};
 use run_program::committed;
 use session_machine::{Outcome, ReadPolicy, SessionEvent};
-use single_program::{Track, after, given, is_reply};
+use single_program::{Track, after, given, has_done, is_reply};
 use std::alloc::Global;
 use world_program::may_happen;
 
@@ -17,14 +18,15 @@ pub(super) enum Did {
     Died(Option<Code>),
 }
 
-/// A schedule, where these backends are attached, and what it leads to: the entries of the run, the
-/// oldest first; how many replies are its answers, and how many the pool's own; and whether the
-/// keys 1 and 2 are committed.
+/// A schedule, where these backends are attached, and what it leads to: replies that are not right
+/// in place of its last event; the entries of the run, the oldest first; how many replies are its
+/// answers, and how many the pool's own; and whether the keys 1 and 2 are committed.
 #[derive(Clone, Copy)]
 pub(super) struct Schedule<'a> {
     pub(super) attached: u8,
     pub(super) start: &'a [Line],
     pub(super) rest: &'a [Line],
+    pub(super) wrong: &'a [Line],
     pub(super) history: &'a [(u8, Did)],
     pub(super) replies: (u32, u32),
     pub(super) keys: (bool, bool),
@@ -139,26 +141,96 @@ fn is_history(alloc: Global, track: &Track, expected: &[(u8, Did)]) -> Result<bo
     Ok(true)
 }
 
-fn keys_in(track: &Track) -> (bool, bool) {
-    let store = &track.run.store;
+fn keys_in(store: &Database) -> (bool, bool) {
     (
         committed(store, 1) == Some(10),
         committed(store, 2) == Some(10),
     )
 }
 
-/// Whether the schedule happens, and leads there.
-pub(super) fn leads(alloc: Global, schedule: Schedule<'_>) -> Result<bool, NoMemory> {
+/// Whether each attached backend has the keys of the run.
+fn agrees(track: &Track) -> bool {
+    let attached = track.world.gate.state.attached;
+    for number in 0..3_u8 {
+        let b = BackendId { number };
+        let store = &track.world.backends[b.number as usize].store;
+        if attached.has(b) && keys_in(store) != keys_in(&track.run.store) {
+            return false;
+        }
+    }
+    true
+}
+
+/// Whether a line is a reply that is not right.
+fn is_wrong(track: &Track, list: &mut Listing, line: Line) -> Result<bool, NoMemory> {
+    list.line(line)?;
+    let events = list.taken();
+    Ok(match events.first() {
+        Some(event) => match kind_of(track, event)? {
+            Kind::Wrong => true,
+            Kind::Other | Kind::Given | Kind::Own => false,
+        },
+        None => false,
+    })
+}
+
+fn are_wrong(track: &Track, list: &mut Listing, lines: &[Line]) -> Result<bool, NoMemory> {
+    for line in lines {
+        if !is_wrong(track, list, *line)? {
+            return Ok(false);
+        }
+    }
+    Ok(true)
+}
+
+/// What is behind a schedule, where the wrong replies are wrong.
+fn led(alloc: Global, schedule: Schedule<'_>) -> Result<Option<Played>, NoMemory> {
     let attached = BackendSet {
         bits: schedule.attached,
     };
     let mut list = Listing::new(alloc, attached);
     list.lines(schedule.start)?;
     list.lines(schedule.rest)?;
-    let Some(played) = play(alloc, attached, list.taken())? else {
+    let mut events = list.taken();
+    let Some(last) = events.pop() else {
+        return Ok(None);
+    };
+    let Some(played) = play(alloc, attached, events)? else {
+        return Ok(None);
+    };
+    if !are_wrong(&played.track, &mut list, schedule.wrong)? {
+        return Ok(None);
+    }
+    next(played, last)
+}
+
+/// Whether the schedule happens, and leads there.
+pub(super) fn leads(alloc: Global, schedule: Schedule<'_>) -> Result<bool, NoMemory> {
+    let Some(played) = led(alloc, schedule)? else {
         return Ok(false);
     };
-    let replies = (played.given, played.own);
-    let is_history = is_history(alloc, &played.track, schedule.history)?;
-    Ok(is_history && replies == schedule.replies && keys_in(&played.track) == schedule.keys)
+    let Played { track, given, own } = played;
+    let is_history = is_history(alloc, &track, schedule.history)?;
+    let is_so = (given, own) == schedule.replies && keys_in(&track.run.store) == schedule.keys;
+    Ok(is_history && is_so && agrees(&track))
+}
+
+/// Whether the backends 0 and 1 have done the commit of session 1 behind these lines. None: it is
+/// no schedule.
+pub(super) fn have_done(
+    alloc: Global,
+    start: &[Line],
+    rest: &[Line],
+) -> Result<Option<(bool, bool)>, NoMemory> {
+    let attached = BackendSet { bits: 3 };
+    let mut list = Listing::new(alloc, attached);
+    list.lines(start)?;
+    list.lines(rest)?;
+    let Some(played) = play(alloc, attached, list.taken())? else {
+        return Ok(None);
+    };
+    let s = SessionId { number: 1 };
+    let first = has_done(&played.track, s, BackendId { number: 0 });
+    let second = has_done(&played.track, s, BackendId { number: 1 });
+    Ok(Some((first, second)))
 }

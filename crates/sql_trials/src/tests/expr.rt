@@ -193,15 +193,26 @@ const REFUSED: [(&str, usize, Awaited); 26] = [
     ("1;", 1, Awaited::End),
 ];
 
+/// Finds a text that does not fail there.
+fn otherwise_refused(
+    alloc: Global,
+    rows: &[(&'static str, usize, Awaited)],
+) -> Option<&'static str> {
+    for (text, left, awaited) in rows {
+        let wanted = Fault::Syntax {
+            left: *left,
+            awaited: *awaited,
+        };
+        if fault(alloc, text) != Some(wanted) {
+            return Some(text);
+        }
+    }
+    None
+}
+
 #[test]
 fn a_refusal_is_at_its_token(rt: HostRuntime) {
-    for (text, left, awaited) in REFUSED {
-        assert_eq!(rt;
-            fault(rt.alloc(), text),
-            Some(Fault::Syntax { left, awaited }),
-            "{text}"
-        );
-    }
+    assert_eq!(rt; otherwise_refused(rt.alloc(), &REFUSED), None);
 }
 
 /// The fault of a nesting within so many parentheses.

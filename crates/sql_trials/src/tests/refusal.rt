@@ -429,25 +429,36 @@ fn is_named(alloc: Global, word: &str) -> Result<bool, Fail> {
     Ok(told_of(alloc, word)?.as_str() == wanted.as_str())
 }
 
+/// Finds a word that is not named.
+fn unnamed<'a>(alloc: Global, words: &[&'a str]) -> Result<Option<&'a str>, Fail> {
+    for word in words {
+        if !is_named(alloc, word)? {
+            return Ok(Some(word));
+        }
+    }
+    Ok(None)
+}
+
 #[test]
 fn each_word_of_the_outside_list_is_named(rt: HostRuntime) -> Result<(), Fail> {
-    for word in OUTSIDE {
-        assert!(rt; is_named(rt.alloc(), word)?, "{word}");
-    }
-    for word in ["read", "set", "show"] {
-        assert!(rt; is_named(rt.alloc(), word)?, "{word}");
-    }
+    assert_eq!(rt; unnamed(rt.alloc(), &OUTSIDE)?, None);
+    assert_eq!(rt; unnamed(rt.alloc(), &["read", "set", "show"])?, None);
     Ok(())
+}
+
+/// Whether the word is one of these.
+fn is_among(words: &[&str], word: &str) -> bool {
+    for other in words {
+        if *other == word {
+            return true;
+        }
+    }
+    false
 }
 
 /// Whether the word is of the outside list, READ, SET or SHOW.
 fn is_outside(word: &str) -> bool {
-    for outside in OUTSIDE {
-        if outside == word {
-            return true;
-        }
-    }
-    word == "read" || word == "set" || word == "show"
+    is_among(&OUTSIDE, word) || word == "read" || word == "set" || word == "show"
 }
 
 #[test]

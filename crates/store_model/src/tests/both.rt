@@ -9,7 +9,8 @@ use plain_store::{Database, may_post};
 use pool_base::{Code, List, NoMemory, SessionId};
 use std::alloc::Global;
 
-fn request_of(ask: Ask) -> Request {
+/// The request of a store.
+pub fn request_of(ask: Ask) -> Request {
     match ask {
         Ask::Begin => Request::TakeSnapshot,
         Ask::Insert(key, value) => Request::Run(Checked::Insert { key, value }),

@@ -14,6 +14,7 @@ pub(super) enum Line {
     /// A block begins.
     Begin(SessionId),
     EnterSnapshot(SessionId),
+    LeaveSnapshot(SessionId),
     /// The snapshots of a transaction.
     Open(SessionId),
     Look(SessionId),
@@ -36,11 +37,18 @@ pub(super) enum Line {
     Done(SessionId, Tag, Status),
     /// The reply to a SELECT, with its row.
     Found(SessionId, Option<i32>, Status),
+    /// The reply that refuses.
+    Error(SessionId, Code, Status),
     /// What follows a refusal: rollbacks, the gate, the reply.
     Fail(SessionId, Code, Status),
     Lose(BackendId),
-    /// A session sees the loss of a backend, and detaches it as the first.
+    /// A session sees the loss of a backend, and detaches it.
     Detach(SessionId, BackendId),
+    /// A session detaches a backend that has answered otherwise: the answer that is kept, and its
+    /// own.
+    Part(SessionId, BackendId, Say, Say),
+    /// The session ends without a reply.
+    End(SessionId),
 }
 
 /// A list of events, and what the gate shows behind them.
@@ -199,14 +207,23 @@ impl Listing {
         self.error(s, code, status)
     }
 
+    fn detached(&mut self, s: SessionId, b: BackendId, cause: Cause) -> Result<(), NoMemory> {
+        self.view.attached = self.view.attached.without(b);
+        self.view.epoch = self.view.epoch.wrapping_add(1);
+        let answer = GateAnswer::Granted(self.view);
+        self.at(s, SessionEvent::Detached { b, cause, answer })
+    }
+
     fn detach(&mut self, s: SessionId, b: BackendId) -> Result<(), NoMemory> {
         let (before, after) = (0, 1);
         self.at(s, SessionEvent::Faulted { b, before, after })?;
-        self.view.attached = self.view.attached.without(b);
-        self.view.epoch = 1;
-        let cause = Cause::Fault { before, after };
-        let answer = GateAnswer::Granted(self.view);
-        self.at(s, SessionEvent::Detached { b, cause, answer })
+        self.detached(s, b, Cause::Fault { before, after })
+    }
+
+    fn part(&mut self, s: SessionId, b: BackendId, kept: Say, own: Say) -> Result<(), NoMemory> {
+        let kept = answer(self.alloc, kept)?;
+        let own = answer(self.alloc, own)?;
+        self.detached(s, b, Cause::Differs { kept, own })
     }
 
     pub(super) fn line(&mut self, line: Line) -> Result<(), NoMemory> {
@@ -214,6 +231,7 @@ impl Listing {
             Line::Order(s, deed) => self.order(s, deed),
             Line::Begin(s) => self.begin(s),
             Line::EnterSnapshot(s) => self.grant(s, GateCall::EnterSnapshot),
+            Line::LeaveSnapshot(s) => self.grant(s, GateCall::LeaveSnapshot),
             Line::Open(s) => self.open(s),
             Line::Look(s) => self.look(s),
             Line::Post(s, b, ask) => self.post(s, b, ask),
@@ -228,9 +246,12 @@ impl Listing {
             Line::Commit(s) => self.commit(s),
             Line::Done(s, tag, status) => self.done(s, tag, status),
             Line::Found(s, key, status) => self.found(s, key, status),
+            Line::Error(s, code, status) => self.error(s, code, status),
             Line::Fail(s, code, status) => self.fail(s, code, status),
             Line::Lose(b) => self.add(Event::Lost { b }),
             Line::Detach(s, b) => self.detach(s, b),
+            Line::Part(s, b, kept, own) => self.part(s, b, kept, own),
+            Line::End(s) => self.at(s, SessionEvent::Ended),
         }
     }
 
@@ -239,6 +260,14 @@ impl Listing {
             self.line(*line)?;
         }
         Ok(())
+    }
+
+    /// The events of a line that does not take place.
+    pub(super) fn tried(&mut self, line: Line) -> Result<Vec<Event>, NoMemory> {
+        let view = self.view;
+        self.line(line)?;
+        self.view = view;
+        Ok(self.taken())
     }
 }
 

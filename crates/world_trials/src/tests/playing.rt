@@ -25,8 +25,7 @@ fn played(mut w: Replicas, events: Vec<Event>) -> Result<Option<Replicas>, NoMem
 
 /// Whether an event, in place of the next of the list, may not come.
 fn is_refused(w: &Replicas, list: &mut Listing, other: Line) -> Result<bool, NoMemory> {
-    list.line(other)?;
-    let events = list.taken();
+    let events = list.tried(other)?;
     Ok(match events.first() {
         Some(event) => !may_happen(w, event),
         None => false,

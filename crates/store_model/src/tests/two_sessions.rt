@@ -1,12 +1,14 @@
-//! Two sessions of one store, by hand.
+//! Two sessions of one plain store, by hand.
 // PostgreSQL's manual, "Transaction Isolation" (repeatable read) and "Explicit Locking"
 // (deadlocks): the first updater of a row wins, a row that another holds is waited for, and of two
 // that wait for one another one is refused.
-use crate::{
+use super::ask::Ask;
+use super::both::request_of;
+use backend_trait::{Answer, Request};
+use plain_store::{
     Change, ChangeSet, Database, Phase, Work, is_crossed, is_held_up, is_in_cycle, may_act,
     may_post,
 };
-use backend_trait::{Answer, Checked, Request};
 use pool_base::{Code, List, NoMemory, SessionId};
 use std::alloc::Global;
 
@@ -14,18 +16,23 @@ const S1: SessionId = SessionId { number: 1 };
 
 const S2: SessionId = SessionId { number: 2 };
 
+const CHANGED_MEANWHILE: Code = Code { bytes: *b"40001" };
+
+const DEADLOCK: Code = Code { bytes: *b"40P01" };
+
+/// Three answers of no and yes.
+type Three = (bool, bool, bool);
+
+fn one_change(alloc: Global, key: i32, value: i64) -> Result<List<Change>, NoMemory> {
+    let mut changes = List::new(alloc);
+    changes.push(Change { key, value })?;
+    Ok(changes)
+}
+
 /// A live transaction that has inserted one key, while another has committed the other.
 fn live(alloc: Global, own: i32, stale: i32) -> Result<Phase, NoMemory> {
-    let mut changes = List::new(alloc);
-    changes.push(Change {
-        key: own,
-        value: 10,
-    })?;
-    let mut other = List::new(alloc);
-    other.push(Change {
-        key: stale,
-        value: 11,
-    })?;
+    let changes = one_change(alloc, own, 10)?;
+    let other = one_change(alloc, stale, 11)?;
     let mut sets = List::new(alloc);
     sets.push(ChangeSet { changes: other })?;
     Ok(Phase::Alive(Work {
@@ -37,7 +44,7 @@ fn live(alloc: Global, own: i32, stale: i32) -> Result<Phase, NoMemory> {
 }
 
 fn insert(key: i32) -> Option<Request> {
-    Some(Request::Run(Checked::Insert { key, value: 12 }))
+    Some(request_of(Ask::Insert(key, 12)))
 }
 
 /// Session 1 has inserted key 1 and inserts another; session 2 has inserted key 2 and inserts a
@@ -52,64 +59,72 @@ fn inserting(alloc: Global, first: i32, second: i32) -> Result<Database, NoMemor
 }
 
 /// Whether session 2 may be answered a count of one, 40001 and 40P01.
-fn answers(store: &Database) -> (bool, bool, bool) {
-    let stale = Answer::Refused(Code { bytes: *b"40001" });
-    let deadlock = Answer::Refused(Code { bytes: *b"40P01" });
+fn answers(store: &Database) -> Three {
     (
         may_act(store, S2, &Answer::Count(1)),
-        may_act(store, S2, &stale),
-        may_act(store, S2, &deadlock),
+        may_act(store, S2, &Answer::Refused(CHANGED_MEANWHILE)),
+        may_act(store, S2, &Answer::Refused(DEADLOCK)),
     )
 }
 
-fn is_answered(alloc: Global, second: i32, expected: (bool, bool, bool)) -> bool {
-    match inserting(alloc, 5, second) {
-        Ok(store) => answers(&store) == expected,
-        Err(NoMemory) => false,
-    }
+fn answers_to(alloc: Global, second: i32) -> Result<Three, NoMemory> {
+    Ok(answers(&inserting(alloc, 5, second)?))
 }
+
+/// What session 2 inserts, and what it may be answered: a free key, a stale one, one that is held.
+const ANSWERS: [(i32, Three); 3] = [
+    (6, (true, false, false)),
+    (7, (false, true, false)),
+    (1, (false, false, false)),
+];
 
 #[test]
 fn a_free_key_is_inserted_a_stale_one_refused_and_a_held_one_waited_for(rt: HostRuntime) {
-    let alloc = rt.alloc();
-    assert!(rt; is_answered(alloc, 6, (true, false, false)));
-    assert!(rt; is_answered(alloc, 7, (false, true, false)));
-    assert!(rt; is_answered(alloc, 1, (false, false, false)));
+    for (second, expected) in ANSWERS {
+        assert_eq!(rt; answers_to(rt.alloc(), second), Ok(expected));
+    }
 }
 
 /// Whether both requests are crossed, and whether session 2 may be refused once it is marked.
-fn deadlocked(alloc: Global, first: i32, second: i32) -> Result<(bool, bool, bool), NoMemory> {
+fn deadlocked(alloc: Global, first: i32, second: i32) -> Result<Three, NoMemory> {
     let mut store = inserting(alloc, first, second)?;
     let both = (is_crossed(&store, S1), is_crossed(&store, S2));
     store.crossed[2] = true;
-    let deadlock = Answer::Refused(Code { bytes: *b"40P01" });
-    Ok((both.0, both.1, may_act(&store, S2, &deadlock)))
+    Ok((
+        both.0,
+        both.1,
+        may_act(&store, S2, &Answer::Refused(DEADLOCK)),
+    ))
 }
+
+/// What the two insert: each the other's key, or free ones.
+const CROSSED: [(i32, i32, Three); 2] = [(2, 1, (true, true, true)), (5, 6, (false, false, true))];
 
 #[test]
 fn two_that_wait_for_one_another_cross(rt: HostRuntime) {
-    let alloc = rt.alloc();
-    assert!(rt; deadlocked(alloc, 2, 1) == Ok((true, true, true)));
-    assert!(rt; deadlocked(alloc, 5, 6) == Ok((false, false, true)));
+    for (first, second, expected) in CROSSED {
+        assert_eq!(rt; deadlocked(rt.alloc(), first, second), Ok(expected));
+    }
 }
 
 /// Whether session 1 is crossed where session 2 wants the key that it has inserted.
-fn is_crossed_asking(alloc: Global, request: Request) -> Result<bool, NoMemory> {
+fn is_crossed_asking(alloc: Global, ask: Ask) -> Result<bool, NoMemory> {
     let mut store = inserting(alloc, 5, 1)?;
-    store.requests[1] = Some(request);
+    store.requests[1] = Some(request_of(ask));
     Ok(is_crossed(&store, S1))
 }
 
+const CROSSED_ASKING: [(Ask, bool); 4] = [
+    (Ask::Select(1), true),
+    (Ask::Lock(0), true),
+    (Ask::Commit, false),
+    (Ask::Rollback, false),
+];
+
 #[test]
 fn a_run_or_a_lock_alone_is_crossed(rt: HostRuntime) {
-    let alloc = rt.alloc();
-    for (request, expected) in [
-        (Request::Run(Checked::Select { key: 1 }), true),
-        (Request::Lock(0), true),
-        (Request::Commit, false),
-        (Request::Rollback, false),
-    ] {
-        assert!(rt; is_crossed_asking(alloc, request) == Ok(expected));
+    for (ask, expected) in CROSSED_ASKING {
+        assert_eq!(rt; is_crossed_asking(rt.alloc(), ask), Ok(expected));
     }
 }
 
@@ -117,40 +132,42 @@ fn a_run_or_a_lock_alone_is_crossed(rt: HostRuntime) {
 fn answered(
     store: Database,
     s: SessionId,
-    request: Request,
+    ask: Ask,
     answer: Answer,
 ) -> Result<Option<Database>, NoMemory> {
     let mut store = store;
-    if !may_post(&store, s, &request) {
+    if !may_post(&store, s, &request_of(ask)) {
         return Ok(None);
     }
-    store.post(s, request);
+    store.post(s, request_of(ask));
     if !may_act(&store, s, &answer) {
         return Ok(None);
     }
     Ok(Some(store.acted(s, &answer)?))
 }
 
+/// A store in which both sessions have begun.
+fn two_begun(alloc: Global) -> Result<Option<Database>, NoMemory> {
+    match answered(Database::new(alloc)?, S1, Ask::Begin, Answer::Began)? {
+        Some(store) => answered(store, S2, Ask::Begin, Answer::Began),
+        None => Ok(None),
+    }
+}
+
 /// A store in which session 1 has inserted key 1, and session 2 wants to.
 fn two_writers(alloc: Global) -> Result<Option<Database>, NoMemory> {
-    let mut store = Database::new(alloc)?;
-    let write = Request::Run(Checked::Insert { key: 1, value: 10 });
-    for (s, request, answer) in [
-        (S1, Request::TakeSnapshot, Answer::Began),
-        (S2, Request::TakeSnapshot, Answer::Began),
-        (S1, write, Answer::Count(1)),
-    ] {
-        match answered(store, s, request, answer)? {
-            Some(next) => store = next,
-            None => return Ok(None),
-        }
-    }
-    store.post(S2, Request::Run(Checked::Insert { key: 1, value: 20 }));
+    let Some(begun) = two_begun(alloc)? else {
+        return Ok(None);
+    };
+    let Some(mut store) = answered(begun, S1, Ask::Insert(1, 10), Answer::Count(1))? else {
+        return Ok(None);
+    };
+    store.post(S2, request_of(Ask::Insert(1, 20)));
     Ok(Some(store))
 }
 
 /// Whether session 2 is held up, whether it waits in a cycle, and what it may be answered.
-fn seen(store: &Database) -> (bool, bool, (bool, bool, bool)) {
+fn seen(store: &Database) -> (bool, bool, Three) {
     (
         is_held_up(store, S2),
         is_in_cycle(store, S2),
@@ -163,7 +180,7 @@ fn second_writer(alloc: Global) -> Result<bool, NoMemory> {
         return Ok(false);
     };
     let waits = seen(&store) == (true, false, (false, false, false));
-    match answered(store, S1, Request::Commit, Answer::Done)? {
+    match answered(store, S1, Ask::Commit, Answer::Done)? {
         Some(next) => Ok(waits && seen(&next) == (false, false, (false, true, false))),
         None => Ok(false),
     }
@@ -171,7 +188,7 @@ fn second_writer(alloc: Global) -> Result<bool, NoMemory> {
 
 #[test]
 fn a_second_writer_waits_and_is_refused_once_the_first_has_committed(rt: HostRuntime) {
-    assert!(rt; second_writer(rt.alloc()) == Ok(true));
+    assert_eq!(rt; second_writer(rt.alloc()), Ok(true));
 }
 
 fn lost(alloc: Global) -> Result<bool, NoMemory> {
@@ -184,5 +201,5 @@ fn lost(alloc: Global) -> Result<bool, NoMemory> {
 
 #[test]
 fn a_lost_store_answers_nothing(rt: HostRuntime) {
-    assert!(rt; lost(rt.alloc()) == Ok(true));
+    assert_eq!(rt; lost(rt.alloc()), Ok(true));
 }
