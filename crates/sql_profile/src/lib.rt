@@ -2,14 +2,12 @@
 //! name, and the one text of a statement. What it exports is built and proved in the crates below.
 #![tactic(auto)]
 
+pub use sql_named::read_statements;
 pub use sql_print::print_statement;
-pub use sql_reader::{SqlFault, read_statements};
+pub use sql_reader::SqlFault;
 pub use sql_round::statements_again;
 pub use sql_text::STATEMENT_LIMIT;
 pub use sql_tree::{
     Cell, Comparison, Delete, Expr, Insert, OrderItem, ProductPart, ProductSign, Select,
     SelectItem, SelectList, SetItem, Statement, SumPart, Update,
 };
-
-#[cfg(test)]
-mod tests;

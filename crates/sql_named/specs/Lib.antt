@@ -1,0 +1,5 @@
+pub mod Beginnings
+pub mod Expressions
+pub mod Statements
+pub mod Texts
+pub mod Named
