@@ -39,7 +39,7 @@ use Rattle.session_machine.specs.Codes.{moment_out_of_range, counts_spent, no_ba
 use Rattle.session_machine.specs.Answers.{next_of, kept, first_other, goes_on, counts, reader}
 use Rattle.session_machine.specs.Classes.{may_be, is_classed}
 use Rattle.session_machine.specs.Allowed.{is_resting, fits_at_rest, may_order}
-use Rattle.session_machine.specs.Rules.{due, primary, ended, released, begun, begun_at, begun_behind, failing, refused_at, refused, stranded, stranded_in, started_as, is_moment, rewritten, entering, stated, stated_at, moment_at, block_begun, idle, committing, block_committed, rolled_back, block_rolled_back, settled, leaving, left_in, left, ordered, error_of, done_with, refusal_of, ran, opened, locked, closed, decided, split, judged, asked, reading_at, chosen, read, looked, looked_at, ticket_of, counted_read, first_chosen, shown, snapshot_entered, snapshot_left, commit_entered, in_phase, with_view, granted, called, stage_posted, posted, taken, faulted, lost_one, parted, parted_at, detached, after, after_at}
+use Rattle.session_machine.specs.Rules.{due, primary, ended, released, begun, begun_at, begun_behind, failing, refused_at, refused, stranded, stranded_in, started_as, is_moment, rewritten, entering, stated, stated_at, moment_at, block_begun, idle, committing, block_committed, rolled_back, block_rolled_back, settled, leaving, left_in, left_lost, left, ordered, error_of, done_with, refusal_of, ran, opened, locked, closed, decided, split, judged, asked, reading_at, chosen, read, looked, looked_at, ticket_of, counted_read, first_chosen, shown, snapshot_entered, snapshot_left, commit_entered, in_phase, with_view, granted, called, stage_posted, posted, taken, faulted, lost_one, parted, parted_at, detached, after, after_at}
 use Rattle.session_engine.specs.Handing.{handed_at, handed, gate_event}
 use Rattle.session_engine.specs.Sound.{is_select, is_classed_at, is_classed_in}
 
@@ -168,6 +168,16 @@ left_in_keeps s Committing = leaving_keeps s s.gate
 left_in_keeps s Closing = leaving_keeps s s.gate
 left_in_keeps s (RollingBack ending) = refl
 
+left_lost_keeps : (s : Session) (stage : Stage) (b : BackendId) (x y : ℕ) → Keeps (left_lost s stage b x y)
+left_lost_keeps s (Opening work) b x y = refl
+left_lost_keeps s (Reading work ticket) b x y = refl
+left_lost_keeps s (Running work) b x y = refl
+left_lost_keeps s (Locking work table) b x y = refl
+left_lost_keeps s (Inserting work sent) b x y = refl
+left_lost_keeps s Committing b x y = refl
+left_lost_keeps s Closing b x y = refl
+left_lost_keeps s (RollingBack ending) b x y = refl
+
 pub left_keeps : (s : Session) (p : Point) → is_classed_in (left s p).point ≡ true
 unfolding left
 left_keeps s Resting = leaving_keeps s s.gate
@@ -175,7 +185,7 @@ left_keeps s (EnterDue work) = leaving_keeps s s.gate
 left_keeps s (LookDue stage) = left_in_keeps s stage
 left_keeps s (PostDue stage b) = left_in_keeps s stage
 left_keeps s (Waiting stage b) = left_in_keeps s stage
-left_keeps s (LostDue stage b before later) = left_in_keeps s stage
+left_keeps s (LostDue stage b before later) = left_lost_keeps s stage b before later
 left_keeps s (SplitDue stage best own among more) = left_in_keeps s stage
 left_keeps s (ChooseDue work) = leaving_keeps s s.gate
 left_keeps s ShowDue = leaving_keeps s s.gate

@@ -39,7 +39,7 @@ use Rattle.session_machine.specs.declared.machine.Session.{Session}
 use Rattle.session_machine.specs.declared.machine.Machine.{Machine}
 use Rattle.session_machine.specs.Codes.{moment_out_of_range, counts_spent, no_backend}
 use Rattle.session_machine.specs.Answers.{has_answered, is_open, first_open, is_stopped, next_of, all_backends, lowest, kept, first_other, goes_on, counts, reader}
-use Rattle.session_machine.specs.Rules.{due, primary, request_of, ended, released, begun, begun_at, begun_behind, failing, refused_at, refused, stranded, stranded_in, started_as, started, rewritten, entering, stated, stated_at, moment_at, block_begun, idle, committing, block_committed, rolled_back, block_rolled_back, settled, leaving, left_in, left, ordered, error_of, done_with, refusal_of, ran, opened, locked, closed, decided, split, judged, asked, reading_at, chosen, read, looked, looked_at, ticket_of, counted_read, first_chosen, shown, snapshot_entered, snapshot_left, commit_entered, in_phase, with_view, granted, called, stage_posted, posted, heard_more, taken, faulted, lost_one, parted, parted_at, detached}
+use Rattle.session_machine.specs.Rules.{due, primary, request_of, ended, released, begun, begun_at, begun_behind, failing, refused_at, refused, stranded, stranded_in, started_as, started, rewritten, entering, stated, stated_at, moment_at, block_begun, idle, committing, block_committed, rolled_back, block_rolled_back, settled, leaving, left_in, left_lost, left, ordered, error_of, done_with, refusal_of, ran, opened, locked, closed, decided, split, judged, asked, reading_at, chosen, read, looked, looked_at, ticket_of, counted_read, first_chosen, shown, snapshot_entered, snapshot_left, commit_entered, in_phase, with_view, granted, called, stage_posted, posted, heard_more, taken, faulted, lost_one, parted, parted_at, detached}
 use Rattle.session_machine.proofs.Backends.{found_passes}
 use Rattle.session_engine.specs.Sound.{AreOne, is_plain, are_plain, is_select, ArePlain, IsSound}
 use Rattle.session_engine.proofs.Ones.{one_more, plain_more}
@@ -164,6 +164,16 @@ left_in_sound s Committing one plain = leaving_sound s s.gate one
 left_in_sound s Closing one plain = leaving_sound s s.gate one
 left_in_sound s (RollingBack ending) one plain = (one, (tt, plain))
 
+left_lost_sound : (s : Session) (stage : Stage) (b : BackendId) (x y : ℕ) → AreOne s.heard → ArePlain stage s.heard → IsSound (left_lost s stage b x y)
+left_lost_sound s (Opening work) b x y one plain = begun_sound s (RollingBack Leaves)
+left_lost_sound s (Reading work ticket) b x y one plain = begun_sound s (RollingBack Leaves)
+left_lost_sound s (Running work) b x y one plain = begun_sound s (RollingBack Leaves)
+left_lost_sound s (Locking work table) b x y one plain = begun_sound s (RollingBack Leaves)
+left_lost_sound s (Inserting work sent) b x y one plain = begun_sound s (RollingBack Leaves)
+left_lost_sound s Committing b x y one plain = begun_sound s (RollingBack Leaves)
+left_lost_sound s Closing b x y one plain = begun_sound s (RollingBack Leaves)
+left_lost_sound s (RollingBack ending) b x y one plain = (one, (tt, plain))
+
 pub left_sound : (s : Session) (p : Point) → IsSound (due s p) → IsSound (left s p)
 unfolding left
 left_sound s Resting sound = leaving_sound s s.gate sound.0
@@ -171,7 +181,7 @@ left_sound s (EnterDue work) sound = leaving_sound s s.gate sound.0
 left_sound s (LookDue stage) sound = left_in_sound s stage sound.0 sound.1.1
 left_sound s (PostDue stage b) sound = left_in_sound s stage sound.0 sound.1.1
 left_sound s (Waiting stage b) sound = left_in_sound s stage sound.0 sound.1.1
-left_sound s (LostDue stage b before after) sound = left_in_sound s stage sound.0 sound.1.1
+left_sound s (LostDue stage b before after) sound = left_lost_sound s stage b before after sound.0 sound.1.1
 left_sound s (SplitDue stage best own among more) sound = left_in_sound s stage sound.0 sound.1.1
 left_sound s (ChooseDue work) sound = leaving_sound s s.gate sound.0
 left_sound s ShowDue sound = leaving_sound s s.gate sound.0

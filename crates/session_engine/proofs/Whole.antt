@@ -22,7 +22,7 @@ use Rattle.session_machine.specs.declared.machine.Point.TheVariants.{Resting, En
 use Rattle.session_machine.specs.declared.machine.Session.{Session}
 use Rattle.session_machine.specs.declared.machine.Machine.{Machine}
 use Rattle.session_machine.specs.Codes.{moment_out_of_range}
-use Rattle.session_machine.specs.Rules.{due, refused_at, started_as, rewritten, entering, stated, stated_at, moment_at, block_begun, committing, block_committed, rolled_back, block_rolled_back, settled, leaving, left_in, left, ordered, error_of, done_with}
+use Rattle.session_machine.specs.Rules.{due, refused_at, started_as, rewritten, entering, stated, stated_at, moment_at, block_begun, committing, block_committed, rolled_back, block_rolled_back, settled, leaving, left_in, left_lost, left, ordered, error_of, done_with}
 use Rattle.session_engine.specs.Sound.{IsSplit}
 
 -- it is due to detach nobody for an answer
@@ -108,6 +108,16 @@ left_in_whole s Committing splits = leaving_whole s s.gate splits
 left_in_whole s Closing splits = leaving_whole s s.gate splits
 left_in_whole s (RollingBack ending) splits = splits
 
+left_lost_whole : (s : Session) (stage : Stage) (b : BackendId) (x y : ℕ) → IsWhole (left_lost s stage b x y)
+left_lost_whole s (Opening work) b x y splits = splits
+left_lost_whole s (Reading work ticket) b x y splits = splits
+left_lost_whole s (Running work) b x y splits = splits
+left_lost_whole s (Locking work table) b x y splits = splits
+left_lost_whole s (Inserting work sent) b x y splits = splits
+left_lost_whole s Committing b x y splits = splits
+left_lost_whole s Closing b x y splits = splits
+left_lost_whole s (RollingBack ending) b x y splits = splits
+
 left_whole : (s : Session) (p : Point) → IsWhole (left s p)
 unfolding left
 left_whole s Resting splits = leaving_whole s s.gate splits
@@ -115,7 +125,7 @@ left_whole s (EnterDue work) splits = leaving_whole s s.gate splits
 left_whole s (LookDue stage) splits = left_in_whole s stage splits
 left_whole s (PostDue stage b) splits = left_in_whole s stage splits
 left_whole s (Waiting stage b) splits = left_in_whole s stage splits
-left_whole s (LostDue stage b before later) splits = left_in_whole s stage splits
+left_whole s (LostDue stage b before later) splits = left_lost_whole s stage b before later splits
 left_whole s (SplitDue stage best own among more) splits = left_in_whole s stage splits
 left_whole s (ChooseDue work) splits = leaving_whole s s.gate splits
 left_whole s ShowDue splits = leaving_whole s s.gate splits

@@ -73,6 +73,7 @@ IsWaiting due = ⊥
 -- where the way of a client that is gone leads
 abbrev pub IsLeaving : Due → Type 0
 IsLeaving (LookDue stage) = ⊤
+IsLeaving (LostDue stage b before after) = ⊤
 IsLeaving (UnwindDue ending) = ⊤
 IsLeaving (LeaveCommitDue ending) = ⊤
 IsLeaving (FinishDue ending) = ⊤

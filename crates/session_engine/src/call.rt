@@ -45,7 +45,7 @@ impl Standing {
     {
         match primary {
             None => self.strand(),
-            Some(_) => self.due = Due::ReplyDue(Outcome::Nodes(self.view.attached)),
+            Some(_) => self.owe(Due::ReplyDue(Outcome::Nodes(self.view.attached))),
         }
     }
 
@@ -97,7 +97,7 @@ impl Standing {
             }
             Due::UnwindDue(ending) => {
                 self.gate = GatePhase::Live(false, 0);
-                self.due = Due::FinishDue(ending);
+                self.owe(Due::FinishDue(ending));
             }
             Due::EnterCommitDue => {
                 self.gate = GatePhase::InCommit;
@@ -107,7 +107,7 @@ impl Standing {
                 self.gate = GatePhase::Out;
                 self.end(ending);
             }
-            other => self.due = other,
+            other => self.owe(other),
         }
     }
 
@@ -122,8 +122,9 @@ impl Standing {
                 self.view = view;
                 self.granted(due);
             }
-            GateAnswer::Held(_) => self.due = due,
+            GateAnswer::Held(_) => self.owe(due),
             GateAnswer::Spent => {
+                drop(due);
                 let outcome = self.error_of(counts_spent());
                 self.refuse(false, outcome);
             }
@@ -136,7 +137,7 @@ impl Standing {
     {
         match primary {
             None => self.strand_in(stage),
-            Some(_) => self.due = Due::LookDue(stage),
+            Some(_) => self.owe(Due::LookDue(stage)),
         }
     }
 
@@ -181,7 +182,7 @@ impl Standing {
                 among,
                 more,
             } => self.parted(stage, best, own, among, more),
-            other => self.due = other,
+            other => self.owe(other),
         }
     }
 
@@ -196,7 +197,7 @@ impl Standing {
                 self.view = view;
                 self.parted_at(due);
             }
-            GateAnswer::Held(_) | GateAnswer::Spent => self.due = due,
+            GateAnswer::Held(_) | GateAnswer::Spent => self.owe(due),
         }
     }
 

@@ -31,11 +31,11 @@ impl Standing {
                 let outcome = self.error_of(*code);
                 self.refuse(behind, outcome);
             }
-            Answer::Rows(_) => self.due = Due::RowsDue(best),
+            Answer::Rows(_) => self.owe(Due::RowsDue(best)),
             Answer::Count(count) => {
                 let outcome = done_with(tag_of(work.class, *count));
                 self.gate = phase_changed(self.gate, work.tables);
-                self.due = Due::ReplyDue(outcome);
+                self.owe(Due::ReplyDue(outcome));
             }
             // None of these answers a statement.
             Answer::Began => self.rest(),
@@ -61,7 +61,7 @@ impl Standing {
         ensures { machine_of self.new ≡ opened behind (session_of self.old) work refusal }
     {
         match refusal {
-            None => self.due = Due::LeaveSnapshotDue(work),
+            None => self.owe(Due::LeaveSnapshotDue(work)),
             Some(code) => {
                 let outcome = self.error_of(code);
                 self.refuse(behind, outcome);
@@ -102,12 +102,12 @@ impl Standing {
             Stage::Committing => {
                 let ending = Ending::Replies(commit_outcome(self.status));
                 self.status = Status::Idle;
-                self.due = Due::LeaveCommitDue(ending);
+                self.owe(Due::LeaveCommitDue(ending));
             }
             Stage::Closing => {
                 let ending = Ending::Replies(commit_outcome(self.status));
                 self.status = Status::Idle;
-                self.due = Due::FinishDue(ending);
+                self.owe(Due::FinishDue(ending));
             }
             Stage::RollingBack(ending) => self.release(ending),
         }
@@ -119,7 +119,7 @@ impl Standing {
             (heard_at (heard_in self.old) best).answer more }
     {
         if more {
-            self.due = Due::LookDue(stage);
+            self.owe(Due::LookDue(stage));
         } else {
             self.closed(behind, stage, best);
         }
@@ -142,13 +142,13 @@ impl Standing {
         match other {
             None => self.decided(behind, stage, best, more),
             Some(own) => {
-                self.due = Due::SplitDue {
+                self.owe(Due::SplitDue {
                     stage,
                     best,
                     own,
                     among,
                     more,
-                };
+                });
             }
         }
     }
@@ -159,7 +159,7 @@ impl Standing {
             (option_map (heard_at (heard_in self.old)) best) }
     {
         let Some(best) = best else {
-            self.due = Due::LookDue(stage);
+            self.owe(Due::LookDue(stage));
             return;
         };
         let among = self.view.attached;
@@ -175,7 +175,7 @@ impl Standing {
         ensures { machine_of self.new ≡ asked (session_of self.old) stage next }
     {
         match next {
-            Some(b) => self.due = Due::PostDue(stage, b),
+            Some(b) => self.owe(Due::PostDue(stage, b)),
             None => {
                 let best = kept_at(self.view.attached, self.answers.as_slice());
                 self.judged(stage, best);
@@ -191,7 +191,7 @@ impl Standing {
             None => self.strand(),
             Some(b) => {
                 self.answers.clear();
-                self.due = Due::PostDue(Stage::Reading(work, ticket), b);
+                self.owe(Due::PostDue(Stage::Reading(work, ticket), b));
             }
         }
     }

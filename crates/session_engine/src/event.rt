@@ -22,7 +22,7 @@ impl Standing {
     {
         match mem::replace(&mut self.due, Due::Resting) {
             Due::PostDue(stage, b) => {
-                self.due = Due::Waiting(stage_posted(stage), b);
+                self.owe(Due::Waiting(stage_posted(stage), b));
                 Action::WaitFor(b)
             }
             _ => unreachable!(),
@@ -40,7 +40,7 @@ impl Standing {
         match mem::replace(&mut self.due, Due::Resting) {
             Due::Waiting(stage, _) => {
                 self.answers.push(Heard { b, answer });
-                self.due = Due::LookDue(stage);
+                self.owe(Due::LookDue(stage));
                 Action::Gate(GateCall::Look)
             }
             _ => unreachable!(),
@@ -56,7 +56,7 @@ impl Standing {
     {
         match mem::replace(&mut self.due, Due::Resting) {
             Due::Waiting(stage, b) => {
-                self.due = Due::LostDue(stage, b, before, after);
+                self.owe(Due::LostDue(stage, b, before, after));
                 Action::Detach {
                     b,
                     cause: Cause::Fault { before, after },

@@ -66,7 +66,7 @@ impl Standing {
             (record (session_of self.old) { heard = [] }) points.Resting }
     {
         self.answers.clear();
-        self.due = Due::Resting;
+        self.owe(Due::Resting);
         Action::Reply {
             outcome,
             status: self.status,
@@ -82,7 +82,7 @@ impl Standing {
     {
         let rows = self.answers.take_rows(best);
         let tag = Tag::Select(rows.len() as u64);
-        self.due = Due::Resting;
+        self.owe(Due::Resting);
         Action::Reply {
             outcome: Outcome::Rows { rows, tag },
             status: self.status,
@@ -206,6 +206,13 @@ impl Standing {
     {
         match &self.due {
             Due::LookDue(_) => Action::Gate(GateCall::Look),
+            Due::LostDue(_, b, before, after) => Action::Detach {
+                b: *b,
+                cause: Cause::Fault {
+                    before: *before,
+                    after: *after,
+                },
+            },
             Due::UnwindDue(_) => Action::Gate(GateCall::LeaveSnapshot),
             Due::LeaveCommitDue(_) => Action::Gate(GateCall::LeaveCommit),
             Due::FinishDue(_) => Action::Gate(GateCall::Finish),

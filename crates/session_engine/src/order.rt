@@ -5,6 +5,7 @@ ghost use Rattle.session_engine.specs.Dues.{point_of, IsLeaving};
 
 use crate::due::Due;
 use crate::standing::Standing;
+use pool_base::BackendId;
 use session_machine::{
     Ending, GatePhase, Order, OrderBody, Outcome, Stage, Status, Tag, Work, done_with, in_a_block,
     is_moment, moment_out_of_range, outside_a_block,
@@ -12,7 +13,7 @@ use session_machine::{
 use std::mem;
 
 impl Standing {
-    ghost use Rattle.session_machine.specs.Rules.{moment_at, entering, stated_at, block_begun, committing, block_committed, rolled_back, block_rolled_back, settled, leaving, left_in, left, ordered};
+    ghost use Rattle.session_machine.specs.Rules.{moment_at, entering, stated_at, block_begun, committing, block_committed, rolled_back, block_rolled_back, settled, leaving, left_in, left_lost, left, ordered};
 
     /// The moment of the transaction.
     fn moment_at(&self, ordered: i64) -> i64
@@ -32,7 +33,7 @@ impl Standing {
         ensures { machine_of self.new ≡ entering (session_of self.old) self.old.gate work }
     {
         match self.gate {
-            GatePhase::Out => self.due = Due::EnterDue(work),
+            GatePhase::Out => self.owe(Due::EnterDue(work)),
             GatePhase::InSnapshot | GatePhase::Live(_, _) | GatePhase::InCommit => {
                 self.start(work);
             }
@@ -60,13 +61,13 @@ impl Standing {
             Status::Idle => {
                 self.status = Status::InBlock;
                 self.moment = moment;
-                self.due = Due::ReplyDue(done_with(Tag::Begin));
+                self.owe(Due::ReplyDue(done_with(Tag::Begin)));
             }
             Status::InBlock | Status::Failed => {
-                self.due = Due::ReplyDue(Outcome::Done {
+                self.owe(Due::ReplyDue(Outcome::Done {
                     tag: Tag::Begin,
                     warning: Some(in_a_block()),
-                });
+                }));
             }
         }
     }
@@ -78,11 +79,11 @@ impl Standing {
         match self.gate {
             GatePhase::Out | GatePhase::InSnapshot | GatePhase::InCommit => {
                 self.status = Status::Idle;
-                self.due = Due::ReplyDue(outcome);
+                self.owe(Due::ReplyDue(outcome));
             }
             GatePhase::Live(changed, _) => {
                 if changed {
-                    self.due = Due::EnterCommitDue;
+                    self.owe(Due::EnterCommitDue);
                 } else {
                     self.begin(Stage::Closing);
                 }
@@ -96,15 +97,15 @@ impl Standing {
     {
         match self.status {
             Status::Idle => {
-                self.due = Due::ReplyDue(Outcome::Done {
+                self.owe(Due::ReplyDue(Outcome::Done {
                     tag: Tag::Commit,
                     warning: Some(outside_a_block()),
-                });
+                }));
             }
             Status::InBlock => self.commit(done_with(Tag::Commit)),
             Status::Failed => {
                 self.status = Status::Idle;
-                self.due = Due::ReplyDue(done_with(Tag::Rollback));
+                self.owe(Due::ReplyDue(done_with(Tag::Rollback)));
             }
         }
     }
@@ -115,7 +116,7 @@ impl Standing {
         self.status = Status::Idle;
         let outcome = done_with(Tag::Rollback);
         match self.gate {
-            GatePhase::Out => self.due = Due::ReplyDue(outcome),
+            GatePhase::Out => self.owe(Due::ReplyDue(outcome)),
             GatePhase::InSnapshot | GatePhase::Live(_, _) | GatePhase::InCommit => {
                 self.begin(Stage::RollingBack(Ending::Replies(outcome)));
             }
@@ -128,15 +129,15 @@ impl Standing {
     {
         match self.status {
             Status::Idle => {
-                self.due = Due::ReplyDue(Outcome::Done {
+                self.owe(Due::ReplyDue(Outcome::Done {
                     tag: Tag::Rollback,
                     warning: Some(outside_a_block()),
-                });
+                }));
             }
             Status::InBlock => self.roll_back(),
             Status::Failed => {
                 self.status = Status::Idle;
-                self.due = Due::ReplyDue(done_with(Tag::Rollback));
+                self.owe(Due::ReplyDue(done_with(Tag::Rollback)));
             }
         }
     }
@@ -147,7 +148,7 @@ impl Standing {
     {
         match self.status {
             Status::Idle => self.commit(Outcome::Settled),
-            Status::InBlock | Status::Failed => self.due = Due::ReplyDue(Outcome::Settled),
+            Status::InBlock | Status::Failed => self.owe(Due::ReplyDue(Outcome::Settled)),
         }
     }
 
@@ -157,11 +158,11 @@ impl Standing {
         ensures goes { IsLeaving self.new.due }
     {
         match self.gate {
-            GatePhase::Out => self.due = Due::EndDue,
+            GatePhase::Out => self.owe(Due::EndDue),
             GatePhase::InSnapshot | GatePhase::Live(_, _) | GatePhase::InCommit => {
                 let stage = Stage::RollingBack(Ending::Leaves);
                 self.answers.clear();
-                self.due = Due::LookDue(stage);
+                self.owe(Due::LookDue(stage));
             }
         }
     }
@@ -179,9 +180,28 @@ impl Standing {
             | Stage::Committing
             | Stage::Closing => self.leave(),
             Stage::RollingBack(_) => {
-                self.due = Due::LookDue(Stage::RollingBack(Ending::Leaves));
+                self.owe(Due::LookDue(Stage::RollingBack(Ending::Leaves)));
             }
         }
+    }
+
+    /// A backend was lost, and is detached first.
+    fn leave_lost(&mut self, stage: Stage, b: BackendId, before: u64, after: u64)
+        ensures is { machine_of self.new ≡ left_lost (session_of self.old) stage b before after }
+        ensures goes { IsLeaving self.new.due }
+    {
+        match stage {
+            Stage::Opening(_)
+            | Stage::Reading(_, _)
+            | Stage::Running(_)
+            | Stage::Locking(_, _)
+            | Stage::Inserting(_, _)
+            | Stage::Committing
+            | Stage::Closing => self.answers.clear(),
+            Stage::RollingBack(_) => {}
+        }
+        let due = Due::LostDue(Stage::RollingBack(Ending::Leaves), b, before, after);
+        self.owe(due);
     }
 
     #[tactic(auto, unfolding(session_machine::specs::Rules::left))]
@@ -194,11 +214,11 @@ impl Standing {
             Due::LookDue(stage)
             | Due::PostDue(stage, _)
             | Due::Waiting(stage, _)
-            | Due::LostDue(stage, _, _, _)
             | Due::SplitDue { stage, .. } => self.leave_in(stage),
-            Due::UnwindDue(_) => self.due = Due::UnwindDue(Ending::Leaves),
-            Due::LeaveCommitDue(_) => self.due = Due::LeaveCommitDue(Ending::Leaves),
-            Due::FinishDue(_) => self.due = Due::FinishDue(Ending::Leaves),
+            Due::LostDue(stage, b, before, after) => self.leave_lost(stage, b, before, after),
+            Due::UnwindDue(_) => self.owe(Due::UnwindDue(Ending::Leaves)),
+            Due::LeaveCommitDue(_) => self.owe(Due::LeaveCommitDue(Ending::Leaves)),
+            Due::FinishDue(_) => self.owe(Due::FinishDue(Ending::Leaves)),
             Due::Resting
             | Due::EnterDue(_)
             | Due::ChooseDue(_)
@@ -237,8 +257,8 @@ impl Standing {
             OrderBody::Commit => self.commit_block(),
             OrderBody::Rollback => self.roll_block_back(),
             OrderBody::Settle => self.settle(),
-            OrderBody::ShowNodes => self.due = Due::ShowDue,
-            OrderBody::Recover(_) => self.due = Due::Resting,
+            OrderBody::ShowNodes => self.owe(Due::ShowDue),
+            OrderBody::Recover(_) => self.owe(Due::Resting),
             OrderBody::Refuse { code, name } => self.refuse(false, Outcome::Error { code, name }),
             OrderBody::Leave => self.left(),
         }

@@ -11,6 +11,7 @@ use session_machine::{
     Class, Ending, GatePhase, Outcome, ReadPolicy, Stage, Status, Work, lowest, no_backend,
 };
 use std::alloc::Global;
+use std::mem;
 
 /// The view of a session that has not called the gate.
 const NO_VIEW: View = View {
@@ -70,7 +71,14 @@ impl Standing {
         self.view = NO_VIEW;
         self.answers.clear();
         self.reads = 0;
-        self.due = Due::Resting;
+        self.owe(Due::Resting);
+    }
+
+    /// What is due from here on.
+    pub(crate) fn owe(&mut self, due: Due)
+        ensures { self.new ≡ record self.old { due = due } }
+    {
+        drop(mem::replace(&mut self.due, due));
     }
 
     /// Nothing is due.
@@ -78,7 +86,7 @@ impl Standing {
         ensures { machine_of self.new ≡ Rattle.session_machine.specs.Rules.due
             (session_of self.old) points.Resting }
     {
-        self.due = Due::Resting;
+        self.owe(Due::Resting);
     }
 
     /// The primary of the last view.
@@ -104,8 +112,8 @@ impl Standing {
         ensures { machine_of self.new ≡ ended (session_of self.old) ending }
     {
         match ending {
-            Ending::Replies(outcome) => self.due = Due::ReplyDue(outcome),
-            Ending::Leaves => self.due = Due::EndDue,
+            Ending::Replies(outcome) => self.owe(Due::ReplyDue(outcome)),
+            Ending::Leaves => self.owe(Due::EndDue),
         }
     }
 
@@ -115,9 +123,9 @@ impl Standing {
     {
         match self.gate {
             GatePhase::Out => self.end(ending),
-            GatePhase::InSnapshot => self.due = Due::UnwindDue(ending),
-            GatePhase::Live(_, _) => self.due = Due::FinishDue(ending),
-            GatePhase::InCommit => self.due = Due::LeaveCommitDue(ending),
+            GatePhase::InSnapshot => self.owe(Due::UnwindDue(ending)),
+            GatePhase::Live(_, _) => self.owe(Due::FinishDue(ending)),
+            GatePhase::InCommit => self.owe(Due::LeaveCommitDue(ending)),
         }
     }
 
@@ -126,7 +134,7 @@ impl Standing {
         ensures { machine_of self.new ≡ begun (session_of self.old) stage }
     {
         self.answers.clear();
-        self.due = Due::LookDue(stage);
+        self.owe(Due::LookDue(stage));
     }
 
     /// A chain begins; right behind a Look it needs no other.
@@ -139,7 +147,7 @@ impl Standing {
         match self.primary() {
             Some(b) => {
                 self.answers.clear();
-                self.due = Due::PostDue(stage, b);
+                self.owe(Due::PostDue(stage, b));
             }
             None => self.begin(stage),
         }
@@ -151,7 +159,7 @@ impl Standing {
     {
         self.status = self.status.failed();
         match self.gate {
-            GatePhase::Out => self.due = Due::ReplyDue(outcome),
+            GatePhase::Out => self.owe(Due::ReplyDue(outcome)),
             GatePhase::InSnapshot | GatePhase::Live(_, _) | GatePhase::InCommit => {
                 self.begin_behind(behind, Stage::RollingBack(Ending::Replies(outcome)));
             }
@@ -178,7 +186,7 @@ impl Standing {
             | Stage::Locking(_, _)
             | Stage::Inserting(_, _)
             | Stage::Closing => self.strand(),
-            Stage::Committing => self.due = Due::LeaveCommitDue(Ending::Leaves),
+            Stage::Committing => self.owe(Due::LeaveCommitDue(Ending::Leaves)),
             Stage::RollingBack(ending) => self.release(ending),
         }
     }
@@ -190,7 +198,7 @@ impl Standing {
         match work.class {
             Class::Read => {
                 self.answers.clear();
-                self.due = Due::ChooseDue(work);
+                self.owe(Due::ChooseDue(work));
             }
             Class::LockingRead | Class::Write(_) => self.begin(Stage::Running(work)),
             Class::SerialInsert(table) => self.begin(Stage::Locking(work, table)),

@@ -94,15 +94,15 @@ may_stop Committing = false
 may_stop Closing = true
 may_stop (RollingBack ending) = true
 
--- a Leave may come wherever no request is pending and nothing has to be completed: at a lost backend its request is pending until
--- the backend is detached
+-- a Leave may come wherever no request is pending and nothing has to be completed. Where the session has seen that a backend is lost
+-- none is pending there any more
 abbrev pub may_leave : Point → Bool
 may_leave Resting = true
 may_leave (EnterDue work) = true
 may_leave (LookDue stage) = may_stop stage
 may_leave (PostDue stage b) = may_stop stage
 may_leave (Waiting stage b) = false
-may_leave (LostDue stage b before after) = false
+may_leave (LostDue stage b before after) = may_stop stage
 may_leave (SplitDue stage best own among more) = may_stop stage
 may_leave (ChooseDue work) = true
 may_leave ShowDue = true

@@ -296,13 +296,27 @@ left_in session Committing = leaving session session.gate
 left_in session Closing = leaving session session.gate
 left_in session (RollingBack ending) = due session (LookDue (RollingBack Leaves))
 
+-- a lost backend is detached first, and the rollback begins or goes on behind that
+abbrev pub rolling_lost : Session → BackendId → ℕ → ℕ → Machine
+rolling_lost session b before after = due session (LostDue (RollingBack Leaves) b before after)
+
+abbrev pub left_lost : Session → Stage → BackendId → ℕ → ℕ → Machine
+left_lost session (Opening work) b before after = rolling_lost (record session { heard = [] }) b before after
+left_lost session (Reading work ticket) b before after = rolling_lost (record session { heard = [] }) b before after
+left_lost session (Running work) b before after = rolling_lost (record session { heard = [] }) b before after
+left_lost session (Locking work table) b before after = rolling_lost (record session { heard = [] }) b before after
+left_lost session (Inserting work posted) b before after = rolling_lost (record session { heard = [] }) b before after
+left_lost session Committing b before after = rolling_lost (record session { heard = [] }) b before after
+left_lost session Closing b before after = rolling_lost (record session { heard = [] }) b before after
+left_lost session (RollingBack ending) b before after = rolling_lost session b before after
+
 unfoldable pub left : Session → Point → Machine
 left session Resting = leaving session session.gate
 left session (EnterDue work) = leaving session session.gate
 left session (LookDue stage) = left_in session stage
 left session (PostDue stage b) = left_in session stage
 left session (Waiting stage b) = left_in session stage
-left session (LostDue stage b before after) = left_in session stage
+left session (LostDue stage b before after) = left_lost session stage b before after
 left session (SplitDue stage best own among more) = left_in session stage
 left session (ChooseDue work) = leaving session session.gate
 left session ShowDue = leaving session session.gate

@@ -125,6 +125,7 @@ pub(crate) fn called(
         }
         GateAnswer::Held(_) => Ok(due(session, point)),
         GateAnswer::Spent => {
+            drop(point);
             let outcome = error_of(&session, counts_spent());
             Ok(refused(false, session, outcome))
         }

@@ -50,20 +50,24 @@ fn told(session: Session, point: Point, order: Order) -> Machine
         order.body }
 {
     let Order { moment, body } = order;
-    ordered(session, &point, moment, body)
+    let told = ordered(session, &point, moment, body);
+    drop(point);
+    told
 }
 
 /// A reply is given.
-fn rested(session: Session, _point: Point) -> Machine
+fn rested(session: Session, point: Point) -> Machine
     ensures { result ≡ Rattle.session_machine.specs.Rules.due session Point.Resting }
 {
+    drop(point);
     due(session, Point::Resting)
 }
 
 /// The session ends, and its number is free.
-fn restarted(session: Session, _point: Point) -> Machine
+fn restarted(session: Session, point: Point) -> Machine
     ensures { result ≡ new_machine session.id session.policy }
 {
+    drop(point);
     let alloc = session.heard.allocator();
     Machine::new(alloc, session.id, session.policy)
 }

@@ -91,9 +91,11 @@ fn may_leave(point: &Point) -> bool
     ensures { result ≡ may_leave point.now }
 {
     match point {
-        Point::LookDue(stage) | Point::PostDue(stage, _) | Point::SplitDue(stage, _, _, _, _) =>
-            may_stop(stage),
-        Point::Waiting(_, _) | Point::LostDue(_, _, _, _) | Point::LeaveCommitDue(_) => false,
+        Point::LookDue(stage)
+        | Point::PostDue(stage, _)
+        | Point::LostDue(stage, _, _, _)
+        | Point::SplitDue(stage, _, _, _, _) => may_stop(stage),
+        Point::Waiting(_, _) | Point::LeaveCommitDue(_) => false,
         Point::Resting
         | Point::EnterDue(_)
         | Point::ChooseDue(_)

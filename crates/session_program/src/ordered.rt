@@ -1,9 +1,10 @@
 //! Where an order leads.
 ghost use Rattle.std.specs.Prelude.{◌≡◌, ◌↔◌, IsTrue, Some};
 ghost use Rattle.pg_values.specs.Range.{IsMoment};
-ghost use Rattle.session_machine.specs.Rules.{is_moment, moment_at, entering, stated_at, block_begun, committing, block_committed, rolled_back, block_rolled_back, settled, leaving, left_in, left, ordered};
+ghost use Rattle.session_machine.specs.Rules.{is_moment, moment_at, entering, stated_at, block_begun, committing, block_committed, rolled_back, block_rolled_back, settled, leaving, left_in, left_lost, left, ordered};
 
 use crate::chain::{begun, due, error_of, idle, refused, started};
+use pool_base::BackendId;
 use session_machine::{
     Ending, GatePhase, Machine, OrderBody, Outcome, Point, Session, Stage, Status, Tag, Work,
     done_with, in_a_block, is_moment, moment_out_of_range, outside_a_block,
@@ -170,6 +171,24 @@ fn left_in(session: Session, stage: &Stage) -> Machine
     }
 }
 
+/// A backend was lost, and is detached first.
+fn left_lost(mut session: Session, stage: &Stage, b: BackendId, before: u64, after: u64) -> Machine
+    ensures { result ≡ left_lost session stage.now b before after }
+{
+    match stage {
+        Stage::Opening(_)
+        | Stage::Reading(_, _)
+        | Stage::Running(_)
+        | Stage::Locking(_, _)
+        | Stage::Inserting(_, _)
+        | Stage::Committing
+        | Stage::Closing => session.heard.truncate(0),
+        Stage::RollingBack(_) => {}
+    }
+    let stage = Stage::RollingBack(Ending::Leaves);
+    due(session, Point::LostDue(stage, b, before, after))
+}
+
 #[tactic(auto, unfolding(session_machine::specs::Rules::left))]
 fn left(session: Session, point: &Point) -> Machine
     ensures { result ≡ left session point.now }
@@ -178,8 +197,8 @@ fn left(session: Session, point: &Point) -> Machine
         Point::LookDue(stage)
         | Point::PostDue(stage, _)
         | Point::Waiting(stage, _)
-        | Point::LostDue(stage, _, _, _)
         | Point::SplitDue(stage, _, _, _, _) => left_in(session, stage),
+        Point::LostDue(stage, b, before, after) => left_lost(session, stage, *b, *before, *after),
         Point::UnwindDue(_) => due(session, Point::UnwindDue(Ending::Leaves)),
         Point::LeaveCommitDue(_) => due(session, Point::LeaveCommitDue(Ending::Leaves)),
         Point::FinishDue(_) => due(session, Point::FinishDue(Ending::Leaves)),

@@ -147,8 +147,8 @@ fn insert_refused(alloc: Global) -> Result<Vec<SessionEvent>, NoMemory> {
     Ok(list)
 }
 
-/// The primary is lost as it runs an INSERT: the other backend has it, and its commit.
-fn primary_lost(alloc: Global) -> Result<Vec<SessionEvent>, NoMemory> {
+/// The primary is lost as it runs an INSERT.
+fn primary_fails(alloc: Global) -> Result<Vec<SessionEvent>, NoMemory> {
     let (b, before, after) = (B0, 0, 1);
     let mut list = Vec::new(alloc);
     opening(&mut list, insert_order())?;
@@ -157,12 +157,25 @@ fn primary_lost(alloc: Global) -> Result<Vec<SessionEvent>, NoMemory> {
         request: Request::Run(INSERT),
     })?;
     list.push(SessionEvent::Faulted { b, before, after })?;
+    Ok(list)
+}
+
+/// It is detached, and there is a Look.
+fn primary_detached(list: &mut Vec<SessionEvent>) -> Result<(), NoMemory> {
+    let (b, before, after) = (B0, 0, 1);
     list.push(SessionEvent::Detached {
         b,
         cause: Cause::Fault { before, after },
         answer: GateAnswer::Granted(view(2)),
     })?;
     list.push(look(2))?;
+    Ok(())
+}
+
+/// The other backend has the INSERT, and its commit.
+fn primary_lost(alloc: Global) -> Result<Vec<SessionEvent>, NoMemory> {
+    let mut list = primary_fails(alloc)?;
+    primary_detached(&mut list)?;
     asked(&mut list, B1, Request::Run(INSERT), Answer::Count(1), 2)?;
     list.push(done(Tag::Insert(1), Status::Idle))?;
     settled(&mut list, 2)?;
@@ -220,6 +233,16 @@ fn left(alloc: Global) -> Result<Vec<SessionEvent>, NoMemory> {
     Ok(list)
 }
 
+/// The primary is detached, the other backend rolls back, and the session ends.
+fn left_one(alloc: Global) -> Result<Vec<SessionEvent>, NoMemory> {
+    let mut list = Vec::new(alloc);
+    primary_detached(&mut list)?;
+    asked(&mut list, B1, Request::Rollback, Answer::Done, 2)?;
+    list.push(granted(GateCall::Finish, 2))?;
+    list.push(SessionEvent::Ended)?;
+    Ok(list)
+}
+
 /// Whether the whole list happens.
 fn happens(alloc: Global, list: Result<Vec<SessionEvent>, NoMemory>) -> Result<bool, Fault> {
     let list = list?;
@@ -253,6 +276,22 @@ fn a_lost_primary_is_detached(rt: HostRuntime) {
 fn a_backend_that_differs_is_detached(rt: HostRuntime) {
     let alloc = rt.alloc();
     assert_eq!(rt; happens(alloc, parted(alloc)), Ok(true));
+}
+
+/// The session gives up between the loss of the primary and its detachment.
+fn lost_and_leaves(alloc: Global) -> Result<bool, Fault> {
+    let events = primary_fails(alloc)?;
+    let end = left_one(alloc)?;
+    let mut lone = Lone::new(alloc)?;
+    lone.take_all(alloc, events)?;
+    lone.give_up(alloc)?;
+    lone.take_all(alloc, end)?;
+    Ok(true)
+}
+
+#[test]
+fn a_lost_primary_is_detached_before_the_session_ends(rt: HostRuntime) {
+    assert_eq!(rt; lost_and_leaves(rt.alloc()), Ok(true));
 }
 
 /// Where the copies of the rows that differ want memory the session gives up, and comes to its end.

@@ -282,3 +282,132 @@ fn a_client_that_leaves_is_rolled_back(rt: HostRuntime) {
     let others = [(15, Line::Order(Deed::Leave)), (28, Line::Ended)];
     assert_eq!(rt; wrong(rt.alloc(), &CLIENT_GONE, &others), Ok(None));
 }
+
+/// The primary is lost in the chain of an INSERT, and the client goes away before it is detached.
+const LOST_AND_GONE: [Line; 11] = [
+    Line::Open(Deed::Insert),
+    Line::Look(7),
+    Line::Post(B0, Ask::Insert),
+    Line::Fault(B0),
+    Line::Order(Deed::Leave),
+    Line::Lost(B0, 1, 6),
+    Line::Look(6),
+    Line::Asked(B1, Ask::Rollback, Say::Usual, 6),
+    Line::Asked(B2, Ask::Rollback, Say::Usual, 6),
+    FINISH,
+    Line::Ended,
+];
+
+#[test]
+fn a_lost_backend_is_detached_before_the_client_is_gone(rt: HostRuntime) {
+    let others = [
+        (15, Line::Order(Deed::Leave)),
+        (17, Line::Look(7)),
+        (17, Line::Post(B0, Ask::Rollback)),
+        (19, Line::Post(B1, Ask::Insert)),
+    ];
+    assert_eq!(rt; wrong(rt.alloc(), &LOST_AND_GONE, &others), Ok(None));
+}
+
+/// The last backend is lost as it takes its snapshot, and the client goes away, twice.
+const LAST_LOST_AND_GONE: [Line; 11] = [
+    Line::Order(Deed::Insert),
+    Line::Grant(GateCall::EnterSnapshot, 1),
+    Line::Look(1),
+    Line::Post(B0, Ask::Snapshot),
+    Line::Fault(B0),
+    Line::Order(Deed::Leave),
+    Line::Order(Deed::Leave),
+    Line::Lost(B0, 1, 0),
+    Line::Grant(GateCall::LeaveSnapshot, 0),
+    Line::Grant(GateCall::Finish, 0),
+    Line::Ended,
+];
+
+#[test]
+fn behind_the_last_backend_all_is_given_back_at_the_gate(rt: HostRuntime) {
+    let others = [
+        (7, Line::Ended),
+        (8, Line::Grant(GateCall::Finish, 0)),
+        (10, Line::Fail(NO_BACKEND, Status::Idle)),
+    ];
+    assert_eq!(rt; wrong(rt.alloc(), &LAST_LOST_AND_GONE, &others), Ok(None));
+}
+
+/// A backend is lost in the rollback of an INSERT that was refused, and the client goes away.
+const LOST_IN_A_ROLLBACK: [Line; 12] = [
+    Line::Open(Deed::Insert),
+    Line::Look(7),
+    Line::Asked(B0, Ask::Insert, Say::Refused(CHANGED_MEANWHILE), 7),
+    Line::Asked(B0, Ask::Rollback, Say::Usual, 7),
+    Line::Post(B1, Ask::Rollback),
+    Line::Fault(B1),
+    Line::Order(Deed::Leave),
+    Line::Lost(B1, 1, 5),
+    Line::Look(5),
+    Line::Asked(B2, Ask::Rollback, Say::Usual, 5),
+    FINISH,
+    Line::Ended,
+];
+
+#[test]
+fn a_rollback_goes_on_behind_a_loss_without_its_reply(rt: HostRuntime) {
+    let others = [
+        (23, Line::Look(7)),
+        (25, Line::Post(B0, Ask::Rollback)),
+        (29, Line::Fail(CHANGED_MEANWHILE, Status::Idle)),
+    ];
+    assert_eq!(rt; wrong(rt.alloc(), &LOST_IN_A_ROLLBACK, &others), Ok(None));
+}
+
+/// The primary is lost as it commits.
+const LOST_IN_A_COMMIT: [Line; 14] = [
+    Line::Open(Deed::Insert),
+    Line::Chain(Ask::Insert),
+    INSERTED,
+    Line::Order(Deed::Settle),
+    ENTER,
+    Line::Look(7),
+    Line::Post(B0, Ask::Commit),
+    Line::Fault(B0),
+    Line::Lost(B0, 1, 6),
+    Line::Look(6),
+    Line::Asked(B1, Ask::Commit, Say::Usual, 6),
+    Line::Asked(B2, Ask::Commit, Say::Usual, 6),
+    LEAVE,
+    Line::Settled,
+];
+
+#[test]
+fn an_entered_commit_is_completed_behind_a_loss(rt: HostRuntime) {
+    let others = [
+        (29, Line::Order(Deed::Leave)),
+        (30, Line::Order(Deed::Leave)),
+    ];
+    assert_eq!(rt; wrong(rt.alloc(), &LOST_IN_A_COMMIT, &others), Ok(None));
+}
+
+/// The primary is lost in the run of a serial insert.
+const LOST_IN_A_SERIAL_INSERT: [Line; 9] = [
+    Line::Open(Deed::SerialInsert),
+    Line::Chain(Ask::Lock),
+    Line::Post(B0, Ask::Insert),
+    Line::Fault(B0),
+    Line::Lost(B0, 1, 6),
+    Line::Look(6),
+    Line::Asked(B1, Ask::Insert, Say::Usual, 6),
+    Line::Asked(B2, Ask::Insert, Say::Usual, 6),
+    INSERTED,
+];
+
+#[test]
+fn a_serial_insert_is_completed_behind_a_loss(rt: HostRuntime) {
+    let others = [
+        (25, Line::Order(Deed::Leave)),
+        (26, Line::Order(Deed::Leave)),
+    ];
+    assert_eq!(rt;
+        wrong(rt.alloc(), &LOST_IN_A_SERIAL_INSERT, &others),
+        Ok(None)
+    );
+}
