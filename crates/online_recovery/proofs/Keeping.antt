@@ -79,7 +79,7 @@ call_meets p held AttachDue call e a f = by_call (calls.Attach held.target) call
 call_meets p held (Closing ending) call e a f = back_meets p held ending call held.at_target held.at_source held.gate held.quiet a.0 a.1 e
 call_meets p held at call e a f = absurd (cc)
 
-no_swap : (held : Held) (ending : Ending) (o : Owed) (b : BackendId) → closing_action held ending o ≡ actions.Swap b → ⊥
+pub no_swap : (held : Held) (ending : Ending) (o : Owed) (b : BackendId) → closing_action held ending o ≡ actions.Swap b → ⊥
 no_swap held ending (Transaction side) b e = absurd (cc)
 no_swap held ending Snapshot b e = absurd (cc)
 no_swap held ending LiveTransaction b e = absurd (cc)

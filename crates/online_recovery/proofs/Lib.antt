@@ -2,3 +2,4 @@ pub mod Fitting
 pub mod Proceeding
 pub mod Calling
 pub mod Keeping
+pub mod Naming

@@ -1,5 +1,5 @@
 -- Runs of a recovery: lists of events, each of which may happen where it stands; and what they keep to.
-use Rattle.std.specs.Prelude.{◌≡◌, Bool, true, false, List, [], ◌∷◌}
+use Rattle.std.specs.Prelude.{◌≡◌, ℕ, Bool, true, false, List, [], ◌∷◌, Option, Some, None}
 use Rattle.pool_base.specs.declared.gate_call.GateCall.{GateCall}
 use Rattle.pool_base.specs.declared.gate_call.GateCall.TheVariants as calls
 use Rattle.pool_base.specs.declared.gate_call.GateAnswer.{GateAnswer}
@@ -133,3 +133,33 @@ ReplyMeets attached event = Unit {0}
 abbrev pub RepliesMeet : Bool → List RecoveryEvent → Type 0
 RepliesMeet attached [] = Unit {0}
 RepliesMeet attached (e ∷ es) = ReplyMeets attached e × RepliesMeet (attached_after e attached) es
+
+-- The number of the backend that the order under way names: what is swapped and what is attached is the backend of that number.
+
+abbrev pub named_ordered : OrderBody → Option ℕ → Option ℕ
+named_ordered (orders.Recover number) named = Some number
+named_ordered body named = named
+
+abbrev pub named_after : RecoveryEvent → Option ℕ → Option ℕ
+named_after (events.Ordered order) named = named_ordered order.body named
+named_after (events.Called call answer) named = named
+named_after (events.Swapped b) named = named
+named_after (events.Posted b ask) named = named
+named_after (events.Taken b answer) named = named
+named_after (events.Faulted b before count) named = named
+named_after (events.Detached b cause answer) named = named
+named_after (events.Replied outcome status) named = None
+named_after events.Ended named = None
+
+abbrev pub CallIsNamed : Option ℕ → GateCall → Type 0
+CallIsNamed named (calls.Attach b) = named ≡ Some b.number
+CallIsNamed named call = Unit {0}
+
+abbrev pub IsNamed : Option ℕ → RecoveryEvent → Type 0
+IsNamed named (events.Called call answer) = CallIsNamed named call
+IsNamed named (events.Swapped b) = named ≡ Some b.number
+IsNamed named event = Unit {0}
+
+abbrev pub AreNamed : Option ℕ → List RecoveryEvent → Type 0
+AreNamed named [] = Unit {0}
+AreNamed named (e ∷ es) = IsNamed named e × AreNamed (named_after e named) es
