@@ -13,7 +13,7 @@ use crate::parameters::{all_kinds, known_first};
 use crate::select::select_of;
 use crate::tables::table_named;
 use pool_base::List;
-use schema::{Catalogue, TableDef};
+use schema::Catalogue;
 use sql_tree::Statement;
 use std::alloc::Global;
 use typed_sql::{CheckFault, Known};
@@ -36,7 +36,7 @@ pub fn is_checked(statement: &Statement) -> bool
 /// What a statement is over the tables.
 fn body_of(
     alloc: Global,
-    tables: &[TableDef],
+    tables: &Catalogue,
     parameters: bool,
     statement: &Statement,
     known: &mut Known,
@@ -84,7 +84,7 @@ pub fn check(
 {
     let mut known = known_first(alloc, kinds)?;
     let parameters = kinds.is_some();
-    let (body, columns) = body_of(alloc, tables.tables(), parameters, statement, &mut known)?;
+    let (body, columns) = body_of(alloc, tables, parameters, statement, &mut known)?;
     let kinds = all_kinds(alloc, &known)?;
     Ok(Checked {
         body,

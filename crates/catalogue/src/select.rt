@@ -14,7 +14,7 @@ use crate::naming::item_name;
 use crate::tables::{filter_of, table_named};
 use pg_values::ColType;
 use pool_base::{List, NoMemory, Text};
-use schema::{ColumnDef, TableDef};
+use schema::{Catalogue, ColumnDef, TableDef};
 use sql_tree::{Expr, OrderItem, Select, SelectItem, SelectList};
 use std::alloc::Global;
 use typed_sql::{
@@ -376,7 +376,7 @@ fn bare_read(
 /// What a SELECT is over the tables.
 pub(crate) fn select_of(
     alloc: Global,
-    tables: &[TableDef],
+    tables: &Catalogue,
     parameters: bool,
     select: &Select,
     known: &mut Known,

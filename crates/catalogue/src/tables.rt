@@ -7,29 +7,25 @@ ghost use Rattle.typed_sql.specs.Steps.{Answers};
 ghost use Rattle.catalogue.specs.Statements.{FilterOf, table_from, table_named};
 
 use pool_base::Text;
-use schema::TableDef;
+use schema::{Catalogue, TableDef};
 use sql_tree::Expr;
 use typed_sql::{Check, CheckFault, Known, TypedExpr, asks_bool, no_table, typed_at};
 
-/// The table of that name among these, and its number.
-fn find_table<'a>(tables: &'a [TableDef], name: &Text) -> Option<(u8, &'a TableDef)>
+/// The table of that name, and its number.
+fn find_table<'a>(tables: &'a Catalogue, name: &Text) -> Option<(u8, &'a TableDef)>
     requires { IsWithin tables.now }
     ensures found { option_map (λ x. (x.0, x.1.now)) result ≡ table_from 0 name.now tables.now }
     ensures few { IfSome result (λ x. length x.1.now.columns ≤ 32) }
 {
-    let mut number = 0;
-    for table in tables {
-        if table.name == *name {
-            return Some((number, table));
-        }
-        number += 1;
+    match tables.find(name.as_str()) {
+        Some((number, table)) => Some((number as u8, table)),
+        None => None,
     }
-    None
 }
 
 /// The table of that name, and its number.
 pub(crate) fn table_named<'a>(
-    tables: &'a [TableDef],
+    tables: &'a Catalogue,
     name: &Text,
 ) -> Result<(u8, &'a TableDef), CheckFault>
     requires { IsWithin tables.now }

@@ -1,7 +1,8 @@
 //! A schema as far as it is read: where its reader stands.
 use crate::catalogue::{ColumnDef, Fill, TableDef};
 use crate::column_type::ColumnType;
-use pool_base::{List, Text};
+use named_list::NamedList;
+use pool_base::Text;
 
 /// A column as far as it is read.
 #[derive(Debug, Drop)]
@@ -22,7 +23,7 @@ pub struct OpenColumn {
 #[derive(Debug, Drop)]
 pub struct OpenTable {
     pub name: Text,
-    pub columns: List<ColumnDef>,
+    pub columns: NamedList<ColumnDef>,
     pub key: Option<u8>,
     pub serial: Option<u8>,
 }

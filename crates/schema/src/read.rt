@@ -12,7 +12,7 @@ use crate::fault::{Refusal, SchemaFault, Stop};
 use crate::open::Place;
 use crate::step::step;
 use crate::text::{as_text, line_of};
-use pool_base::List;
+use named_list::NamedList;
 use sql_tokens::{Placed, Token, read_tokens};
 use std::alloc::Global;
 
@@ -48,13 +48,13 @@ pub fn read_schema(alloc: Global, text: &[u8]) -> Result<Catalogue, SchemaFault>
 }
 
 /// The tables that the tokens are a schema of.
-fn read_tables(alloc: Global, tokens: &[Placed]) -> Result<List<TableDef>, Refusal>
+fn read_tables(alloc: Global, tokens: &[Placed]) -> Result<NamedList<TableDef>, Refusal>
     ensures found { IfOk result (λ tables. IsRead (tokens_of tokens.now) tables) }
     ensures only { (tables : Sequence Table) → IsRead (tokens_of tokens.now) tables
         → AreTables tables result }
     ensures refused { IsRefusal tokens.now result }
 {
-    let mut tables = List::new(alloc);
+    let mut tables = NamedList::new(alloc);
     let mut place = Place::Create;
     let mut left = tokens;
     while let [placed, rest @ ..] = left {
@@ -74,7 +74,7 @@ fn read_tables(alloc: Global, tokens: &[Placed]) -> Result<List<TableDef>, Refus
 /// Where a token leads.
 fn advance(
     alloc: Global,
-    tables: &mut List<TableDef>,
+    tables: &mut NamedList<TableDef>,
     place: Place,
     token: &Token,
 ) -> Result<Place, Stop>

@@ -9,8 +9,9 @@ use crate::column_type::{ColumnType, is_serial, kind_of, may_be_key, type_named}
 use crate::constant::{is_moment, is_number, negated, number_value, truth_value};
 use crate::fault::Stop;
 use crate::open::{Due, OpenColumn, OpenTable, Place};
+use named_list::NamedList;
 use pg_values::{ColType, Value};
-use pool_base::{List, NoMemory, Text};
+use pool_base::{NoMemory, Text};
 use sql_tokens::{Mark, Name, Token, Word};
 use std::alloc::Global;
 
@@ -20,19 +21,19 @@ const MOST_TABLES: usize = 64;
 /// A table has at most so many columns.
 const MOST_COLUMNS: usize = 32;
 
-fn has_table(name: &str, tables: &[TableDef]) -> bool
+fn has_table(name: &str, tables: &NamedList<TableDef>) -> bool
     ensures { result ≡ has_table name.now tables.now }
 {
-    tables.iter().any(|table| table.name.as_str() == name)
+    tables.has(name)
 }
 
-fn has_column(name: &str, columns: &[ColumnDef]) -> bool
+fn has_column(name: &str, columns: &NamedList<ColumnDef>) -> bool
     ensures { result ≡ has_column name.now columns.now }
 {
-    columns.iter().any(|column| column.name.as_str() == name)
+    columns.has(name)
 }
 
-fn create(tables: &[TableDef], token: &Token) -> Result<Place, Stop>
+fn create(tables: &NamedList<TableDef>, token: &Token) -> Result<Place, Stop>
     ensures { Gives result (create_at true tables.now token.now) }
 {
     match token {
@@ -50,7 +51,7 @@ fn table(token: &Token) -> Result<Place, Stop>
     }
 }
 
-fn table_name(tables: &[TableDef], token: &Token) -> Result<Place, Stop>
+fn table_name(tables: &NamedList<TableDef>, token: &Token) -> Result<Place, Stop>
     ensures { Gives result (table_name_at tables.now token.now) }
 {
     match token {
@@ -70,7 +71,7 @@ fn columns(alloc: Global, name: Text, token: &Token) -> Result<Place, Stop>
     match token {
         Token::Mark(Mark::Open) => Ok(Place::ColumnName(OpenTable {
             name,
-            columns: List::new(alloc),
+            columns: NamedList::new(alloc),
             key: None,
             serial: None,
         })),
@@ -84,7 +85,7 @@ fn column_name(table: OpenTable, token: &Token) -> Result<Place, Stop>
     match token {
         Token::Name(name) => {
             let count = table.columns.len();
-            if count >= MOST_COLUMNS || has_column(name.text.as_str(), table.columns.as_slice()) {
+            if count >= MOST_COLUMNS || has_column(name.text.as_str(), &table.columns) {
                 return Err(Stop::Refused);
             }
             let name = name.text.clone()?;
@@ -400,7 +401,7 @@ fn column(
 }
 
 /// The end of a table.
-fn end(tables: &mut List<TableDef>, table: TableDef, token: &Token) -> Result<Place, Stop>
+fn end(tables: &mut NamedList<TableDef>, table: TableDef, token: &Token) -> Result<Place, Stop>
     ensures { Gives (with_tables tables.new result)
         (option_map (λ more. (more, Place.Create)) (end_at tables.old table token.now)) }
 {
@@ -416,7 +417,7 @@ fn end(tables: &mut List<TableDef>, table: TableDef, token: &Token) -> Result<Pl
 /// Where a token leads. `read` is what a string behind DEFAULT is read as.
 pub(crate) fn step(
     alloc: Global,
-    tables: &mut List<TableDef>,
+    tables: &mut NamedList<TableDef>,
     place: Place,
     read: Option<Value>,
     token: &Token,
@@ -425,9 +426,9 @@ pub(crate) fn step(
         (step_at true tables.old place read token.now) }
 {
     match place {
-        Place::Create => create(tables.as_slice(), token),
+        Place::Create => create(tables, token),
         Place::Table => table(token),
-        Place::TableName => table_name(tables.as_slice(), token),
+        Place::TableName => table_name(tables, token),
         Place::Columns(name) => columns(alloc, name, token),
         Place::ColumnName(table) => column_name(table, token),
         Place::ColumnType {

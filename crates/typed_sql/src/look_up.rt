@@ -6,23 +6,20 @@ ghost use Rattle.typed_sql.specs.Meaning.{scope_of, Finds};
 
 use crate::fault::{CheckFault, no_column, no_table};
 use crate::scope::Scope;
+use named_list::NamedList;
 use pg_values::ColType;
 use pool_base::Text;
 use schema::{ColumnDef, TableDef};
 
 /// The column of that name among these, and its number.
-fn find_column<'a>(columns: &'a [ColumnDef], name: &Text) -> Option<(u8, &'a ColumnDef)>
+fn find_column<'a>(columns: &'a NamedList<ColumnDef>, name: &Text) -> Option<(u8, &'a ColumnDef)>
     requires { length columns.now ≤ 32 }
     ensures { option_map (λ x. (x.0, x.1.now)) result ≡ column_from 0 name.now columns.now }
 {
-    let mut number = 0;
-    for column in columns {
-        if column.name == *name {
-            return Some((number, column));
-        }
-        number += 1;
+    match columns.find(name.as_str()) {
+        Some((number, column)) => Some((number as u8, column)),
+        None => None,
     }
-    None
 }
 
 impl<'a> Scope<'a> {
@@ -66,7 +63,7 @@ impl<'a> Scope<'a> {
             ≡ column_of (scope_of self.now).table (scope_of self.now).columns name.now }
     {
         match self.table {
-            Some(table) if self.columns => find_column(table.columns.as_slice(), name),
+            Some(table) if self.columns => find_column(&table.columns, name),
             _ => None,
         }
     }

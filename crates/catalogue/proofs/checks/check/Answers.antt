@@ -1,11 +1,8 @@
 use denote.Ref.{Bor}
-use Rattle.std.proofs.Common.{ℕ, List, ap, ◌∙◌, subst}
+use Rattle.std.proofs.Common.{ℕ, List, ◌∙◌}
 use Rattle.std.proofs.lemmas.Result.{err_from_is_err_and}
-use Rattle.std.specs.Prelude.{Result, Ok, Err}
 use Rattle.std.specs.Option.{option_map}
-use Rattle.schema.specs.declared.catalogue.TableDef.{TableDef}
-use Rattle.typed_sql.specs.Steps.{Answers, Known}
-use Rattle.catalogue.specs.Statements.{Body, BodyOf}
+use Rattle.typed_sql.specs.Steps.{Known}
 use Rattle.catalogue.proofs.CheckLemmas.{stands_same, kinds_refused, body_refused, body_given}
 use Rattle.catalogue.proofs.checks.check.Goals as goal
 
@@ -21,8 +18,7 @@ returns-in_err-body c =
     rw (p.1, p.2) (body_refused c.args.tables.now c.args.statement.now (option_map (λ (k : Bor (List ℕ)). k.now) c.args.kinds)
     c.in_ok-known.known.items c.in_ok-known.ensures c.is_some-parameters.result
     (c.is_some-parameters.ensures ∙ stands_same (λ (k : Bor (List ℕ)). k.now) c.args.kinds) c.in_err-body.field-0.0 c.body_of.new.known.items
-    (subst (λ (ts : List TableDef). Answers (λ (b : Body). b) (Err c.in_err-body.field-0.0) c.body_of.new.known.items
-    (BodyOf ts c.is_some-parameters.result c.args.statement.now c.in_ok-known.known.items)) c.tables.ensures c.in_err-body.ensures))
+    c.in_err-body.ensures)
 
 pub returns : goal.returns
 returns c =
@@ -30,6 +26,5 @@ returns c =
     c.in_ok-known.known.items c.in_ok-known.ensures c.is_some-parameters.result
     (c.is_some-parameters.ensures ∙ stands_same (λ (k : Bor (List ℕ)). k.now) c.args.kinds)
     c.in_ok-body.body c.in_ok-body.columns c.body_of.new.known.items c.in_ok-kinds.kinds
-    (subst (λ (ts : List TableDef). BodyOf ts c.is_some-parameters.result c.args.statement.now c.in_ok-known.known.items
-    (Ok ((c.in_ok-body.body, c.in_ok-body.columns), c.body_of.new.known.items))) c.tables.ensures c.in_ok-body.ensures)
+    c.in_ok-body.ensures
     c.in_ok-kinds.ensures

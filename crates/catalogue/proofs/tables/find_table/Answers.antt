@@ -1,19 +1,18 @@
-use Rattle.std.proofs.Common.{ap, sym, ◌∙◌, arith}
-use Rattle.catalogue.proofs.TableLemmas.{table_here, table_on, table_none}
+use Rattle.std.proofs.Common.{ap, ◌∙◌}
+use Rattle.schema.specs.declared.catalogue.TableDef.{TableDef}
+use Rattle.named_list.specs.Names.{found_from}
+use Rattle.catalogue.proofs.TableLemmas.{table_is_found, table_is_few}
 use Rattle.catalogue.proofs.tables.find_table.Goals as goal
 
-pub returns-then-eq-clause-found : goal.returns-then-eq-clause-found
-returns-then-eq-clause-found c =
-    table_here c.args.name.now c.args.tables.now c.loop-table.table-index c.loop-table.number c.table-item.result
-    (omega arith) c.table-item.is (sym c.eq.ensures ∙ c.if-eq.true) c.loop-table.invariant.1
+pub returns-in-Some-clause-found : goal.returns-in-Some-clause-found
+returns-in-Some-clause-found c =
+    c.in-Some.ensures.found ∙ ap (λ n. found_from (λ (t : TableDef). t.name) 0 n c.args.tables.now) c.as_str.ensures
+    ∙ table_is_found 0 c.args.name.now c.args.tables.now
 
-pub loop-table-preserved : goal.loop-table-preserved
-loop-table-preserved c = (
-  omega arith,
-  table_on c.args.name.now c.args.tables.now c.loop-table.table-index c.loop-table.number c.table-item.result
-      (omega arith) c.table-item.is (sym c.eq.ensures ∙ c.if-eq.false) c.loop-table.invariant.1,
-)
+pub returns-in-Some-clause-few : goal.returns-in-Some-clause-few
+returns-in-Some-clause-few c = table_is_few c.args.tables.now c.in-Some.number c.in-Some.table.now c.requires.1 c.in-Some.ensures.table
 
-pub returns-clause-found : goal.returns-clause-found
-returns-clause-found c =
-    table_none c.args.name.now c.args.tables.now c.loop-table.table-index c.loop-table.number (omega arith) c.loop-table.invariant.1
+pub returns-in-None-clause-found : goal.returns-in-None-clause-found
+returns-in-None-clause-found c =
+    c.in-None.ensures.found ∙ ap (λ n. found_from (λ (t : TableDef). t.name) 0 n c.args.tables.now) c.as_str.ensures
+    ∙ table_is_found 0 c.args.name.now c.args.tables.now
