@@ -16,7 +16,7 @@ use Rattle.typed_sql.specs.declared.typed.TypedForm.TheVariants as form
 use Rattle.typed_sql.specs.declared.typed.TypedSumPart.{TypedSumPart}
 use Rattle.typed_sql.specs.declared.typed.TypedProductPart.{TypedProductPart}
 use Rattle.typed_sql.specs.Places.{same_kind, takes as takes_kind}
-use Rattle.checked_sql.specs.Sound.{Names, Formed, Node, chain_kind, form_in, formed_of, is_column, is_parameter, is_sound, is_taken, is_value, node_in, stands, whole}
+use Rattle.checked_sql.specs.Sound.{Names, Formed, Node, chain_kind, form_in, formed_of, is_column, is_parameter, is_some_test, is_sound, is_taken, is_value, node_in, stands, whole}
 
 module _ (names : Names) where
   abbrev pub summand_in : TypedSumPart → Node
@@ -125,8 +125,8 @@ module _ (names : Names) where
   pub gives_is_null : (f : TypedForm) (kind : ColType) (of : TypedExpr) (tests : List Truth) → f ≡ form.IsNull of tests → (form_in names f).gives kind ≡ same_kind Bool kind
   gives_is_null f kind of tests is = ap (λ (r : Formed). r.gives kind) (at_is_null f of tests is)
 
-  pub fits_is_null : (f : TypedForm) (of : TypedExpr) (tests : List Truth) → f ≡ form.IsNull of tests → (form_in names f).fits ≡ stands names Any of
-  fits_is_null f of tests is = ap (λ (r : Formed). r.fits) (at_is_null f of tests is) ∙ taken_is Any of
+  pub fits_is_null : (f : TypedForm) (of : TypedExpr) (tests : List Truth) → f ≡ form.IsNull of tests → (form_in names f).fits ≡ (is_some_test tests && stands names Any of)
+  fits_is_null f of tests is = ap (λ (r : Formed). r.fits) (at_is_null f of tests is) ∙ ap (λ (b : Truth). is_some_test tests && b) (taken_is Any of)
 
   at_compare : (f : TypedForm) (how : Comparison) (left : TypedExpr) (right : TypedExpr) → f ≡ form.Compare how left right → form_in names f ≡ formed_of names (TypedForm-F.Compare how (node_in names left) (node_in names right))
   at_compare f how left right is = ap (form_in names) (is ∙ sym (form.rolls-Compare how left right))

@@ -16,7 +16,7 @@ use Rattle.typed_sql.specs.declared.typed.TypedForm.TheVariants as form
 use Rattle.typed_sql.specs.declared.typed.TypedSumPart.{TypedSumPart}
 use Rattle.typed_sql.specs.declared.typed.TypedProductPart.{TypedProductPart}
 use Rattle.typed_sql.specs.Places.{same_kind, takes as takes_kind}
-use Rattle.checked_sql.specs.Sound.{Names, are_fit, chain_kind, form_in, has_this, is_parameter, is_sound, is_value, stands}
+use Rattle.checked_sql.specs.Sound.{Names, are_fit, chain_kind, form_in, has_this, is_parameter, is_some_test, is_sound, is_value, stands}
 use Rattle.checked_sql.specs.OfCatalogue.{around}
 use Rattle.checked_sql.specs.Binding.{bound, bound_factor, bound_form, bound_summand, value_or}
 use Rattle.checked_sql.proofs.Forms.{fits_and, fits_column, fits_compare, fits_concat, fits_current, fits_is_null, fits_literal, fits_member, fits_minus, fits_not, fits_now, fits_or, fits_param, fits_product, fits_sum, fits_transaction, gives_and, gives_column, gives_compare, gives_concat, gives_current, gives_is_null, gives_literal, gives_member, gives_minus, gives_not, gives_now, gives_or, gives_param, gives_product, gives_sum, gives_transaction, sound_by_form}
@@ -213,7 +213,9 @@ module _ (columns : List ColumnDef) (kinds : List ColType) (values : List Value)
         let is = form.rolls-IsNull e tests in
         let to = bound_is_null values f e tests is in (
           λ kind at. gives_is_null after (bound_form values f) kind (bound values e) tests to ∙ (sym (gives_is_null before f kind e tests is) ∙ at),
-          λ fits. fits_is_null after (bound_form values f) (bound values e) tests to ∙ stands_kept Any e (ex x) (sym (fits_is_null before f e tests is) ∙ fits),
+          λ fits. let both = and_true (is_some_test tests) (stands before Any e) (sym (fits_is_null before f e tests is) ∙ fits) in
+              fits_is_null after (bound_form values f) (bound values e) tests to
+              ∙ both_true (is_some_test tests) (stands after Any (bound values e)) both.0 (stands_kept Any e (ex x) both.1),
         )
     layer (TypedForm-F.Compare how x y) =
         let a = e_of x in

@@ -104,11 +104,16 @@ abbrev pub chain : Node → List Node → Formed
 chain first nodes =
     giving (chain_kind first.kind (map (λ n. n.kind) nodes)) (is_taken Whole first && list_all (is_taken Whole) nodes)
 
+-- IS NULL and IS NOT NULL: one test or more
+abbrev pub is_some_test : List Truth → Truth
+is_some_test [] = false
+is_some_test (test ∷ tests) = true
+
 abbrev pub formed_of : Names → TypedForm-F Formed Node Node Node → Formed
 formed_of names (TypedForm-F.Or nodes) = giving Bool (list_all (is_taken (Like Bool)) nodes)
 formed_of names (TypedForm-F.And nodes) = giving Bool (list_all (is_taken (Like Bool)) nodes)
 formed_of names (TypedForm-F.Not node) = giving Bool (is_taken (Like Bool) node)
-formed_of names (TypedForm-F.IsNull node tests) = giving Bool (is_taken Any node)
+formed_of names (TypedForm-F.IsNull node tests) = giving Bool (is_some_test tests && is_taken Any node)
 formed_of names (TypedForm-F.Compare how left right) = giving Bool (is_taken Any left && is_taken (Like left.kind) right)
 formed_of names (TypedForm-F.Member node negated nodes) = giving Bool (is_taken Any node && list_all (is_taken (Like node.kind)) nodes)
 formed_of names (TypedForm-F.Concat nodes) = giving Text (list_all (is_taken (Like Text)) nodes)

@@ -129,8 +129,8 @@ pub fn bind(checked: &Checked, values: &[Value]) -> Result<Checked, CheckFault>
     // Memory was refused.
     ensures refused { IfErr result (λ fault. fault ≡ NoMemory) }
 {
-    let body = bound_body(values, &checked.body)?;
     let columns = copied_columns(&checked.columns)?;
+    let body = bound_body(values, &checked.body)?;
     Ok(Checked {
         body,
         columns,

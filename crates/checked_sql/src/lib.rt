@@ -15,3 +15,4 @@ mod write;
 
 pub use binding::bind;
 pub use of_catalogue::is_of;
+pub use values::is_value;

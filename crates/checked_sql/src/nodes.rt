@@ -1,14 +1,14 @@
 //! Whether each node of an expression has the type that the rules give it.
-ghost use Rattle.std.specs.Prelude.{◌≡◌};
+ghost use Rattle.std.specs.Prelude.{◌≡◌, ◌&&◌};
 ghost use Rattle.std.specs.List.{list_all};
-ghost use Rattle.typed_sql.specs.declared.asks.Takes.TheVariants.{Whole};
-ghost use Rattle.checked_sql.specs.Sound.{form_in, is_column, is_parameter, is_sound, names_of, stands};
+ghost use Rattle.typed_sql.specs.declared.asks.Takes.TheVariants.{Any, Whole};
+ghost use Rattle.checked_sql.specs.Sound.{form_in, is_column, is_parameter, is_some_test, is_sound, names_of, stands};
 
 use crate::kinds::{kind_of_product, kind_of_sum, same_kind, takes};
 use crate::names::Names;
 use crate::values::is_value;
 use pg_values::ColType;
-use pool_base::List;
+use pool_base::{Boxed, List};
 use typed_sql::{Takes, TypedExpr, TypedForm, TypedProductPart, TypedSumPart};
 
 /// Whether there is a column of that number, from 0, and type.
@@ -83,7 +83,7 @@ fn fits(names: &Names<'_>, form: &TypedForm) -> bool
         TypedForm::Or(parts) => all_stand(names, Takes::Like(ColType::Bool), parts.as_slice()),
         TypedForm::And(parts) => all_stand(names, Takes::Like(ColType::Bool), parts.as_slice()),
         TypedForm::Not(of) => stands(names, Takes::Like(ColType::Bool), of.get()),
-        TypedForm::IsNull { of, .. } => stands(names, Takes::Any, of.get()),
+        TypedForm::IsNull { of, tests } => is_tested(names, of, tests),
         TypedForm::Compare(_, left, right) => {
             let like = Takes::Like(left.get().kind);
             stands(names, Takes::Any, left.get()) && stands(names, like, right.get())
@@ -106,6 +106,17 @@ fn fits(names: &Names<'_>, form: &TypedForm) -> bool
         | TypedForm::CurrentTimestamp
         | TypedForm::Now
         | TypedForm::TransactionTimestamp => true,
+    }
+}
+
+/// The operand of IS NULL, with one test or more behind it.
+#[cycle(nodes)]
+fn is_tested(names: &Names<'_>, of: &Boxed<TypedExpr>, tests: &List<bool>) -> bool
+    ensures { result ≡ (is_some_test tests.now && stands (names_of names.now) Any of.now) }
+{
+    match tests.as_slice() {
+        [] => false,
+        [_, ..] => stands(names, Takes::Any, of.get()),
     }
 }
 

@@ -30,8 +30,8 @@ fn is_moment(micros: i64) -> bool
     FIRST_MOMENT <= micros && micros <= LAST_MOMENT
 }
 
-/// Whether a value is Null, or of that type and in its range.
-pub(crate) fn is_value(kind: ColType, value: &Value) -> bool
+/// Whether a value may stand in a column of a type: it is Null, or of that type and in its range.
+pub fn is_value(kind: ColType, value: &Value) -> bool
     ensures { result ≡ is_value kind value.now }
 {
     match value {

@@ -1,5 +1,5 @@
 -- Each node of what an expression is at its place has the type that the rules give it.
-use Rattle.std.proofs.Common.{◌≡◌, ◌∙◌, ℕ, ◌≤◌, ℤ, List, [], ◌∷◌, map, refl, ap, sym, subst, inl, inr}
+use Rattle.std.proofs.Common.{◌≡◌, ◌∙◌, ℕ, ◌≤◌, ℤ, List, [], ◌∷◌, length, map, arith, refl, ap, sym, subst, inl, inr}
 use Rattle.std.specs.Prelude.{◌⊎◌, Bool as Truth, true, false, Option, Some, None, Ok, Err, codes, pos, neg_ℤ}
 use Rattle.std.specs.List.{AllByRecursion, list_all}
 use Rattle.pg_values.specs.declared.col_type.ColType.{ColType}
@@ -29,7 +29,7 @@ use Rattle.typed_sql.specs.Typing.{Place, Typed, Layer, Form, Fits, fitting, Com
 use Rattle.typed_sql.specs.Meaning.{under}
 use Rattle.sound_check.proofs.Trees.{tree_layer}
 use Rattle.typed_sql.proofs.Forms.{typed_is}
-use Rattle.checked_sql.specs.Sound.{Names, chain_kind, form_in, is_column, is_parameter, is_sound, is_value, stands}
+use Rattle.checked_sql.specs.Sound.{Names, chain_kind, form_in, is_column, is_parameter, is_some_test, is_sound, is_value, stands}
 use Rattle.checked_sql.specs.OfCatalogue.{around}
 use Rattle.checked_sql.proofs.Forms.{fits_and, fits_column, fits_compare, fits_concat, fits_current, fits_is_null, fits_literal, fits_member, fits_minus, fits_not, fits_now, fits_or, fits_param, fits_product, fits_sum, fits_transaction, gives_and, gives_column, gives_compare, gives_concat, gives_current, gives_is_null, gives_literal, gives_member, gives_minus, gives_not, gives_now, gives_or, gives_param, gives_product, gives_sum, gives_transaction, sound_by_form}
 use Rattle.checked_sql.proofs.Kept.{and_true, both_true}
@@ -56,8 +56,14 @@ module _ (names : Names) where
   not_sound : (e : TypedExpr) → stands names (Like kind.Bool) e ≡ true → is_sound names (truth (form.Not e)) ≡ true
   not_sound e is = sound_if (truth (form.Not e)) (gives_not names (form.Not e) kind.Bool e refl) (fits_not names (form.Not e) e refl ∙ is)
 
-  null_sound : (e : TypedExpr) (tests : List Truth) → stands names Any e ≡ true → is_sound names (truth (form.IsNull e tests)) ≡ true
-  null_sound e tests is = sound_if (truth (form.IsNull e tests)) (gives_is_null names (form.IsNull e tests) kind.Bool e tests refl) (fits_is_null names (form.IsNull e tests) e tests refl ∙ is)
+  some_test : (tests : List Truth) → 1 ≤ length tests → is_some_test tests ≡ true
+  some_test [] some = absurd (omega arith)
+  some_test (test ∷ tests) some = refl
+
+  null_sound : (e : TypedExpr) (tests : List Truth) → 1 ≤ length tests → stands names Any e ≡ true → is_sound names (truth (form.IsNull e tests)) ≡ true
+  null_sound e tests some is =
+      sound_if (truth (form.IsNull e tests)) (gives_is_null names (form.IsNull e tests) kind.Bool e tests refl)
+      (fits_is_null names (form.IsNull e tests) e tests refl ∙ both_true (is_some_test tests) (stands names Any e) (some_test tests some) is)
 
   compare_sound : (how : Comparison) (a b : TypedExpr) → stands names Any a ≡ true → stands names (Like a.kind) b ≡ true → is_sound names (truth (form.Compare how a b)) ≡ true
   compare_sound how a b first second =
@@ -295,7 +301,7 @@ module _ (scope : Scope) where
     form_keeps (Expr-F.Not x) tree leaf =
         made (Stood (Like kind.Bool)) Sound (λ t. truth (form.Not t)) (Typed scope (e_of x) asks_bool) (ex x tree asks_bool) (λ t final is. not_sound (names_at final) t is)
     form_keeps (Expr-F.IsNull x tests) tree leaf =
-        made (Stood Any) Sound (λ t. truth (form.IsNull t tests)) (Typed scope (e_of x) asks_nothing) (ex x tree.0 asks_nothing) (λ t final is. null_sound (names_at final) t tests is)
+        made (Stood Any) Sound (λ t. truth (form.IsNull t tests)) (Typed scope (e_of x) asks_nothing) (ex x tree.0 asks_nothing) (λ t final is. null_sound (names_at final) t tests tree.1 is)
     form_keeps (Expr-F.Compare how x y) tree leaf = compared_keeps how (e_of x) (e_of y) (ex x tree.0) (ex y tree.1)
     form_keeps (Expr-F.Member x negated parts) tree leaf = λ known.
         among_keeps negated (e_of x) (map e_of parts) (ex x tree.0) (goods parts tree.1.1)
