@@ -1,0 +1,3 @@
+pub mod Forms
+mod Places
+pub mod Dates

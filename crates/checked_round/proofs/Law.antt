@@ -1,0 +1,181 @@
+-- What a check answers to the statement that a checked statement is spelled as.
+use Rattle.std.proofs.Common.{◌≡◌, ◌∙◌, ◌⊎◌, inl, inr, ℕ, List, [], ◌∷◌, map, refl, ap, sym, subst}
+use Rattle.std.specs.Prelude.{is_some, Bool as Truth, true, false, Option, Some, None, Result, Ok, Err, IfOk, IfErr, slice_get}
+use Rattle.pg_values.specs.declared.col_type.ColType.{ColType}
+use Rattle.pg_values.specs.declared.col_type.ColType.TheVariants as kind
+use Rattle.pg_values.specs.Kinds.{oid_number}
+use Rattle.schema.specs.declared.catalogue.TableDef.{TableDef}
+use Rattle.schema_print.specs.Allowed.{AreAllowed}
+use Rattle.sql_reader.specs.declared.fault.SqlFault.{SqlFault}
+use Rattle.sql_reader.specs.declared.fault.SqlFault.TheVariants as text
+use Rattle.sql_round.specs.Fits.{Fits}
+use Rattle.sql_tree.specs.Trees.{IsStatement}
+use Rattle.sql_tree.specs.declared.statement.Statement.{Statement}
+use Rattle.typed_sql.specs.declared.fault.CheckFault.{CheckFault}
+use Rattle.typed_sql.specs.declared.fault.CheckFault.TheVariants.{Refused, NoMemory}
+use Rattle.typed_sql.specs.Places.{or_text}
+use Rattle.typed_sql.specs.Steps.{Known, Answer, Fault, fault}
+use Rattle.catalogue.specs.declared.checked.Checked.{Checked}
+use Rattle.catalogue.specs.declared.checked.CheckedBody.{CheckedBody}
+use Rattle.catalogue.specs.declared.checked.CheckedBody.TheVariants as body
+use Rattle.catalogue.specs.declared.checked.ColumnDesc.{ColumnDesc}
+use Rattle.catalogue.specs.Checking.{AnswersCheck, BodyBehind, IsChecked}
+use Rattle.catalogue.specs.Statements.{Body, BodyOf, kind_numbered, kinds_listed, known_first, with_first}
+use Rattle.checked_sql.specs.OfCatalogue.{is_body, is_change, is_empty, is_insert, is_of, is_remove, of_table}
+use Rattle.checked_print.specs.Statements.{spelled_body, spelled_statement}
+use Rattle.checked_round.specs.declared.again.AgainFault.{AgainFault}
+use Rattle.checked_round.specs.declared.again.AgainFault.TheVariants as fault_of
+use Rattle.checked_round.specs.Reread.{CanBeRead, IsAnswer, IsLimit, IsSame}
+use Rattle.checked_round.specs.Again.{GivesKinds, IsAgain, SameEffect}
+use Rattle.checked_round.specs.Ranges.{is_formed_body, is_formed_statement}
+use Rattle.checked_round.proofs.Exprs.{known_of}
+use Rattle.checked_round.proofs.GrammarStatements.{statement_tree}
+use Rattle.checked_round.proofs.Numbers.{both_of}
+use Rattle.checked_round.proofs.Selects.{read_sure}
+use Rattle.checked_round.proofs.Sure.{Gave, Sure}
+use Rattle.checked_round.proofs.Tables.{MayHave}
+use Rattle.checked_round.proofs.Writes.{change_sure, insert_sure, remove_sure}
+
+-- ---- the types of the parameters
+
+numbered : (k : ColType) → kind_numbered (oid_number k) ≡ Ok (Some k)
+numbered kind.Bool = refl
+numbered kind.Int4 = refl
+numbered kind.Int8 = refl
+numbered kind.Text = refl
+numbered kind.Moment = refl
+
+listed : (kinds : List ColType) → kinds_listed (map oid_number kinds) ≡ Ok (known_of kinds)
+listed [] = refl
+listed (k ∷ kinds) =
+    ap (λ (first : Result (Option ColType) Fault). with_first first (kinds_listed (map oid_number kinds))) (numbered k)
+    ∙ ap (with_first (Ok (Some k))) (listed kinds)
+
+known_is : (numbers : Option (List ℕ)) (kinds : List ColType) → GivesKinds numbers kinds → known_first numbers ≡ Ok (known_of kinds)
+known_is None kinds is = ap (λ (ks : List ColType). Ok (known_of ks)) (sym is)
+known_is (Some numbers) kinds is = ap kinds_listed is ∙ listed kinds
+
+may_have : (numbers : Option (List ℕ)) (kinds : List ColType) → GivesKinds numbers kinds → MayHave (is_some numbers) kinds
+may_have None kinds is = inr is
+may_have (Some numbers) kinds is = inl refl
+
+texts : (kinds : List ColType) → map or_text (known_of kinds) ≡ kinds
+texts [] = refl
+texts (k ∷ kinds) = ap (λ (ks : List ColType). k ∷ ks) (texts kinds)
+
+-- ---- the body
+
+module _ (tables : List TableDef) (allowed : AreAllowed tables) (parameters : Truth) (kinds : List ColType) (may : MayHave parameters kinds) where
+  body_sure : (b : CheckedBody) (descs : List ColumnDesc) → is_body tables kinds b descs ≡ true → is_formed_body b ≡ true
+      → Sure (λ (x : Body). SameEffect tables x.0 b) (known_of kinds) (BodyOf tables parameters (spelled_body tables descs b))
+  body_sure (body.Read read) descs is well = read_sure tables allowed parameters kinds may read descs well is
+  body_sure (body.Insert insert) descs is well =
+      insert_sure tables allowed parameters kinds may insert well (both_of (is_empty descs) (of_table (is_insert kinds) (slice_get tables insert.table) insert) is).1
+  body_sure (body.Change change) descs is well =
+      change_sure tables allowed parameters kinds may change well (both_of (is_empty descs) (of_table (is_change kinds) (slice_get tables change.table) change) is).1
+  body_sure (body.Remove remove) descs is well =
+      remove_sure tables allowed parameters kinds may remove well (both_of (is_empty descs) (of_table (is_remove kinds) (slice_get tables remove.table) remove) is).1
+
+-- ---- the answer
+
+abbrev value_or : {A : Type 0} → A → Result A Fault → A
+value_or x (Ok y) = y
+value_or x (Err e) = x
+
+abbrev is_ok : {A : Type 0} → Result A Fault → Truth
+is_ok (Ok x) = true
+is_ok (Err e) = false
+
+module _ (tables : List TableDef) (checked : Checked) (numbers : Option (List ℕ)) (allowed : AreAllowed tables) (is : is_of tables checked ≡ true) (well : is_formed_statement checked ≡ true)
+    (given : GivesKinds numbers checked.kinds) where
+  abbrev s : Statement
+  s = spelled_statement tables checked
+
+  sure : (answer : Answer Body) → BodyBehind tables s (is_some numbers) (known_first numbers) answer → Gave (λ (x : Body). SameEffect tables x.0 checked.body) (known_of checked.kinds) answer
+  sure answer took =
+      body_sure tables allowed (is_some numbers) checked.kinds (may_have numbers checked.kinds given) checked.body checked.columns is well answer
+      (subst (λ (first : Result Known Fault). BodyBehind tables s (is_some numbers) first answer) (known_is numbers checked.kinds given) took)
+
+  again_by : (made : Checked) (known : Known) → made.kinds ≡ map or_text known → Gave (λ (x : Body). SameEffect tables x.0 checked.body) (known_of checked.kinds) (Ok ((made.body, made.columns), known))
+      → IsAgain tables checked (Ok made)
+  again_by made known kinds gave =
+      let same : ((made.body, made.columns), known) ≡ (gave.0, known_of checked.kinds) = ap (value_or ((made.body, made.columns), known)) gave.1 in (
+        subst (λ (b : CheckedBody). SameEffect tables b checked.body) (sym (ap (λ (x : Body × Known). x.0.0) same)) gave.2,
+        kinds ∙ (ap (λ (x : Body × Known). map or_text x.1) same ∙ texts checked.kinds),
+      )
+
+  pub is_again : (result : Result Checked CheckFault) → AnswersCheck tables s numbers result → IsAgain tables checked result
+  is_again (Ok made) answers = again_by made answers.0 answers.1 (sure (Ok ((made.body, made.columns), answers.0)) answers.2)
+  is_again (Err (Refused code name)) answers =
+      let gave = sure (Err (fault code.bytes name)) answers in
+      let f : false ≡ true = ap is_ok gave.1 in cc
+  is_again (Err NoMemory) answers = tt
+
+-- ---- from what is read to what is checked
+
+-- a statement that is spelled is one that is checked
+pub is_checked : (tables : List TableDef) (descs : List ColumnDesc) (b : CheckedBody) → IsChecked (spelled_body tables descs b)
+is_checked tables descs (body.Read read) = tt
+is_checked tables descs (body.Insert insert) = tt
+is_checked tables descs (body.Change change) = tt
+is_checked tables descs (body.Remove remove) = tt
+
+module _ (tables : List TableDef) (checked : Checked) (can : CanBeRead tables checked) where
+  answer_is : (numbers : List ℕ) → numbers ≡ map oid_number checked.kinds → (result : Result Checked CheckFault) → AnswersCheck tables (spelled_statement tables checked) (Some numbers) result
+      → IsAgain tables checked result
+  answer_is numbers given result answers = is_again tables checked (Some numbers) can.allowed can.of can.formed given result answers
+
+  pub same_of : (numbers : List ℕ) → numbers ≡ map oid_number checked.kinds → (result : Result Checked AgainFault) → IsAnswer tables (spelled_statement tables checked) numbers result
+      → IfOk result (IsSame tables checked)
+  same_of numbers given (Ok again) answers = answer_is numbers given (Ok again) answers
+  same_of numbers given (Err e) answers = tt
+
+  pub limit_of : (numbers : List ℕ) → numbers ≡ map oid_number checked.kinds → (result : Result Checked AgainFault) → IsAnswer tables (spelled_statement tables checked) numbers result
+      → IfErr result IsLimit
+  limit_of numbers given (Ok again) answers = tt
+  limit_of numbers given (Err (fault_of.Check (Refused code name))) answers = absurd (answer_is numbers given (Err (Refused code name)) answers)
+  limit_of numbers given (Err (fault_of.Check NoMemory)) answers = tt
+  limit_of numbers given (Err fault_of.Other) answers = absurd answers
+  limit_of numbers given (Err (fault_of.Text fault)) answers = answers
+  limit_of numbers given (Err fault_of.NoMemory) answers = tt
+
+-- ---- from what the text is read as
+
+is_limit : (e : SqlFault) → (e ≡ text.NoMemory) ⊎ (e ≡ text.TooLong) → IsLimit (fault_of.Text e)
+is_limit e (inl is) = subst (λ (x : SqlFault). IsLimit (fault_of.Text x)) (sym is) tt
+is_limit e (inr is) = subst (λ (x : SqlFault). IsLimit (fault_of.Text x)) (sym is) tt
+
+-- a check of what is read of a statement's text, and why it is not read
+pub read_answer : (tables : List TableDef) (s : Statement) (all : List Statement) (numbers : List ℕ) (result : Result Checked AgainFault)
+    → (IsStatement s → Fits s → all ≡ s ∷ []) → ((t : Statement) → all ≡ t ∷ [] → IsChecked t → IsAnswer tables t numbers result)
+    → IsStatement s → Fits s → IsChecked s → IsAnswer tables s numbers result
+read_answer tables s all numbers result read answers tree fits checked = answers s (read tree fits) checked
+
+pub text_answer : (tables : List TableDef) (s : Statement) (numbers : List ℕ) (e : SqlFault) → (IsStatement s → Fits s → (e ≡ text.NoMemory) ⊎ (e ≡ text.TooLong))
+    → IsStatement s → Fits s → IsChecked s → IsAnswer tables s numbers (Err (fault_of.Text e))
+text_answer tables s numbers e refused tree fits checked = is_limit e (refused tree fits)
+
+pub ruleset reread = (read_answer, text_answer)
+
+-- by the types of the parameters
+pub typed_answer : (tables : List TableDef) (s : Statement) (kinds : List ColType) (numbers : List ℕ) (result : Result Checked AgainFault) → numbers ≡ map oid_number kinds
+    → (IsStatement s → Fits s → IsChecked s → IsAnswer tables s numbers result) → IsStatement s → Fits s → IsChecked s → IsAnswer tables s (map oid_number kinds) result
+typed_answer tables s kinds numbers result is answers tree fits checked = subst (λ (ns : List ℕ). IsAnswer tables s ns result) is (answers tree fits checked)
+
+-- of the statement that a checked statement is spelled as
+answer_as : (tables : List TableDef) (checked : Checked) (s : Statement) (numbers : List ℕ) (result : Result Checked AgainFault) → s ≡ spelled_statement tables checked
+    → (IsStatement s → Fits s → IsChecked s → IsAnswer tables s numbers result) → CanBeRead tables checked → IsAnswer tables (spelled_statement tables checked) numbers result
+answer_as tables checked s numbers result is answers can =
+    subst (λ (t : Statement). IsAnswer tables t numbers result) is
+    (answers (subst IsStatement (sym is) (statement_tree tables checked can.allowed can.of can.formed)) (subst Fits (sym is) can.fits)
+    (subst IsChecked (sym is) (is_checked tables checked.columns checked.body)))
+
+pub again_same : (tables : List TableDef) (checked : Checked) (s : Statement) (result : Result Checked AgainFault) → s ≡ spelled_statement tables checked
+    → (IsStatement s → Fits s → IsChecked s → IsAnswer tables s (map oid_number checked.kinds) result) → CanBeRead tables checked → IfOk result (IsSame tables checked)
+again_same tables checked s result is answers can =
+    same_of tables checked can (map oid_number checked.kinds) refl result (answer_as tables checked s (map oid_number checked.kinds) result is answers can)
+
+pub again_limits : (tables : List TableDef) (checked : Checked) (s : Statement) (result : Result Checked AgainFault) → s ≡ spelled_statement tables checked
+    → (IsStatement s → Fits s → IsChecked s → IsAnswer tables s (map oid_number checked.kinds) result) → CanBeRead tables checked → IfErr result IsLimit
+again_limits tables checked s result is answers can =
+    limit_of tables checked can (map oid_number checked.kinds) refl result (answer_as tables checked s (map oid_number checked.kinds) result is answers can)
