@@ -1,0 +1,3 @@
+mod literals;
+mod statements;
+mod texts;
