@@ -87,9 +87,9 @@ fn each_statement_has_the_needs_of_its_class(rt: HostRuntime) -> Result<(), Fail
             columns: List::new(alloc),
             kinds: List::new(alloc),
         };
-        assert_eq!(rt; class_of(&checked), class);
-        assert_eq!(rt; lock_of(&checked), lock);
-        assert_eq!(rt; tables_mask(&checked), mask);
+        let needs = (class_of(&checked), lock_of(&checked), tables_mask(&checked));
+        drop(checked);
+        assert_eq!(rt; needs, (class, lock, mask));
     }
     Ok(())
 }

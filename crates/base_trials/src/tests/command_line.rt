@@ -108,11 +108,19 @@ const TABLE: [(&str, &str); 56] = [
     ("serve c s --journal", "none"),
 ];
 
+/// Finds a line that is not what the table has for it.
+fn failing<'a>(alloc: Global, rows: &[(&'a str, &str)]) -> Result<Option<&'a str>, Fail> {
+    for (line, expected) in rows {
+        let given = answer(alloc, line)?;
+        if given.as_str() != *expected {
+            return Ok(Some(line));
+        }
+    }
+    Ok(None)
+}
+
 #[test]
 fn lines_are_the_commands_of_the_table(rt: HostRuntime) -> Result<(), Fail> {
-    for (line, expected) in TABLE {
-        let given = answer(rt.alloc(), line)?;
-        assert_eq!(rt; given.as_str(), expected, "{line}");
-    }
+    assert_eq!(rt; failing(rt.alloc(), &TABLE)?, None);
     Ok(())
 }

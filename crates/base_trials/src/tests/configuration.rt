@@ -87,13 +87,21 @@ const LINES: [(&str, &str); 32] = [
     ),
 ];
 
+/// Finds a fourth line that is not answered as the table has it.
+fn failing<'a>(alloc: Global, rows: &[(&'a str, &str)]) -> Result<Option<&'a str>, Fail> {
+    for (line, expected) in rows {
+        let text = format!(in alloc; "{GOOD}{line}\nport = 7")?;
+        let given = answer(alloc, text.as_str())?;
+        if given.as_str() != *expected {
+            return Ok(Some(line));
+        }
+    }
+    Ok(None)
+}
+
 #[test]
 fn a_fourth_line_is_answered_by_the_table(rt: HostRuntime) -> Result<(), Fail> {
-    for (line, expected) in LINES {
-        let text = format!(in rt.alloc(); "{GOOD}{line}\nport = 7")?;
-        let given = answer(rt.alloc(), text.as_str())?;
-        assert_eq!(rt; given.as_str(), expected, "{line}");
-    }
+    assert_eq!(rt; failing(rt.alloc(), &LINES)?, None);
     Ok(())
 }
 

@@ -58,7 +58,9 @@ fn is_answered(
         return false;
     }
     let answer = check(alloc, tables, statement, kinds);
-    is_told(&answer, kinds.is_some(), wanted)
+    let told = is_told(&answer, kinds.is_some(), wanted);
+    drop(answer);
+    told
 }
 
 /// Whether what is answered to the one statement of a text is what is wanted.

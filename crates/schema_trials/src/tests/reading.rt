@@ -167,12 +167,19 @@ const TEXTS: [(&str, u32); 57] = [
     ("\n\nDROP TABLE t;", 3),
 ];
 
+/// Finds a text whose first fault is in another line.
+fn failing<'a>(alloc: Global, rows: &[(&'a str, u32)]) -> Option<&'a str> {
+    for (text, wanted) in rows {
+        if line(alloc, text.as_bytes()) != *wanted {
+            return Some(text);
+        }
+    }
+    None
+}
+
 #[test]
 fn a_schema_is_refused_in_the_line_of_its_first_fault(rt: HostRuntime) {
-    let alloc = rt.alloc();
-    for (text, wanted) in TEXTS {
-        assert!(rt; line(alloc, text.as_bytes()) == wanted, "{text}");
-    }
+    assert_eq!(rt; failing(rt.alloc(), &TEXTS), None);
 }
 
 /// Bytes that are no text, each in the second line.

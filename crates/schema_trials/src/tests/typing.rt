@@ -3,6 +3,7 @@
 use self::Place::{Anywhere, Filter};
 use self::Wanted::{Fault, First, Kind, Least, Well};
 use self::Word::{Column, ColumnOf, Equal, Int, Minus, Null, Or, Parameter, Plus, Quoted, Truth};
+use named_list::NamedList;
 use pg_values::{ColType, Value};
 use pool_base::{Boxed, List, NoMemory, Text};
 use schema::{ColumnDef, Fill, TableDef};
@@ -141,7 +142,7 @@ const COLUMNS: [(&str, ColType); 5] = [
 
 /// A table `t` with a column of each type.
 fn table(alloc: Global) -> Result<TableDef, NoMemory> {
-    let mut columns = List::new(alloc);
+    let mut columns = NamedList::new(alloc);
     for (name, kind) in COLUMNS {
         columns.push(ColumnDef {
             name: Text::from_str(alloc, name)?,

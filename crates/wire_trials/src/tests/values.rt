@@ -89,28 +89,46 @@ const INT8_TEXTS: [(&str, i64); 2] = [
     ("-9223372036854775808", i64::MIN),
 ];
 
+/// Finds a text that is not read as its bool.
+fn failing_bools<'a>(alloc: Global, rows: &[(&'a str, bool)]) -> Option<&'a str> {
+    for (text, want) in rows {
+        if !reads(alloc, ColType::Bool, text, &Value::Bool(*want)) {
+            return Some(text);
+        }
+    }
+    None
+}
+
+/// Finds a text that is not read as its int4.
+fn failing_int4s<'a>(alloc: Global, rows: &[(&'a str, i32)]) -> Option<&'a str> {
+    for (text, want) in rows {
+        if !reads(alloc, ColType::Int4, text, &Value::Int4(*want)) {
+            return Some(text);
+        }
+    }
+    None
+}
+
+/// Finds a text that is not read as its int8.
+fn failing_int8s<'a>(alloc: Global, rows: &[(&'a str, i64)]) -> Option<&'a str> {
+    for (text, want) in rows {
+        if !reads(alloc, ColType::Int8, text, &Value::Int8(*want)) {
+            return Some(text);
+        }
+    }
+    None
+}
+
 // PostgreSQL 15, "Boolean Type" and "Numeric Types".
 #[test]
-fn bools_and_numbers_are_read(rt: HostRuntime) {
-    let alloc = rt.alloc();
-    for (text, want) in BOOL_TEXTS {
-        assert!(rt;
-            reads(alloc, ColType::Bool, text, &Value::Bool(want)),
-            "{text}"
-        );
-    }
-    for (text, want) in INT4_TEXTS {
-        assert!(rt;
-            reads(alloc, ColType::Int4, text, &Value::Int4(want)),
-            "{text}"
-        );
-    }
-    for (text, want) in INT8_TEXTS {
-        assert!(rt;
-            reads(alloc, ColType::Int8, text, &Value::Int8(want)),
-            "{text}"
-        );
-    }
+fn bools_are_read(rt: HostRuntime) {
+    assert_eq!(rt; failing_bools(rt.alloc(), &BOOL_TEXTS), None);
+}
+
+#[test]
+fn numbers_are_read(rt: HostRuntime) {
+    assert_eq!(rt; failing_int4s(rt.alloc(), &INT4_TEXTS), None);
+    assert_eq!(rt; failing_int8s(rt.alloc(), &INT8_TEXTS), None);
 }
 
 // The numbers were computed with Python's datetime, which is proleptic Gregorian too.
@@ -129,15 +147,19 @@ const MOMENT_TEXTS: [(&str, i64); 12] = [
     ("9999-12-31 23:59+00:01", 252_455_615_880_000_000),
 ];
 
+/// Finds a text that is not read as its moment.
+fn failing_moments<'a>(alloc: Global, rows: &[(&'a str, i64)]) -> Option<&'a str> {
+    for (text, want) in rows {
+        if !reads(alloc, ColType::Moment, text, &Value::Moment(*want)) {
+            return Some(text);
+        }
+    }
+    None
+}
+
 #[test]
 fn moments_are_read(rt: HostRuntime) {
-    let alloc = rt.alloc();
-    for (text, want) in MOMENT_TEXTS {
-        assert!(rt;
-            reads(alloc, ColType::Moment, text, &Value::Moment(want)),
-            "{text}"
-        );
-    }
+    assert_eq!(rt; failing_moments(rt.alloc(), &MOMENT_TEXTS), None);
 }
 
 const REFUSED_TEXTS: [(ColType, &str, [u8; 5]); 28] = [
@@ -171,13 +193,20 @@ const REFUSED_TEXTS: [(ColType, &str, [u8; 5]); 28] = [
     (ColType::Int4, "x\0", *b"22021"),
 ];
 
+/// Finds a text that is not refused by its code.
+fn failing_refused<'a>(alloc: Global, rows: &[(ColType, &'a str, [u8; 5])]) -> Option<&'a str> {
+    for (kind, text, want) in rows {
+        if code_of(from_text(alloc, *kind, text.as_bytes())) != Some(*want) {
+            return Some(text);
+        }
+    }
+    None
+}
+
 #[test]
 fn texts_are_refused_by_their_codes(rt: HostRuntime) {
     let alloc = rt.alloc();
-    for (kind, text, want) in REFUSED_TEXTS {
-        let code = code_of(from_text(alloc, kind, text.as_bytes()));
-        assert_eq!(rt; code, Some(want), "{text}");
-    }
+    assert_eq!(rt; failing_refused(alloc, &REFUSED_TEXTS), None);
     let overlong = code_of(from_text(alloc, ColType::Bool, &[0xC0, 0x80]));
     assert_eq!(rt; overlong, Some(*b"22021"));
 }
@@ -271,28 +300,46 @@ const MOMENT_FORMS: [(i64, [u8; 8]); 6] = [
     ),
 ];
 
+/// Finds an int4 that is written or read in another form.
+fn failing_int4_forms(alloc: Global, rows: &[(i32, [u8; 4])]) -> Option<i32> {
+    for (number, form) in rows {
+        if !has_form(alloc, ColType::Int4, &Value::Int4(*number), form) {
+            return Some(*number);
+        }
+    }
+    None
+}
+
+/// Finds an int8 that is written or read in another form.
+fn failing_int8_forms(alloc: Global, rows: &[(i64, [u8; 8])]) -> Option<i64> {
+    for (number, form) in rows {
+        if !has_form(alloc, ColType::Int8, &Value::Int8(*number), form) {
+            return Some(*number);
+        }
+    }
+    None
+}
+
+/// Finds a moment that is written or read in another form.
+fn failing_moment_forms(alloc: Global, rows: &[(i64, [u8; 8])]) -> Option<i64> {
+    for (number, form) in rows {
+        if !has_form(alloc, ColType::Moment, &Value::Moment(*number), form) {
+            return Some(*number);
+        }
+    }
+    None
+}
+
 // What `int4send`, `int8send` and `timestamptz_send` of PostgreSQL 15 gave for these values.
 #[test]
-fn boundary_values_have_the_forms_of_postgresql(rt: HostRuntime) {
-    let alloc = rt.alloc();
-    for (number, form) in INT4_FORMS {
-        assert!(rt;
-            has_form(alloc, ColType::Int4, &Value::Int4(number), &form),
-            "{number}"
-        );
-    }
-    for (number, form) in INT8_FORMS {
-        assert!(rt;
-            has_form(alloc, ColType::Int8, &Value::Int8(number), &form),
-            "{number}"
-        );
-    }
-    for (micros, form) in MOMENT_FORMS {
-        assert!(rt;
-            has_form(alloc, ColType::Moment, &Value::Moment(micros), &form),
-            "{micros}"
-        );
-    }
+fn numbers_have_the_forms_of_postgresql(rt: HostRuntime) {
+    assert_eq!(rt; failing_int4_forms(rt.alloc(), &INT4_FORMS), None);
+    assert_eq!(rt; failing_int8_forms(rt.alloc(), &INT8_FORMS), None);
+}
+
+#[test]
+fn moments_have_the_forms_of_postgresql(rt: HostRuntime) {
+    assert_eq!(rt; failing_moment_forms(rt.alloc(), &MOMENT_FORMS), None);
 }
 
 const TEXT_FORMS: [(&str, &[u8]); 5] = [
@@ -334,12 +381,19 @@ const REFUSED_FORMS: [(ColType, &[u8], [u8; 5]); 9] = [
     (ColType::Text, &[0xED, 0xA0, 0x80], *b"22021"),
 ];
 
+/// Finds bytes that are not refused by their code.
+fn failing_bytes<'a>(alloc: Global, rows: &[(ColType, &'a [u8], [u8; 5])]) -> Option<&'a [u8]> {
+    for (kind, bytes, want) in rows {
+        if code_of(from_binary(alloc, *kind, bytes)) != Some(*want) {
+            return Some(bytes);
+        }
+    }
+    None
+}
+
 #[test]
 fn hostile_bytes_are_refused_by_their_codes(rt: HostRuntime) {
-    for (kind, bytes, want) in REFUSED_FORMS {
-        let code = code_of(from_binary(rt.alloc(), kind, bytes));
-        assert_eq!(rt; code, Some(want), "{bytes:?}");
-    }
+    assert_eq!(rt; failing_bytes(rt.alloc(), &REFUSED_FORMS), None);
 }
 
 // PostgreSQL 15, the catalogue pg_type.
