@@ -1,6 +1,7 @@
 //! Reading a text, and counting its statements.
 ghost use Rattle.std.specs.Prelude.{◌≡◌, ◌<◌, ◌≤◌, ◌*◌, ◌^◌, length, IfOk, IfErr};
-ghost use Rattle.sql_profile.specs.Text.{IsTextOf, IsRefusedBy};
+ghost use Rattle.sql_profile.specs.Named.{IsNamedBy};
+ghost use Rattle.sql_profile.specs.Text.{IsTextOf};
 
 use sql_profile::{SqlFault, read_statements};
 use std::alloc::Global;
@@ -12,7 +13,7 @@ fn read_once(alloc: Global, text: &str) -> Result<usize, SqlFault>
         × (count ≡ length all)) }
     ensures only { (all : _) → IsTextOf text.now all → IfOk result (λ count. count ≡ length all) }
     ensures few { IfOk result (λ count. count ≤ 256) }
-    ensures refused { IfErr result (IsRefusedBy text.now) }
+    ensures refused { IfErr result (IsNamedBy text.now) }
 {
     let statements = read_statements(alloc, text)?;
     Ok(statements.len())
@@ -25,7 +26,7 @@ pub fn read_times(alloc: Global, text: &str, times: u32) -> Result<u64, SqlFault
     ensures found { IfOk result (λ total. 0 < times → (all : _) × IsTextOf text.now all
         × (total ≡ times * length all)) }
     // It is refused as the reader refuses it.
-    ensures refused { IfErr result (IsRefusedBy text.now) }
+    ensures refused { IfErr result (IsNamedBy text.now) }
 {
     let mut total: u64 = 0;
     for done in 0..times {

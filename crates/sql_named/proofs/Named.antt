@@ -1,5 +1,5 @@
 -- What is told of a refused text is what the rules say of what is due.
-use Rattle.std.proofs.Common.{◌≡◌, ℕ, List, length, Result, Ok, Err, refl}
+use Rattle.std.proofs.Common.{◌≡◌, ℕ, List, length, Result, Ok, Err, refl, sym, subst}
 use Rattle.std.specs.Prelude.{IfErr}
 use Rattle.sql_tokens.specs.declared.token.Placed.{Placed}
 use Rattle.sql_tokens.specs.declared.token.Token.{Token}
@@ -9,11 +9,12 @@ use Rattle.sql_text.specs.declared.fault.TextError.TheVariants as errors
 use Rattle.sql_text.specs.declared.fault.TextFault.{TextFault}
 use Rattle.sql_text.specs.declared.fault.TextFault.TheVariants as text_fault
 use Rattle.sql_text.specs.Reading.{text_at}
+use Rattle.sql_text.proofs.Reaches.{bare_told, many_told}
 use Rattle.sql_text.proofs.Whole.{is_found, is_few, has_from, is_place, is_deep, is_bare, is_many}
 use Rattle.sql_reader.specs.declared.fault.SqlFault.{SqlFault}
 use Rattle.sql_reader.specs.declared.fault.SqlFault.TheVariants.{Syntax, Outside, TooLong, NoMemory}
 use Rattle.sql_reader.specs.Text.{tokens_of, places_of, told_of, GoesWrong, AreRead, IsTextOf, IsReadAs, IsRefusedBy, IsToldAs}
-use Rattle.sql_named.specs.Named.{DueAt, IsNamedBy}
+use Rattle.sql_named.specs.Named.{DueAt, IsNamedBy, LacksFromAt, HasTooMany}
 use Rattle.sql_named.proofs.Texts.{text_due}
 
 goes_wrong : (tokens : List Token) (fault : TextFault) → text_at 64 tokens ≡ Err fault → GoesWrong tokens fault
@@ -49,3 +50,12 @@ module _ (text : List ℕ) where
   named_of (Err (Syntax place)) only refused told = by_text (Syntax place) refused.0 refused.1 only (λ fault is. told refused.0 fault refused.1 is) (text_at 64 (tokens_of refused.0)) refl
   named_of (Err (Outside name place)) only refused told = by_text (Outside name place) refused.0 refused.1 only (λ fault is. told refused.0 fault refused.1 is) (text_at 64 (tokens_of refused.0)) refl
   named_of (Err TooLong) only refused told = by_text TooLong refused.0 refused.1 only (λ fault is. told refused.0 fault refused.1 is) (text_at 64 (tokens_of refused.0)) refl
+
+  module _ (r : Result (List Statement) SqlFault) (told : (placed : List Placed) (fault : TextFault) → TokensOf text placed → text_at 64 (tokens_of placed) ≡ Err fault → IsToldAs r (told_of (tokens_of placed) (places_of placed) (length text) fault)) where
+    -- the first `*` or `count(*)` without FROM is told
+    pub without_from_told : (place : ℕ) → LacksFromAt text place → IsToldAs r (Syntax place)
+    without_from_told place h = subst (λ (p : ℕ). IsToldAs r (Syntax p)) (sym h.4) (told h.0 (text_fault.WithoutFrom h.2) h.1 (bare_told 64 (tokens_of h.0) h.2 h.3))
+
+    -- so is the first statement too many
+    pub too_many_told : HasTooMany text → IsToldAs r TooLong
+    too_many_told h = told h.0 (text_fault.TooMany h.2) h.1 (many_told 64 (tokens_of h.0) h.2 h.3)

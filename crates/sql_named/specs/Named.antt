@@ -5,6 +5,8 @@ use Rattle.sql_tokens.specs.declared.token.Token.{Token}
 use Rattle.sql_tokens.specs.Tokens.{TokensOf}
 use Rattle.sql_text.specs.declared.fault.TextFault.{TextFault}
 use Rattle.sql_text.specs.declared.fault.TextFault.TheVariants as text_fault
+use Rattle.sql_text.specs.Grammar.{IsWithoutFrom, IsTooMany}
+use Rattle.sql_refusal.specs.Refusal.{place_of}
 use Rattle.sql_reader.specs.declared.fault.SqlFault.{SqlFault}
 use Rattle.sql_reader.specs.declared.fault.SqlFault.TheVariants.{NoMemory}
 use Rattle.sql_reader.specs.Text.{tokens_of, places_of, told_of, GoesWrong}
@@ -20,3 +22,12 @@ abbrev pub IsNamedBy : List ℕ → SqlFault → Type 0
 IsNamedBy text NoMemory = Unit {0}
 IsNamedBy text e = (placed : List Placed) × TokensOf text placed × (fault : TextFault) × GoesWrong (tokens_of placed) fault
     × DueAt (tokens_of placed) fault × (e ≡ told_of (tokens_of placed) (places_of placed) (length text) fault)
+
+-- Statements that may stand stand before a SELECT of `*` or `count(*)` without FROM, and the `*` or `count` is at this byte.
+abbrev pub LacksFromAt : List ℕ → ℕ → Type 0
+LacksFromAt text place = (placed : List Placed) × TokensOf text placed × (left : ℕ) × IsWithoutFrom 64 (tokens_of placed) left
+    × (place ≡ place_of (places_of placed) (length text) left)
+
+-- As many statements as a text may have stand, each of them may stand, and one more begins.
+abbrev pub HasTooMany : List ℕ → Type 0
+HasTooMany text = (placed : List Placed) × TokensOf text placed × (left : ℕ) × IsTooMany 64 (tokens_of placed) left

@@ -1,7 +1,8 @@
 //! The reader of texts, with what its refusals are named by.
 ghost use Rattle.std.specs.Prelude.{◌<◌, ◌^◌, length, IfOk, IfErr};
-ghost use Rattle.sql_reader.specs.Text.{IsTextOf, IsReadAs};
-ghost use Rattle.sql_named.specs.Named.{IsNamedBy};
+ghost use Rattle.sql_reader.specs.declared.fault.SqlFault.TheVariants.{Syntax, TooLong};
+ghost use Rattle.sql_reader.specs.Text.{IsTextOf, IsReadAs, IsToldAs};
+ghost use Rattle.sql_named.specs.Named.{IsNamedBy, LacksFromAt, HasTooMany};
 
 use pool_base::List;
 use sql_reader::SqlFault;
@@ -22,6 +23,11 @@ pub fn read_statements(alloc: Global, text: &str) -> Result<List<Statement>, Sql
     // What is refused goes wrong at the place that is told, or passes a limit, and is told what the
     // rules say of what is due at the token that is refused.
     ensures named { IfErr result (IsNamedBy text.now) }
+    // What is wrong behind a `*` or `count(*)` without FROM, or behind a statement too many, is not
+    // told.
+    ensures without_from { (place : _) → LacksFromAt text.now place
+        → IsToldAs result (Syntax place) }
+    ensures too_many { HasTooMany text.now → IsToldAs result TooLong }
 {
     sql_reader::read_statements(alloc, text)
 }
