@@ -1,6 +1,6 @@
 -- Every expression whose nodes have the types that the rules give them is said by its spelling.
 use Rattle.std.proofs.Common.{rules, ◌≡◌, ◌∙◌, ◌≤◌, ℕ, zero, suc, List, [], ◌∷◌, length, map, refl, ap, sym, subst, arith}
-use Rattle.std.specs.Prelude.{◌&&◌, nat_le, fold, Bool as Truth, true, false, Option, Some, None, Ok, option_map, slice_get}
+use Rattle.std.specs.Prelude.{◌&&◌, nat_le, Bool as Truth, true, false, Option, Some, None, Ok, option_map, slice_get}
 use Rattle.std.specs.List.{list_all}
 use Rattle.std.proofs.lemmas.Bool.{leb-true}
 use Rattle.std.proofs.lemmas.List.{length-map}

@@ -1,5 +1,5 @@
 -- What a check answers to the statement that a checked statement is spelled as.
-use Rattle.std.proofs.Common.{◌≡◌, ◌∙◌, ◌⊎◌, inl, inr, ℕ, List, [], ◌∷◌, map, refl, ap, sym, subst}
+use Rattle.std.proofs.Common.{◌≡◌, ◌∙◌, ◌⊎◌, ◌<◌, ◌^◌, inl, inr, ℕ, List, [], ◌∷◌, length, map, refl, ap, sym, subst, arith}
 use Rattle.std.specs.Prelude.{is_some, Bool as Truth, true, false, Option, Some, None, Result, Ok, Err, IfOk, IfErr, slice_get}
 use Rattle.pg_values.specs.declared.col_type.ColType.{ColType}
 use Rattle.pg_values.specs.declared.col_type.ColType.TheVariants as kind
@@ -8,6 +8,8 @@ use Rattle.schema.specs.declared.catalogue.TableDef.{TableDef}
 use Rattle.schema_print.specs.Allowed.{AreAllowed}
 use Rattle.sql_reader.specs.declared.fault.SqlFault.{SqlFault}
 use Rattle.sql_reader.specs.declared.fault.SqlFault.TheVariants as text
+use Rattle.sql_print.specs.Printed.{statement_text}
+use Rattle.sql_reader.specs.Text.{IsReadAs, IsTextOf}
 use Rattle.sql_round.specs.Fits.{Fits}
 use Rattle.sql_tree.specs.Trees.{IsStatement}
 use Rattle.sql_tree.specs.declared.statement.Statement.{Statement}
@@ -25,7 +27,7 @@ use Rattle.checked_sql.specs.OfCatalogue.{is_body, is_change, is_empty, is_inser
 use Rattle.checked_print.specs.Statements.{spelled_body, spelled_statement}
 use Rattle.checked_round.specs.declared.again.AgainFault.{AgainFault}
 use Rattle.checked_round.specs.declared.again.AgainFault.TheVariants as fault_of
-use Rattle.checked_round.specs.Reread.{CanBeRead, IsAnswer, IsLimit, IsSame}
+use Rattle.checked_round.specs.Reread.{AnswersOne, AnswersText, CanBeRead, IsAnswer, IsLimit, IsMemory, IsOne, IsSame, IsWithinLimits, text_of}
 use Rattle.checked_round.specs.Again.{GivesKinds, IsAgain, SameEffect}
 use Rattle.checked_round.specs.Ranges.{is_formed_body, is_formed_statement}
 use Rattle.checked_round.proofs.Exprs.{known_of}
@@ -125,57 +127,113 @@ module _ (tables : List TableDef) (checked : Checked) (can : CanBeRead tables ch
       → IsAgain tables checked result
   answer_is numbers given result answers = is_again tables checked (Some numbers) can.allowed can.of can.formed given result answers
 
-  pub same_of : (numbers : List ℕ) → numbers ≡ map oid_number checked.kinds → (result : Result Checked AgainFault) → IsAnswer tables (spelled_statement tables checked) numbers result
-      → IfOk result (IsSame tables checked)
+  abbrev written : Statement
+  written = spelled_statement tables checked
+
+  pub same_of : (numbers : List ℕ) → numbers ≡ map oid_number checked.kinds → (result : Result Checked AgainFault) → IsAnswer tables written numbers result → IfOk result (IsSame tables checked)
   same_of numbers given (Ok again) answers = answer_is numbers given (Ok again) answers
   same_of numbers given (Err e) answers = tt
 
-  pub limit_of : (numbers : List ℕ) → numbers ≡ map oid_number checked.kinds → (result : Result Checked AgainFault) → IsAnswer tables (spelled_statement tables checked) numbers result
-      → IfErr result IsLimit
+  pub limit_of : (numbers : List ℕ) → numbers ≡ map oid_number checked.kinds → (result : Result Checked AgainFault) → IsAnswer tables written numbers result → IfErr result IsLimit
   limit_of numbers given (Ok again) answers = tt
   limit_of numbers given (Err (fault_of.Check (Refused code name))) answers = absurd (answer_is numbers given (Err (Refused code name)) answers)
   limit_of numbers given (Err (fault_of.Check NoMemory)) answers = tt
   limit_of numbers given (Err fault_of.Other) answers = absurd answers
-  limit_of numbers given (Err (fault_of.Text fault)) answers = answers
+  limit_of numbers given (Err (fault_of.Text (text.Syntax place))) answers = absurd answers
+  limit_of numbers given (Err (fault_of.Text (text.Outside name place))) answers = absurd answers
+  limit_of numbers given (Err (fault_of.Text text.TooLong)) answers = tt
+  limit_of numbers given (Err (fault_of.Text text.NoMemory)) answers = tt
   limit_of numbers given (Err fault_of.NoMemory) answers = tt
+
+  -- a text within the limits passes none
+  pub memory_of : IsWithinLimits (text_of tables checked) → (numbers : List ℕ) → (result : Result Checked AgainFault) → IsAnswer tables written numbers result → IfErr result IsLimit → IfErr result IsMemory
+  memory_of within numbers (Ok again) answers limit = tt
+  memory_of within numbers (Err (fault_of.Check (Refused code name))) answers limit = limit
+  memory_of within numbers (Err (fault_of.Check NoMemory)) answers limit = tt
+  memory_of within numbers (Err fault_of.Other) answers limit = limit
+  memory_of within numbers (Err (fault_of.Text (text.Syntax place))) answers limit = limit
+  memory_of within numbers (Err (fault_of.Text (text.Outside name place))) answers limit = limit
+  memory_of within numbers (Err (fault_of.Text text.TooLong)) answers limit = absurd (answers within)
+  memory_of within numbers (Err (fault_of.Text text.NoMemory)) answers limit = tt
+  memory_of within numbers (Err fault_of.NoMemory) answers limit = tt
 
 -- ---- from what the text is read as
 
-is_limit : (e : SqlFault) → (e ≡ text.NoMemory) ⊎ (e ≡ text.TooLong) → IsLimit (fault_of.Text e)
-is_limit e (inl is) = subst (λ (x : SqlFault). IsLimit (fault_of.Text x)) (sym is) tt
-is_limit e (inr is) = subst (λ (x : SqlFault). IsLimit (fault_of.Text x)) (sym is) tt
+-- an answer to the one statement of a text is one to the text
+one_told : (tables : List TableDef) (numbers : List ℕ) (bytes : List ℕ) (s : Statement) → IsTextOf bytes (s ∷ []) → (result : Result Checked AgainFault) → AnswersOne tables numbers s result
+    → AnswersText tables numbers bytes result
+one_told tables numbers bytes s of (Ok again) answers = record { statement = s; of = of; one = answers.0; answers = answers.1 }
+one_told tables numbers bytes s of (Err fault_of.Other) answers = (s ∷ [], of, answers)
+one_told tables numbers bytes s of (Err (fault_of.Text e)) answers = absurd answers
+one_told tables numbers bytes s of (Err (fault_of.Check e)) answers = record { statement = s; of = of; one = answers.0; answers = answers.1 }
+one_told tables numbers bytes s of (Err fault_of.NoMemory) answers = absurd answers
+
+-- a text of none or of several is not one statement
+other_told : (tables : List TableDef) (numbers : List ℕ) (bytes : List ℕ) (all : List Statement) → IsTextOf bytes all → (IsOne all → ⊥) → (result : Result Checked AgainFault)
+    → result ≡ Err fault_of.Other → AnswersText tables numbers bytes result
+other_told tables numbers bytes all of none result is = subst (AnswersText tables numbers bytes) (sym is) (all, of, none)
+
+pub read_told : (tables : List TableDef) (numbers : List ℕ) (bytes : List ℕ) (all : List Statement) (result : Result Checked AgainFault) → IsTextOf bytes all
+    → ((s : Statement) → all ≡ s ∷ [] → AnswersOne tables numbers s result) → ((length all ≡ 1 → ⊥) → result ≡ Err fault_of.Other) → AnswersText tables numbers bytes result
+read_told tables numbers bytes [] result of one other = other_told tables numbers bytes [] of (λ h. h) result (other (λ e. omega arith))
+read_told tables numbers bytes (s ∷ []) result of one other = one_told tables numbers bytes s of result (one s refl)
+read_told tables numbers bytes (s ∷ t ∷ others) result of one other = other_told tables numbers bytes (s ∷ t ∷ others) of (λ h. h) result (other (λ e. omega arith))
+
+-- an answer to a statement that is checked
+one_answer : (tables : List TableDef) (numbers : List ℕ) (s : Statement) (result : Result Checked AgainFault) → AnswersOne tables numbers s result → IsChecked s → IsAnswer tables s numbers result
+one_answer tables numbers s (Ok again) answers checked = answers.1
+one_answer tables numbers s (Err fault_of.Other) answers checked = absurd (answers checked)
+one_answer tables numbers s (Err (fault_of.Text e)) answers checked = absurd answers
+one_answer tables numbers s (Err (fault_of.Check e)) answers checked = answers.1
+one_answer tables numbers s (Err fault_of.NoMemory) answers checked = absurd answers
 
 -- a check of what is read of a statement's text, and why it is not read
 pub read_answer : (tables : List TableDef) (s : Statement) (all : List Statement) (numbers : List ℕ) (result : Result Checked AgainFault)
-    → (IsStatement s → Fits s → all ≡ s ∷ []) → ((t : Statement) → all ≡ t ∷ [] → IsChecked t → IsAnswer tables t numbers result)
+    → (IsStatement s → Fits s → all ≡ s ∷ []) → ((t : Statement) → all ≡ t ∷ [] → AnswersOne tables numbers t result)
     → IsStatement s → Fits s → IsChecked s → IsAnswer tables s numbers result
-read_answer tables s all numbers result read answers tree fits checked = answers s (read tree fits) checked
+read_answer tables s all numbers result read answers tree fits checked = one_answer tables numbers s result (answers s (read tree fits)) checked
 
 pub text_answer : (tables : List TableDef) (s : Statement) (numbers : List ℕ) (e : SqlFault) → (IsStatement s → Fits s → (e ≡ text.NoMemory) ⊎ (e ≡ text.TooLong))
+    → (IsStatement s → Fits s → (all : List Statement) → IsTextOf (statement_text s) all → length (statement_text s) < 2 ^ 32 → IsReadAs (Err e) (s ∷ []))
     → IsStatement s → Fits s → IsChecked s → IsAnswer tables s numbers (Err (fault_of.Text e))
-text_answer tables s numbers e refused tree fits checked = is_limit e (refused tree fits)
-
-pub ruleset reread = (read_answer, text_answer)
+text_answer tables s numbers e refused within tree fits checked = elim (refused tree fits) [
+  | inl is ↦ subst (λ (x : SqlFault). IsAnswer tables s numbers (Err (fault_of.Text x))) (sym is) tt
+  | inr is ↦ subst (λ (x : SqlFault). IsAnswer tables s numbers (Err (fault_of.Text x))) (sym is)
+      (λ (w : IsWithinLimits (statement_text s)). subst (λ (x : SqlFault). IsReadAs (Err x) (s ∷ [])) is (within tree fits w.statements w.of w.size))
+]
 
 -- by the types of the parameters
+pub typed_told : (tables : List TableDef) (kinds : List ColType) (numbers : List ℕ) (bytes : List ℕ) (result : Result Checked AgainFault) → numbers ≡ map oid_number kinds
+    → AnswersText tables numbers bytes result → AnswersText tables (map oid_number kinds) bytes result
+typed_told tables kinds numbers bytes result is told = subst (λ (ns : List ℕ). AnswersText tables ns bytes result) is told
+
 pub typed_answer : (tables : List TableDef) (s : Statement) (kinds : List ColType) (numbers : List ℕ) (result : Result Checked AgainFault) → numbers ≡ map oid_number kinds
     → (IsStatement s → Fits s → IsChecked s → IsAnswer tables s numbers result) → IsStatement s → Fits s → IsChecked s → IsAnswer tables s (map oid_number kinds) result
 typed_answer tables s kinds numbers result is answers tree fits checked = subst (λ (ns : List ℕ). IsAnswer tables s ns result) is (answers tree fits checked)
 
+pub ruleset typed = (typed_told, typed_answer)
+
 -- of the statement that a checked statement is spelled as
-answer_as : (tables : List TableDef) (checked : Checked) (s : Statement) (numbers : List ℕ) (result : Result Checked AgainFault) → s ≡ spelled_statement tables checked
-    → (IsStatement s → Fits s → IsChecked s → IsAnswer tables s numbers result) → CanBeRead tables checked → IsAnswer tables (spelled_statement tables checked) numbers result
-answer_as tables checked s numbers result is answers can =
-    subst (λ (t : Statement). IsAnswer tables t numbers result) is
-    (answers (subst IsStatement (sym is) (statement_tree tables checked can.allowed can.of can.formed)) (subst Fits (sym is) can.fits)
-    (subst IsChecked (sym is) (is_checked tables checked.columns checked.body)))
+pub again_told : (tables : List TableDef) (checked : Checked) (s : Statement) (numbers : List ℕ) (result : Result Checked AgainFault) → s ≡ spelled_statement tables checked
+    → AnswersText tables numbers (statement_text s) result → AnswersText tables numbers (text_of tables checked) result
+again_told tables checked s numbers result is told = subst (λ (t : Statement). AnswersText tables numbers (statement_text t) result) is told
 
-pub again_same : (tables : List TableDef) (checked : Checked) (s : Statement) (result : Result Checked AgainFault) → s ≡ spelled_statement tables checked
-    → (IsStatement s → Fits s → IsChecked s → IsAnswer tables s (map oid_number checked.kinds) result) → CanBeRead tables checked → IfOk result (IsSame tables checked)
-again_same tables checked s result is answers can =
-    same_of tables checked can (map oid_number checked.kinds) refl result (answer_as tables checked s (map oid_number checked.kinds) result is answers can)
+module _ (tables : List TableDef) (checked : Checked) (s : Statement) (result : Result Checked AgainFault) (is : s ≡ spelled_statement tables checked)
+    (answers : IsStatement s → Fits s → IsChecked s → IsAnswer tables s (map oid_number checked.kinds) result) (can : CanBeRead tables checked) where
+  abbrev numbers : List ℕ
+  numbers = map oid_number checked.kinds
 
-pub again_limits : (tables : List TableDef) (checked : Checked) (s : Statement) (result : Result Checked AgainFault) → s ≡ spelled_statement tables checked
-    → (IsStatement s → Fits s → IsChecked s → IsAnswer tables s (map oid_number checked.kinds) result) → CanBeRead tables checked → IfErr result IsLimit
-again_limits tables checked s result is answers can =
-    limit_of tables checked can (map oid_number checked.kinds) refl result (answer_as tables checked s (map oid_number checked.kinds) result is answers can)
+  answer_as : IsAnswer tables (spelled_statement tables checked) numbers result
+  answer_as =
+      subst (λ (t : Statement). IsAnswer tables t numbers result) is
+      (answers (subst IsStatement (sym is) (statement_tree tables checked can.allowed can.of can.formed)) (subst Fits (sym is) can.fits)
+      (subst IsChecked (sym is) (is_checked tables checked.columns checked.body)))
+
+  pub again_same : IfOk result (IsSame tables checked)
+  again_same = same_of tables checked can numbers refl result answer_as
+
+  pub again_limits : IfErr result IsLimit
+  again_limits = limit_of tables checked can numbers refl result answer_as
+
+  pub again_within : IsWithinLimits (text_of tables checked) → IfErr result IsMemory
+  again_within within = memory_of tables checked can within numbers result answer_as again_limits

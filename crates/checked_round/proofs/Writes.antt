@@ -11,7 +11,6 @@ use Rattle.schema.specs.declared.catalogue.Fill.TheVariants as fill
 use Rattle.schema.specs.declared.catalogue.TableDef.{TableDef}
 use Rattle.schema_print.specs.Allowed.{AreAllowed, AreColumns}
 use Rattle.sql_tree.specs.declared.statement.Cell.{Cell}
-use Rattle.sql_tree.specs.declared.statement.Cell.TheVariants as tree
 use Rattle.sql_tree.specs.declared.statement.Insert.{Insert}
 use Rattle.sql_tree.specs.declared.statement.Update.{Update}
 use Rattle.sql_tree.specs.declared.statement.Statement.TheVariants as statement

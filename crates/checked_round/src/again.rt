@@ -1,12 +1,13 @@
 //! A checked statement, written and read again.
-ghost use Rattle.std.specs.Prelude.{◌≡◌, ◌∷◌, [], IfOk, IfErr, map};
+ghost use Rattle.std.specs.Prelude.{◌≡◌, ◌∷◌, [], length, IfOk, IfErr, map};
 ghost use Rattle.pg_values.specs.Kinds.{oid_number};
 ghost use Rattle.schema.specs.Grammar.{IsWithin};
+ghost use Rattle.sql_print.specs.Printed.{statement_text};
 ghost use Rattle.sql_tree.specs.declared.statement.Statement.{Statement};
 ghost use Rattle.sql_tree.specs.Trees.{IsStatement};
 ghost use Rattle.sql_round.specs.Fits.{Fits};
 ghost use Rattle.catalogue.specs.Checking.{IsChecked};
-ghost use Rattle.checked_round.specs.Reread.{CanBeRead, IsAnswer, IsLimit, IsSame};
+ghost use Rattle.checked_round.specs.Reread.{AnswersOne, AnswersText, CanBeRead, IsAnswer, IsLimit, IsMemory, IsSame, IsWithinLimits, text_of};
 
 use catalogue::{Catalogue, CheckFault, Checked, check, is_checked};
 use checked_print::spelled_statement;
@@ -49,7 +50,7 @@ fn check_one(
     numbers: &List<u32>,
 ) -> Result<Checked, AgainFault>
     requires { IsWithin tables.now }
-    ensures { IsChecked statement.now → IsAnswer tables.now statement.now numbers.now result }
+    ensures { AnswersOne tables.now numbers.now statement.now result }
 {
     if !is_checked(statement) {
         return Err(AgainFault::Other);
@@ -68,8 +69,8 @@ fn check_alone(
     numbers: &List<u32>,
 ) -> Result<Checked, AgainFault>
     requires { IsWithin tables.now }
-    ensures { (s : Statement) → all.now ≡ s ∷ [] → IsChecked s
-        → IsAnswer tables.now s numbers.now result }
+    ensures one { (s : Statement) → all.now ≡ s ∷ [] → AnswersOne tables.now numbers.now s result }
+    ensures other { (length all.now ≡ 1 → ⊥) → result ≡ Err AgainFault.Other }
 {
     match all.as_slice() {
         [one] => check_one(alloc, tables, one, numbers),
@@ -78,7 +79,7 @@ fn check_alone(
 }
 
 /// What a check answers to what the text of a statement is read as.
-#[tactic(auto, using(crate::proofs::Law::reread))]
+#[tactic(auto, using(crate::proofs::Law::read_answer))]
 fn check_text(
     alloc: Global,
     tables: &Catalogue,
@@ -86,7 +87,8 @@ fn check_text(
     numbers: &List<u32>,
 ) -> Result<Checked, AgainFault>
     requires { IsWithin tables.now }
-    ensures { IsStatement statement.now → Fits statement.now → IsChecked statement.now
+    ensures told { AnswersText tables.now numbers.now (statement_text statement.now) result }
+    ensures own { IsStatement statement.now → Fits statement.now → IsChecked statement.now
         → IsAnswer tables.now statement.now numbers.now result }
 {
     match statements_again(alloc, statement) {
@@ -96,7 +98,7 @@ fn check_text(
 }
 
 /// What a check answers to that, with these types of parameters.
-#[tactic(auto, using(crate::proofs::Law::typed_answer))]
+#[tactic(auto, using(crate::proofs::Law::typed))]
 fn check_typed(
     alloc: Global,
     tables: &Catalogue,
@@ -104,7 +106,9 @@ fn check_typed(
     kinds: &List<ColType>,
 ) -> Result<Checked, AgainFault>
     requires { IsWithin tables.now }
-    ensures { IsStatement statement.now → Fits statement.now → IsChecked statement.now
+    ensures told { AnswersText tables.now (map oid_number kinds.now)
+        (statement_text statement.now) result }
+    ensures own { IsStatement statement.now → Fits statement.now → IsChecked statement.now
         → IsAnswer tables.now statement.now (map oid_number kinds.now) result }
 {
     match numbers_of(alloc, kinds) {
@@ -121,11 +125,18 @@ pub fn checked_again(
     checked: &Checked,
 ) -> Result<Checked, AgainFault>
     requires { IsWithin tables.now }
+    // What a check answers to the one statement that the text is, or why it is not one that is
+    // checked.
+    ensures told { AnswersText tables.now (map oid_number checked.now.kinds)
+        (text_of tables.now checked.now) result }
+
     // It has the same effect, and its parameters have the same types.
     ensures same { CanBeRead tables.now checked.now
         → IfOk result (IsSame tables.now checked.now) }
 
-    // It is refused only where memory is refused or the text passes a limit.
+    // So it is wherever the text is within the limits, and it is refused only where one is passed.
+    ensures within { CanBeRead tables.now checked.now
+        → IsWithinLimits (text_of tables.now checked.now) → IfErr result IsMemory }
     ensures limits { CanBeRead tables.now checked.now → IfErr result IsLimit }
 {
     match spelled_statement(alloc, tables, checked) {
