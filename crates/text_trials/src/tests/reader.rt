@@ -17,7 +17,7 @@ fn printed(alloc: Global, statements: &[Statement]) -> Result<String, Fail> {
 }
 
 /// The name, `!` for a place alone, and the place behind `@`; `too long` for a limit.
-fn shown(alloc: Global, fault: SqlFault) -> Result<String, Fail> {
+pub fn shown(alloc: Global, fault: SqlFault) -> Result<String, Fail> {
     match fault {
         SqlFault::Syntax(place) => Ok(format!(in alloc; "!@{place}")?),
         SqlFault::Outside { name, place } => Ok(format!(in alloc; "{}@{place}", name.as_str())?),
@@ -37,7 +37,7 @@ fn answer(alloc: Global, text: &str) -> Result<String, Fail> {
     }
 }
 
-const READ: [(&str, &str); 26] = [
+const READ: [(&str, &str); 28] = [
     ("", ""),
     (";;", ""),
     ("select 1", "SELECT 1; "),
@@ -91,9 +91,11 @@ const READ: [(&str, &str); 26] = [
     ("SELECT $1000", "SELECT $1000; "),
     ("SELECT NOT a IS NULL", "SELECT NOT (a IS NULL); "),
     ("SELECT (((1)))", "SELECT 1; "),
+    ("SELECT 1 -- c\r + 2", "SELECT 1 + 2; "),
+    ("SELECT $01", "SELECT $1; "),
 ];
 
-const PLACES: [(&str, &str); 11] = [
+const PLACES: [(&str, &str); 18] = [
     ("SELECT *", "!@7"),
     ("SELECT  count(*)", "!@8"),
     ("SELECT *;", "!@7"),
@@ -105,10 +107,18 @@ const PLACES: [(&str, &str); 11] = [
     ("SELECT 1; SELECT 'a", "!@17"),
     ("/* x", "!@0"),
     ("SELECT 1 /* x", "!@9"),
+    ("SELECT key FROM t", "!@7"),
+    ("SELECT 1e", "!@8"),
+    ("UPDATE t SET {", "!@13"),
+    ("\"pgpool\" recover 1", "!@0"),
+    ("pgpool \"recover\" 1", "!@7"),
+    ("SELECT 'a\0'", "!@9"),
+    ("SELECT 1 'a\0'", "!@9"),
 ];
 
-const NUMBERS_AND_CALLS: [(&str, &str); 36] = [
+const NUMBERS_AND_CALLS: [(&str, &str); 37] = [
     ("SELECT 1.5", "numeric literal@7"),
+    ("SELECT 1.", "numeric literal@7"),
     ("SELECT .5", "numeric literal@7"),
     ("SELECT 1e5", "numeric literal@7"),
     ("SELECT t.5", "numeric literal@8"),
@@ -179,7 +189,7 @@ const PARENTHESES_AND_ORDERS: [(&str, &str); 30] = [
     ("INSERT INTO t (a (", "!@17"),
 ];
 
-const WORDS_AND_MARKS: [(&str, &str); 53] = [
+const WORDS_AND_MARKS: [(&str, &str); 57] = [
     ("CREATE TABLE t (a int)", "create@0"),
     ("explain SELECT 1", "explain@0"),
     ("BEGIN READ ONLY", "read@6"),
@@ -233,6 +243,10 @@ const WORDS_AND_MARKS: [(&str, &str); 53] = [
     ("SELECT $0", "!@7"),
     ("SELECT $1001", "too long"),
     ("SELECT a FROM", "!@13"),
+    ("SELECT a ||| b", "|||@9"),
+    ("SELECT a ||!= b", "||!@9"),
+    ("SELECT a !!= b", "!!@9"),
+    ("SELECT 1 $1001", "too long"),
 ];
 
 /// Finds a text whose answer is not the one that it is to be.
@@ -288,7 +302,7 @@ fn outcome(alloc: Global, text: &str) -> Result<String, Fail> {
 }
 
 /// Texts at a limit of statements, tokens or nestings and beyond it.
-const LIMITS_OF_A_TEXT: [(Repeated, &str); 9] = [
+const LIMITS_OF_A_TEXT: [(Repeated, &str); 12] = [
     (Repeated("", "COMMIT;", 256, ""), "read"),
     (Repeated("", "COMMIT;", 256, ";;"), "read"),
     (Repeated("", "COMMIT;", 256, "COMMIT"), "too long"),
@@ -298,10 +312,13 @@ const LIMITS_OF_A_TEXT: [(Repeated, &str); 9] = [
     (Repeated("", "-", 64, "1"), "read"),
     (Repeated("", ";", 65536, ""), "read"),
     (Repeated("", ";", 65536, ";"), "too long"),
+    (Repeated("", "COMMIT;", 256, "COMMIT x"), "too long"),
+    (Repeated("", "COMMIT;", 256, "SELECT f(1)"), "too long"),
+    (Repeated("", ";", 65536, "{"), "!@65536"),
 ];
 
 /// The same of an expression and of a name.
-const LIMITS_OF_AN_EXPRESSION: [(Repeated, &str); 10] = [
+const LIMITS_OF_AN_EXPRESSION: [(Repeated, &str); 15] = [
     (Repeated("SELECT ", "(", 65, ""), "too long"),
     (Repeated("SELECT ", "(", 64, ""), "!@71"),
     (Repeated("SELECT ", "(", 64, "now()"), "too long"),
@@ -312,6 +329,11 @@ const LIMITS_OF_AN_EXPRESSION: [(Repeated, &str); 10] = [
     (Repeated("SELECT ", "- ", 64, "1"), "read"),
     (Repeated("SELECT ", "a", 63, ""), "read"),
     (Repeated("SELECT ", "a", 64, ""), "too long"),
+    (Repeated("SELECT ", "(", 64, "a("), "a@72"),
+    (Repeated("SELECT ", "(", 64, "a IN ("), "too long"),
+    (Repeated("SELECT *; SELECT ", "(", 65, ""), "!@7"),
+    (Repeated("INSERT INTO t VALUES (", "(", 64, ""), "!@86"),
+    (Repeated("SELECT 1 ", "a", 64, ""), "too long"),
 ];
 
 /// Finds a text whose outcome is not the one that it is to be: its part, and how often that stands.
