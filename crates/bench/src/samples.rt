@@ -70,9 +70,26 @@ pub fn batch(alloc: Global) -> Result<List<u8>, NoMemory>
     ensures { IfOk result (λ bytes. length bytes ≡ 64000) }
 {
     let text = query(alloc)?;
-    let statement = parse(alloc)?;
-    let portal = bind(alloc)?;
-    put_rounds(alloc, &text, &statement, &portal)
+    let statement = match parse(alloc) {
+        Ok(statement) => statement,
+        Err(full) => {
+            drop(text);
+            return Err(full);
+        }
+    };
+    let portal = match bind(alloc) {
+        Ok(portal) => portal,
+        Err(full) => {
+            drop(text);
+            drop(statement);
+            return Err(full);
+        }
+    };
+    let bytes = put_rounds(alloc, &text, &statement, &portal);
+    drop(text);
+    drop(statement);
+    drop(portal);
+    bytes
 }
 
 fn put_rounds(

@@ -51,8 +51,9 @@ fn sets_of(
     let mut sets = List::new(check.alloc);
     for item in items {
         let set = set_of(check, key, before.as_slice(), item, known)?;
-        before.push(set.column)?;
+        let column = set.column;
         sets.push(set)?;
+        before.push(column)?;
     }
     Ok(sets)
 }

@@ -4,7 +4,7 @@ use pool_base::{List, Text};
 use typed_sql::TypedExpr;
 
 /// A checked statement, the columns of its result, and the types of its parameters.
-#[derive(Debug, PartialEq, Eq, Drop)]
+#[derive(PartialEq, Eq, Drop)]
 pub struct Checked {
     pub body: CheckedBody,
     pub columns: List<ColumnDesc>,
@@ -12,14 +12,14 @@ pub struct Checked {
 }
 
 /// A column of a result.
-#[derive(Debug, PartialEq, Eq, Drop)]
+#[derive(PartialEq, Eq, Drop)]
 pub struct ColumnDesc {
     pub name: Text,
     pub kind: ColType,
 }
 
 /// What a statement does, over the tables and columns by their numbers.
-#[derive(Debug, PartialEq, Eq, Drop)]
+#[derive(PartialEq, Eq, Drop)]
 pub enum CheckedBody {
     /// SELECT.
     Read(CheckedRead),
@@ -32,7 +32,7 @@ pub enum CheckedBody {
 }
 
 /// A SELECT: the list, or the count of the rows.
-#[derive(Debug, PartialEq, Eq, Drop)]
+#[derive(PartialEq, Eq, Drop)]
 pub struct CheckedRead {
     pub table: Option<u8>,
     pub count: bool,
@@ -45,14 +45,14 @@ pub struct CheckedRead {
 }
 
 /// An INSERT: each row has a cell for each column of the table.
-#[derive(Debug, PartialEq, Eq, Drop)]
+#[derive(PartialEq, Eq, Drop)]
 pub struct CheckedInsert {
     pub table: u8,
     pub rows: List<List<TypedCell>>,
 }
 
 /// An UPDATE.
-#[derive(Debug, PartialEq, Eq, Drop)]
+#[derive(PartialEq, Eq, Drop)]
 pub struct CheckedChange {
     pub table: u8,
     pub sets: List<TypedSet>,
@@ -60,21 +60,21 @@ pub struct CheckedChange {
 }
 
 /// A DELETE.
-#[derive(Debug, PartialEq, Eq, Drop)]
+#[derive(PartialEq, Eq, Drop)]
 pub struct CheckedRemove {
     pub table: u8,
     pub filter: Option<TypedExpr>,
 }
 
 /// A column that rows are ordered by, and whether its values fall.
-#[derive(Clone, Copy, Debug, PartialEq, Eq)]
+#[derive(Clone, Copy, PartialEq, Eq)]
 pub struct OrderKey {
     pub column: u8,
     pub falling: bool,
 }
 
 /// A cell of a row that goes into a table.
-#[derive(Debug, PartialEq, Eq, Drop)]
+#[derive(PartialEq, Eq, Drop)]
 pub enum TypedCell {
     /// The next number of the table.
     Serial,
@@ -85,7 +85,7 @@ pub enum TypedCell {
 }
 
 /// A column and its new value.
-#[derive(Debug, PartialEq, Eq, Drop)]
+#[derive(PartialEq, Eq, Drop)]
 pub struct TypedSet {
     pub column: u8,
     pub expr: TypedExpr,

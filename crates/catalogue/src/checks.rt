@@ -12,7 +12,7 @@ use crate::insert::insert_of;
 use crate::parameters::{all_kinds, known_first};
 use crate::select::select_of;
 use crate::tables::table_named;
-use pool_base::List;
+use pool_base::{List, NoMemory};
 use schema::Catalogue;
 use sql_tree::Statement;
 use std::alloc::Global;
@@ -85,10 +85,15 @@ pub fn check(
     let mut known = known_first(alloc, kinds)?;
     let parameters = kinds.is_some();
     let (body, columns) = body_of(alloc, tables, parameters, statement, &mut known)?;
-    let kinds = all_kinds(alloc, &known)?;
-    Ok(Checked {
-        body,
-        columns,
-        kinds,
-    })
+    match all_kinds(alloc, &known) {
+        Ok(kinds) => Ok(Checked {
+            body,
+            columns,
+            kinds,
+        }),
+        Err(NoMemory) => {
+            drop(body);
+            Err(CheckFault::NoMemory)
+        }
+    }
 }

@@ -12,6 +12,7 @@ use pool_base::{List, NoMemory, Text};
 use schema::{ColumnDef, Fill, TableDef};
 use sql_tree::{Cell, Insert};
 use std::alloc::{AllocError, Global};
+use std::mem;
 use typed_sql::{
     Check, CheckFault, Known, Scope, TypedExpr, TypedForm, asks_column, column_twice, typed_at,
     wrong_number,
@@ -120,8 +121,9 @@ fn default_cells(alloc: Global, columns: &[ColumnDef]) -> Result<Vec<TypedCell>,
 fn put_cell(row: &mut Vec<TypedCell>, number: u8, cell: TypedCell)
     ensures { row.new.items ≡ set row.old.items number cell }
 {
-    if let Some(place) = row.get_mut(number as usize) {
-        *place = cell;
+    match row.get_mut(number as usize) {
+        Some(place) => drop(mem::replace(place, cell)),
+        None => drop(cell),
     }
 }
 

@@ -283,10 +283,15 @@ fn ends_of(
     let kinds = known.as_slice();
     let count = is_count(&select.list);
     let keys = order_of(check, count, items, kinds)?;
-    let limit = limit_of(check, count, &select.limit, known)?;
-    uncounted(check.alloc, count, select.for_update)?;
     let order = with_key(count, table, keys)?;
-    Ok((order, limit))
+    let limit = limit_of(check, count, &select.limit, known)?;
+    match uncounted(check.alloc, count, select.for_update) {
+        Ok(()) => Ok((order, limit)),
+        Err(fault) => {
+            drop(limit);
+            Err(fault)
+        }
+    }
 }
 
 /// A SELECT from a table whose parts are known.
@@ -305,17 +310,25 @@ fn read_of(
     let (order, limit) = ends;
     let definitions = table.columns.as_slice();
     let exprs = list.as_slice();
-    let columns = result_columns(alloc, definitions, &select.list, exprs)?;
-    let read = CheckedRead {
-        table: Some(number),
-        count: is_count(&select.list),
-        list,
-        filter,
-        order,
-        limit,
-        for_update: select.for_update,
-    };
-    Ok((CheckedBody::Read(read), columns))
+    match result_columns(alloc, definitions, &select.list, exprs) {
+        Ok(columns) => {
+            let read = CheckedRead {
+                table: Some(number),
+                count: is_count(&select.list),
+                list,
+                filter,
+                order,
+                limit,
+                for_update: select.for_update,
+            };
+            Ok((CheckedBody::Read(read), columns))
+        }
+        Err(NoMemory) => {
+            drop(filter);
+            drop(limit);
+            Err(NoMemory)
+        }
+    }
 }
 
 /// A SELECT from a table.
@@ -338,9 +351,16 @@ fn read_from(
     let columns = table.columns.as_slice();
     let list = list_of(&check, columns, &select.list, known)?;
     let filter = filter_of(&check, &select.filter, known)?;
-    let ends = ends_of(&check, select, table, known)?;
-    let read = read_of(alloc, select, (number, table), list, filter, ends)?;
-    Ok(read)
+    match ends_of(&check, select, table, known) {
+        Ok(ends) => {
+            let read = read_of(alloc, select, (number, table), list, filter, ends)?;
+            Ok(read)
+        }
+        Err(fault) => {
+            drop(filter);
+            Err(fault)
+        }
+    }
 }
 
 /// A SELECT without a table.

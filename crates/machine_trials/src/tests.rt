@@ -1,3 +1,4 @@
 mod boxes;
+mod chain;
 mod lines;
 mod lists;

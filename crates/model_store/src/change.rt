@@ -3,7 +3,7 @@ ghost use Rattle.std.specs.Prelude.{◌≡◌, Some, option_map};
 ghost use Rattle.backend_trait.specs.Effect.{place_of, row_of};
 
 /// A new row: its key and its value.
-#[derive(Clone, Copy, Debug, Drop)]
+#[derive(Clone, Copy, Drop)]
 pub struct Change {
     pub key: i32,
     pub value: i64,

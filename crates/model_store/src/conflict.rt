@@ -9,7 +9,7 @@ use crate::phase::{Phase, Work};
 use crate::seat::Seat;
 
 /// What a request wants.
-#[derive(Clone, Copy, Debug, Drop)]
+#[derive(Clone, Copy, Drop)]
 pub enum Wanted {
     Key(i32),
     Table(u8),

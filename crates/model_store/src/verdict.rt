@@ -19,7 +19,7 @@ use crate::transaction::value_for;
 use pool_base::Code;
 
 /// What becomes of a request that waits.
-#[derive(Clone, Copy, Debug, Drop)]
+#[derive(Clone, Copy, Drop)]
 pub enum Verdict {
     /// It is granted.
     Goes,

@@ -8,7 +8,6 @@ use crate::named::Named;
 use indexmap::IndexMap;
 use pool_base::{List, NoMemory};
 use std::alloc::Global;
-use std::fmt;
 use std::marker::Model;
 
 /// A growing list of things with names, which contracts see as the list of them. Beside it stands
@@ -99,12 +98,6 @@ impl<T: Named> NamedList<T> {
         self.items.push(item)?;
         self.numbers.insert(name, number).unwrap();
         Ok(())
-    }
-}
-
-impl<T: Named + fmt::Debug> fmt::Debug for NamedList<T> {
-    fn fmt<W: fmt::Write>(&self, f: &mut fmt::Formatter<W>) -> fmt::Result {
-        self.items.fmt(f)
     }
 }
 

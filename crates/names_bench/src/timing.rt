@@ -1,6 +1,9 @@
 //! The runs that are timed, and what is told of them.
+ghost use Rattle.std.specs.Prelude.{◌≤◌, length};
+
 use crate::looking::{found_times, walked_times};
-use crate::words::words_of;
+use crate::words::{Word, words_of};
+use named_list::NamedList;
 use pool_base::NoMemory;
 use std::io;
 use std::time::{Duration, Instant};
@@ -22,11 +25,20 @@ fn timed(rt: HostRuntime, size: u32, times: u32) -> io::Result<()> {
         Ok(words) => words,
         Err(NoMemory) => return Err(io::ErrorKind::OutOfMemory.into()),
     };
+    let told = look(rt, &words, size, times);
+    drop(words);
+    told
+}
+
+/// Looks for each of the words so many times, by the index and by a walk.
+fn look(rt: HostRuntime, words: &NamedList<Word>, size: u32, times: u32) -> io::Result<()>
+    requires { length words.now ≤ 4294967295 }
+{
     let start = Instant::now(&rt)?;
-    let found = found_times(&words, times);
+    let found = found_times(words, times);
     let indexed = start.elapsed(&rt)?;
     let start = Instant::now(&rt)?;
-    let walked = walked_times(&words, times);
+    let walked = walked_times(words, times);
     let walking = start.elapsed(&rt)?;
     println!(rt; "of {size} names {found} were found by the index and {walked} by a walk")?;
     let all = u64::from(size).saturating_mul(u64::from(times)).max(1);

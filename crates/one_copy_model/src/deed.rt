@@ -3,7 +3,7 @@ use backend_trait::{Answer, Request};
 use pool_base::Code;
 
 /// What a session does at the single store.
-#[derive(Debug, PartialEq, Eq, Drop)]
+#[derive(PartialEq, Eq, Drop)]
 pub enum Deed {
     /// It asks for something.
     Asks(Request),
@@ -16,7 +16,7 @@ pub enum Deed {
 /// One step of the single run.
 ///
 /// Units: `session` is the session's number, 1 to 64.
-#[derive(Debug, PartialEq, Eq, Drop)]
+#[derive(PartialEq, Eq, Drop)]
 pub struct Entry {
     pub session: u8,
     pub deed: Deed,

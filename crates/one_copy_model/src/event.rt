@@ -4,7 +4,7 @@ use pool_base::{BackendId, SessionId};
 use session_machine::SessionEvent;
 
 /// What takes place.
-#[derive(Debug, PartialEq, Eq, Drop)]
+#[derive(PartialEq, Eq, Drop)]
 pub enum Event {
     /// At a session.
     Of {

@@ -5,7 +5,7 @@ use pool_base::List;
 /// A message of a client.
 ///
 /// Source: PostgreSQL, Frontend/Backend Protocol, "Message Formats".
-#[derive(Debug, PartialEq, Eq, Drop)]
+#[derive(PartialEq, Eq, Drop)]
 pub enum ClientMessage {
     /// Statements as a text, to be run at once.
     Query {

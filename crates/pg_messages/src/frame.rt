@@ -15,7 +15,7 @@ pub const MESSAGE_LIMIT: u32 = 1_048_576;
 pub const START_LIMIT: u32 = 10_000;
 
 /// Where the length stands, and which lengths may be stated.
-#[derive(Clone, Copy, Debug)]
+#[derive(Clone, Copy)]
 pub struct Layout {
     pub place: usize,
     pub least: u32,

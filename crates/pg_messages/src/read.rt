@@ -3,7 +3,7 @@
 /// What a reader found at the front of the bytes. What follows a message is not looked at.
 ///
 /// Units: `length` and `place` are bytes; `place` counts from 0.
-#[derive(Debug, PartialEq, Eq, Drop)]
+#[derive(PartialEq, Eq, Drop)]
 pub enum Read<T> {
     /// All of a message, which takes `length` bytes, its type included.
     Whole { message: T, length: usize },

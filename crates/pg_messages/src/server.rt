@@ -5,7 +5,7 @@ use pool_base::List;
 /// A message of a server.
 ///
 /// Source: PostgreSQL, Frontend/Backend Protocol, "Message Formats".
-#[derive(Debug, PartialEq, Eq, Drop)]
+#[derive(PartialEq, Eq, Drop)]
 pub enum ServerMessage {
     AuthOk,
     ParameterStatus { name: List<u8>, value: List<u8> },
@@ -33,7 +33,7 @@ pub enum ServerMessage {
 
 /// A column of a result: `kind` is the OID of its type, `size` its bytes or -1, `format` 0 (text)
 /// or 1 (binary).
-#[derive(Debug, PartialEq, Eq, Drop)]
+#[derive(PartialEq, Eq, Drop)]
 pub struct Field {
     pub name: List<u8>,
     pub table: u32,
@@ -45,7 +45,7 @@ pub struct Field {
 }
 
 /// A part of an error or a notice: `tag` says which, as `C` for the code.
-#[derive(Debug, PartialEq, Eq, Drop)]
+#[derive(PartialEq, Eq, Drop)]
 pub struct Part {
     pub tag: u8,
     pub text: List<u8>,

@@ -5,7 +5,7 @@ use pool_base::List;
 /// The first message of a connection.
 ///
 /// Source: PostgreSQL, Frontend/Backend Protocol, "Message Formats".
-#[derive(Debug, PartialEq, Eq, Drop)]
+#[derive(Drop)]
 pub enum StartMessage {
     /// A session, by version and options.
     Start {
@@ -25,7 +25,7 @@ pub enum StartMessage {
 }
 
 /// An option of a session, as `user` or `database`.
-#[derive(Debug, PartialEq, Eq, Drop)]
+#[derive(PartialEq, Eq, Drop)]
 pub struct Pair {
     pub name: List<u8>,
     pub value: List<u8>,

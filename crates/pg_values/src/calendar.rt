@@ -24,7 +24,7 @@ pub fn day_number(year: u32, month: u32, day: u32) -> Option<i64>
 }
 
 /// A day of the calendar.
-#[derive(Clone, Copy, Debug, PartialEq, Eq)]
+#[derive(Clone, Copy, PartialEq, Eq)]
 pub struct Day {
     pub year: u32,
     pub month: u32,

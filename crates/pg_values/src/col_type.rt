@@ -4,7 +4,7 @@ ghost use Rattle.pg_values.specs.declared.col_type.ColType.{ColType};
 ghost use Rattle.pg_values.specs.Kinds.{oid_number};
 
 /// The type of a column or of a parameter.
-#[derive(Clone, Copy, Debug, PartialEq, Eq)]
+#[derive(Clone, Copy, PartialEq, Eq)]
 pub enum ColType {
     Bool,
     Int4,

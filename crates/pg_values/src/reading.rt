@@ -1,7 +1,7 @@
 //! The fields that are printed of a moment.
 
 /// A moment's date and time of day in UTC.
-#[derive(Clone, Copy, Debug, PartialEq, Eq)]
+#[derive(Clone, Copy, PartialEq, Eq)]
 pub struct Reading {
     pub year: u32,
     pub month: u32,

@@ -1,14 +1,14 @@
 //! A moment as it is written: its fields, as numbers.
 
 /// Whether clocks are ahead of UTC or behind it.
-#[derive(Clone, Copy, Debug, PartialEq, Eq)]
+#[derive(Clone, Copy, PartialEq, Eq)]
 pub enum Sign {
     East,
     West,
 }
 
 /// An offset from UTC.
-#[derive(Clone, Copy, Debug, PartialEq, Eq)]
+#[derive(Clone, Copy, PartialEq, Eq)]
 pub struct Offset {
     pub sign: Sign,
     pub hours: u32,
@@ -16,7 +16,7 @@ pub struct Offset {
 }
 
 /// What stands behind the time of day.
-#[derive(Clone, Copy, Debug, PartialEq, Eq)]
+#[derive(Clone, Copy, PartialEq, Eq)]
 pub enum Zone {
     Unwritten,
     Zulu,
@@ -24,26 +24,26 @@ pub enum Zone {
 }
 
 /// The digits behind the point of the seconds: how many, and their number.
-#[derive(Clone, Copy, Debug, PartialEq, Eq)]
+#[derive(Clone, Copy, PartialEq, Eq)]
 pub struct Fraction {
     pub digits: u32,
     pub number: u32,
 }
 
-#[derive(Clone, Copy, Debug, PartialEq, Eq)]
+#[derive(Clone, Copy, PartialEq, Eq)]
 pub struct Seconds {
     pub second: u32,
     pub fraction: Option<Fraction>,
 }
 
 /// What stands between the date and the time of day.
-#[derive(Clone, Copy, Debug, PartialEq, Eq)]
+#[derive(Clone, Copy, PartialEq, Eq)]
 pub enum Separator {
     Space,
     LetterT,
 }
 
-#[derive(Clone, Copy, Debug, PartialEq, Eq)]
+#[derive(Clone, Copy, PartialEq, Eq)]
 pub struct Clock {
     pub separator: Separator,
     pub hour: u32,
@@ -53,7 +53,7 @@ pub struct Clock {
 }
 
 /// A date, and perhaps a time of day.
-#[derive(Clone, Copy, Debug, PartialEq, Eq)]
+#[derive(Clone, Copy, PartialEq, Eq)]
 pub struct Written {
     pub year: u32,
     pub month: u32,

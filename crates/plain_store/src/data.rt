@@ -5,27 +5,27 @@ use backend_trait::Request;
 use pool_base::List;
 
 /// What a request wants: the row of a key in table 0, or the lock of a table.
-#[derive(Clone, Copy, Debug, PartialEq, Eq)]
+#[derive(Clone, Copy, PartialEq, Eq)]
 pub enum Wanted {
     Key(i32),
     Table(u8),
 }
 
 /// A new row in table 0: its key and its value.
-#[derive(Clone, Copy, Debug, PartialEq, Eq)]
+#[derive(Clone, Copy, PartialEq, Eq)]
 pub struct Change {
     pub key: i32,
     pub value: i64,
 }
 
 /// The changes of one transaction, oldest first.
-#[derive(Debug, Drop)]
+#[derive(Drop)]
 pub struct ChangeSet {
     pub changes: List<Change>,
 }
 
 /// A transaction that is live. It holds the keys that it has changed, and its locks.
-#[derive(Debug, Drop)]
+#[derive(Drop)]
 pub struct Work {
     /// The sets that were committed at its snapshot, oldest first.
     pub base: List<ChangeSet>,
@@ -37,7 +37,7 @@ pub struct Work {
 }
 
 /// A session's transaction.
-#[derive(Debug, Drop)]
+#[derive(Drop)]
 pub enum Phase {
     Absent,
     Alive(Work),
@@ -45,7 +45,7 @@ pub enum Phase {
 }
 
 /// The next number of a table's serial column.
-#[derive(Clone, Copy, Debug, PartialEq, Eq)]
+#[derive(Clone, Copy, PartialEq, Eq)]
 pub struct Number {
     pub table: u8,
     pub next: i64,
@@ -53,7 +53,7 @@ pub struct Number {
 
 /// A store: the sets that were committed, the serial numbers as they were set, and for each session
 /// by its number the transaction, the request that waits, and whether that one is crossed.
-#[derive(Debug, Drop)]
+#[derive(Drop)]
 pub struct Database {
     pub log: List<ChangeSet>,
     pub numbers: List<Number>,

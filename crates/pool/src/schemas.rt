@@ -9,7 +9,7 @@ use schema::{Catalogue, ColumnDef, Fill, SchemaFault, TableDef, read_schema};
 use std::alloc::Global;
 
 /// Why a schema is refused, or was not read.
-#[derive(Clone, Copy, Debug, PartialEq, Eq, Drop)]
+#[derive(Clone, Copy, PartialEq, Eq, Drop)]
 pub enum SchemaStop {
     /// It is above its limit in bytes.
     TooLong,

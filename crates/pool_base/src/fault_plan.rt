@@ -6,7 +6,7 @@ ghost use Rattle.pool_base.specs.Planned.{next_call, is_planned};
 use crate::list::List;
 
 /// The numbers of the calls that are to fail, and the counts of calls and of faults.
-#[derive(Debug, Drop)]
+#[derive(Drop)]
 pub struct FaultPlan {
     pub fails: List<u64>,
     pub calls: u64,

@@ -12,7 +12,7 @@ use crate::text::Text;
 use std::alloc::Global;
 
 /// A source of some bytes.
-#[derive(Debug, Drop)]
+#[derive(Drop)]
 pub struct MemorySource {
     left: Remaining,
     ended: bool,
@@ -65,7 +65,7 @@ impl Source for MemorySource {
 }
 
 /// A sink that keeps what it takes. Where memory is refused, it fails.
-#[derive(Debug, Drop)]
+#[derive(Drop)]
 pub struct MemorySink {
     bytes: List<u8>,
     plan: FaultPlan,
@@ -121,7 +121,7 @@ impl Sink for MemorySink {
 }
 
 /// Files in memory.
-#[derive(Debug, Drop)]
+#[derive(Drop)]
 pub struct MemoryFiles {
     names: List<Text>,
     contents: List<List<u8>>,

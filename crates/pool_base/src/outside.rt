@@ -14,7 +14,7 @@ pub enum Got {
 }
 
 /// What a write did.
-#[derive(Clone, Copy, Debug, PartialEq, Eq, Drop)]
+#[derive(Clone, Copy, PartialEq, Eq, Drop)]
 pub enum Put {
     /// So many bytes of the piece's front were taken, at least one.
     Taken(usize),

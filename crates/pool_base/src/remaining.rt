@@ -8,7 +8,7 @@ use crate::outside::Got;
 use std::marker::Model;
 
 /// Bytes of which a front was read. Contracts see those that are left.
-#[derive(Debug, Drop)]
+#[derive(Drop)]
 pub(crate) struct Remaining {
     bytes: List<u8>,
     place: usize,

@@ -11,7 +11,7 @@ use std::alloc::Global;
 use std::sync::Wait;
 
 /// A source of some bytes that never fails.
-#[derive(Debug, Drop)]
+#[derive(Drop)]
 pub struct SureSource {
     left: Remaining,
     ended: bool,
@@ -102,7 +102,7 @@ impl<W: Wait + Drop> Sink for SureSink<W> {
 }
 
 /// Files that never fail. A name that is not among theirs is the name of an empty file.
-#[derive(Debug, Drop)]
+#[derive(Drop)]
 pub struct SureFiles {
     names: List<Text>,
     contents: List<List<u8>>,

@@ -2,7 +2,7 @@
 use pool_base::Text;
 
 /// A command: what to do, with the names of the files to read.
-#[derive(Debug, PartialEq, Eq, Drop)]
+#[derive(PartialEq, Eq, Drop)]
 pub enum Command {
     /// Play a script, and write its transcript and maybe its journal.
     Play {

@@ -9,7 +9,7 @@ use pool_base::NoMemory;
 use std::alloc::{AllocError, Global};
 
 /// What stands on a line of words, option by option and place by place.
-#[derive(Clone, Copy, Debug)]
+#[derive(Clone, Copy)]
 pub(crate) struct Line<'a> {
     pub(crate) config: Option<&'a str>,
     pub(crate) schema: Option<&'a str>,

@@ -13,7 +13,7 @@ use pool_base::{BackendId, List, NoMemory, Text};
 use std::alloc::Global;
 
 /// What one line sets.
-#[derive(Debug, PartialEq, Eq, Drop)]
+#[derive(Drop)]
 pub struct Setting {
     pub parameter: Parameter,
     pub value: Value,

@@ -2,7 +2,7 @@
 use pool_base::{List, Text};
 
 /// One backend: where it listens, and how much of the reading it is to get.
-#[derive(Debug, PartialEq, Eq, Drop)]
+#[derive(PartialEq, Eq, Drop)]
 pub struct Node {
     pub host: Text,
     pub port: u16,
@@ -11,7 +11,7 @@ pub struct Node {
 }
 
 /// A configuration: the backends by number, and how clients are served.
-#[derive(Debug, PartialEq, Eq, Drop)]
+#[derive(PartialEq, Eq, Drop)]
 pub struct Config {
     pub nodes: List<Node>,
     pub listen: Text,

@@ -5,7 +5,7 @@ ghost use Rattle.pool_config.specs.Form.{spelling_of};
 ghost use Rattle.pool_config.specs.Reader.{is_end, assignment_at, spelling_at, quoted_at, bare_at, value_part, form_at, form_of};
 
 /// A value as it is written.
-#[derive(Clone, Copy, Debug)]
+#[derive(Clone, Copy)]
 pub enum Written<'a> {
     /// What stands between two quotes.
     Quoted(&'a [u8]),
@@ -14,7 +14,7 @@ pub enum Written<'a> {
 }
 
 /// A line by its form.
-#[derive(Clone, Copy, Debug)]
+#[derive(Clone, Copy)]
 pub enum Line<'a> {
     /// Blank, or a comment.
     Empty,
@@ -28,7 +28,7 @@ pub enum Line<'a> {
 }
 
 /// The classes of bytes that run together.
-#[derive(Clone, Copy, Debug)]
+#[derive(Clone, Copy)]
 pub enum Class {
     /// Space, tab, carriage return.
     Blank,

@@ -8,7 +8,7 @@ use pool_base::{BackendId, NoMemory, Text};
 use std::alloc::Global;
 
 /// A parameter of the configuration.
-#[derive(Clone, Copy, Debug, PartialEq, Eq)]
+#[derive(Clone, Copy, PartialEq, Eq)]
 pub enum Parameter {
     ClusteringMode,
     Hostname(BackendId),
@@ -25,7 +25,7 @@ pub enum Parameter {
 }
 
 /// What values a parameter takes.
-#[derive(Clone, Copy, Debug, PartialEq, Eq)]
+#[derive(Clone, Copy, PartialEq, Eq)]
 pub enum Kind {
     /// The string `snapshot_isolation`.
     Mode,

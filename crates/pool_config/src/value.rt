@@ -9,7 +9,7 @@ use std::alloc::Global;
 use std::str;
 
 /// A value of a parameter.
-#[derive(Debug, PartialEq, Eq, Drop)]
+#[derive(Drop)]
 pub enum Value {
     Text(Text),
     Number(u64),

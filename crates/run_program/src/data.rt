@@ -10,7 +10,7 @@ use pool_base::List;
 use session_machine::{Order, Status};
 
 /// A run of one store: its entries, the newest first, and the store behind them.
-#[derive(Debug, Drop)]
+#[derive(Drop)]
 pub struct Run {
     pub entries: List<Entry>,
     pub store: Database,
@@ -22,7 +22,7 @@ pub struct Run {
 /// The order under way of a session, and what stood when it came: the client's block, whether a
 /// transaction was open, the moment of the statement, how many entries the run had. And since:
 /// whether the gate's counts were spent, whether its commit was entered.
-#[derive(Debug, Drop)]
+#[derive(Drop)]
 pub struct Told {
     pub order: Order,
     pub status: Status,

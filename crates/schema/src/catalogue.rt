@@ -8,7 +8,7 @@ use pool_base::Text;
 use std::marker::Model;
 
 /// What a cell has that an INSERT leaves out.
-#[derive(Debug, PartialEq, Eq, Drop)]
+#[derive(PartialEq, Eq, Drop)]
 pub enum Fill {
     /// Null.
     Nothing,
@@ -20,7 +20,7 @@ pub enum Fill {
 }
 
 /// A column.
-#[derive(Debug, PartialEq, Eq, Drop)]
+#[derive(PartialEq, Eq, Drop)]
 pub struct ColumnDef {
     pub name: Text,
     pub kind: ColType,
@@ -37,7 +37,7 @@ impl Named for ColumnDef {
 }
 
 /// A table.
-#[derive(Debug, PartialEq, Eq, Drop)]
+#[derive(PartialEq, Eq, Drop)]
 pub struct TableDef {
     pub name: Text,
     pub columns: NamedList<ColumnDef>,
@@ -56,7 +56,7 @@ impl Named for TableDef {
 }
 
 /// The tables of a schema, in its order, which contracts see as the list of them.
-#[derive(Debug, Drop)]
+#[derive(Drop)]
 pub struct Catalogue {
     tables: NamedList<TableDef>,
 }

@@ -5,7 +5,7 @@ ghost use Rattle.schema.specs.Types.{type_named, kind_of, is_serial, may_be_key}
 use pg_values::ColType;
 
 /// A type of a column as a schema names it.
-#[derive(Clone, Copy, Debug, PartialEq, Eq)]
+#[derive(Clone, Copy, PartialEq, Eq)]
 pub enum ColumnType {
     Bool,
     Int4,

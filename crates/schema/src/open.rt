@@ -5,7 +5,7 @@ use named_list::NamedList;
 use pool_base::Text;
 
 /// A column as far as it is read.
-#[derive(Debug, Drop)]
+#[derive(Drop)]
 pub struct OpenColumn {
     /// How many columns stand before it.
     pub number: u8,
@@ -20,7 +20,7 @@ pub struct OpenColumn {
 }
 
 /// A table as far as it is read: its whole columns.
-#[derive(Debug, Drop)]
+#[derive(Drop)]
 pub struct OpenTable {
     pub name: Text,
     pub columns: NamedList<ColumnDef>,
@@ -29,7 +29,7 @@ pub struct OpenTable {
 }
 
 /// What comes next in a column behind its type.
-#[derive(Clone, Copy, Debug, PartialEq, Eq)]
+#[derive(Clone, Copy, PartialEq, Eq)]
 pub enum Due {
     /// A part, or the end of the column.
     Part,
@@ -48,7 +48,7 @@ pub enum Due {
 }
 
 /// What comes next.
-#[derive(Debug, Drop)]
+#[derive(Drop)]
 pub enum Place {
     /// CREATE, or the end.
     Create,

@@ -13,6 +13,7 @@ use crate::open::Place;
 use crate::step::step;
 use crate::text::{as_text, line_of};
 use named_list::NamedList;
+use pool_base::NoMemory;
 use sql_tokens::{Placed, Token, read_tokens};
 use std::alloc::Global;
 
@@ -67,7 +68,10 @@ fn read_tables(alloc: Global, tokens: &[Placed]) -> Result<NamedList<TableDef>, 
     }
     match place {
         Place::Create => Ok(tables),
-        _ => Err(Refusal::AtEnd),
+        other => {
+            drop(other);
+            Err(Refusal::AtEnd)
+        }
     }
 }
 
@@ -83,6 +87,11 @@ fn advance(
     ensures only { (to : Sequence Table × Standing) → Steps true (tables.old, place) token.now to
         → IsStep to (with_tables tables.new result) }
 {
-    let read = read_string(alloc, &place, token)?;
-    step(alloc, tables, place, read, token)
+    match read_string(alloc, &place, token) {
+        Ok(read) => step(alloc, tables, place, read, token),
+        Err(NoMemory) => {
+            drop(place);
+            Err(Stop::NoMemory)
+        }
+    }
 }

@@ -1,5 +1,5 @@
 //! Where a token leads the reader of a schema.
-ghost use Rattle.std.specs.Prelude.{◌≡◌, ◌&&◌, IfOk, not, is_some, OnOk, option_map, true};
+ghost use Rattle.std.specs.Prelude.{◌≡◌, ◌&&◌, IfOk, None, not, is_some, OnOk, option_map, true};
 ghost use Rattle.schema.specs.Open.{has_table, has_column, empty_table, bare_column, may_take_type, may_take_key, may_take_fill, with_not_null, with_key, with_fill, fill_by, whole_column, number_or, with_column, whole_table};
 ghost use Rattle.schema.specs.Steps.{Gives, create_at, table_at, table_name_at, columns_at, end_at, column_name_at, type_at, column_type_at, ended_at, part_at, null_at, key_at, filled, filled_with, is_now, value_at, number_at, open_at, close_at, column_at, step_at, when, with_tables};
 ghost use Rattle.schema.specs.Values.{is_moment};
@@ -86,16 +86,25 @@ fn column_name(table: OpenTable, token: &Token) -> Result<Place, Stop>
         Token::Name(name) => {
             let count = table.columns.len();
             if count >= MOST_COLUMNS || has_column(name.text.as_str(), &table.columns) {
+                drop(table);
                 return Err(Stop::Refused);
             }
-            let name = name.text.clone()?;
-            Ok(Place::ColumnType {
-                table,
-                number: count as u8,
-                name,
-            })
+            match name.text.clone() {
+                Ok(name) => Ok(Place::ColumnType {
+                    table,
+                    number: count as u8,
+                    name,
+                }),
+                Err(_) => {
+                    drop(table);
+                    Err(Stop::NoMemory)
+                }
+            }
         }
-        _ => Err(Stop::Refused),
+        _ => {
+            drop(table);
+            Err(Stop::Refused)
+        }
     }
 }
 
@@ -119,9 +128,11 @@ fn column_type(table: OpenTable, number: u8, name: Text, token: &Token) -> Resul
     ensures { Gives result (column_type_at table number name token.now) }
 {
     let Some(kind) = type_of(token) else {
+        drop(table);
         return Err(Stop::Refused);
     };
     if is_serial(kind) && table.serial.is_some() {
+        drop(table);
         return Err(Stop::Refused);
     }
     let column = OpenColumn {
@@ -205,6 +216,7 @@ fn ended(table: OpenTable) -> Result<Place, Stop>
     ensures { Gives result (ended_at table) }
 {
     let Some(key) = table.key else {
+        drop(table);
         return Err(Stop::Refused);
     };
     Ok(Place::End(TableDef {
@@ -229,12 +241,21 @@ fn may_take_fill(column: &OpenColumn) -> bool
     !(is_serial(column.kind) || column.fill.is_some())
 }
 
+/// The token is refused behind the type of a column: what was read is let go.
+fn refused(table: OpenTable, column: OpenColumn) -> Result<Place, Stop>
+    ensures { Gives result None }
+{
+    drop(table);
+    drop(column);
+    Err(Stop::Refused)
+}
+
 /// The place behind a word that begins a part.
 fn begun(table: OpenTable, column: OpenColumn, due: Due, may: bool) -> Result<Place, Stop>
     ensures { Gives result (when may (Place.Column table column due)) }
 {
     if !may {
-        return Err(Stop::Refused);
+        return refused(table, column);
     }
     Ok(Place::Column { table, column, due })
 }
@@ -257,7 +278,7 @@ fn part(table: OpenTable, column: OpenColumn, token: &Token) -> Result<Place, St
         }
         Token::Mark(Mark::Comma) => Ok(Place::ColumnName(with_column(table, column)?)),
         Token::Mark(Mark::Close) => ended(with_column(table, column)?),
-        _ => Err(Stop::Refused),
+        _ => refused(table, column),
     }
 }
 
@@ -273,7 +294,7 @@ fn null(table: OpenTable, mut column: OpenColumn, token: &Token) -> Result<Place
                 due: Due::Part,
             })
         }
-        _ => Err(Stop::Refused),
+        _ => refused(table, column),
     }
 }
 
@@ -289,7 +310,7 @@ fn key(table: OpenTable, mut column: OpenColumn, token: &Token) -> Result<Place,
                 due: Due::Part,
             })
         }
-        _ => Err(Stop::Refused),
+        _ => refused(table, column),
     }
 }
 
@@ -311,7 +332,7 @@ fn filled_with(table: OpenTable, column: OpenColumn, value: Option<Value>) -> Re
 {
     match value {
         Some(value) => Ok(filled(table, column, Fill::Constant(value))),
-        None => Err(Stop::Refused),
+        None => refused(table, column),
     }
 }
 
@@ -339,7 +360,7 @@ fn value(
         Token::Word(Word::Null) => Ok(filled(table, column, Fill::Constant(Value::Null))),
         Token::Word(Word::CurrentTimestamp) => moment(table, column, kind),
         Token::Name(name) => begun(table, column, Due::Open, is_moment(kind) && is_now(name)),
-        _ => Err(Stop::Refused),
+        _ => refused(table, column),
     }
 }
 
@@ -349,7 +370,7 @@ fn moment(table: OpenTable, column: OpenColumn, kind: ColType) -> Result<Place, 
         (is_moment kind) (filled table column Fill.Now)) }
 {
     if !is_moment(kind) {
-        return Err(Stop::Refused);
+        return refused(table, column);
     }
     Ok(filled(table, column, Fill::Now))
 }
@@ -363,7 +384,7 @@ fn open(table: OpenTable, column: OpenColumn, token: &Token) -> Result<Place, St
             column,
             due: Due::Close,
         }),
-        _ => Err(Stop::Refused),
+        _ => refused(table, column),
     }
 }
 
@@ -372,7 +393,7 @@ fn close(table: OpenTable, column: OpenColumn, token: &Token) -> Result<Place, S
 {
     match token {
         Token::Mark(Mark::Close) => Ok(filled(table, column, Fill::Now)),
-        _ => Err(Stop::Refused),
+        _ => refused(table, column),
     }
 }
 

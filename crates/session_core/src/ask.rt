@@ -12,7 +12,7 @@ use pool_base::{BackendId, BackendSet, NoMemory, SessionId};
 use write_path::{Chain, ChainKind};
 
 /// A step of a statement, the same at each backend.
-#[derive(Clone, Copy, Debug, PartialEq, Eq)]
+#[derive(Clone, Copy, PartialEq, Eq)]
 pub(crate) enum Step {
     Begin,
     Run(Checked),

@@ -9,7 +9,7 @@ use session_machine::Heard;
 use std::alloc::Global;
 
 /// The answers in the order in which they came, with room for one of each backend.
-#[derive(Debug, Drop)]
+#[derive(Drop)]
 pub struct Answers {
     items: Vec<Heard>,
     ghost roomy: { 8 ≤ vec_capacity items },

@@ -4,7 +4,7 @@ use pool_base::{BackendId, BackendSet};
 use session_machine::{Ending, Outcome, Stage, Work};
 
 /// What is due. The answers that it speaks of are named by their places in the chain.
-#[derive(Debug, Drop)]
+#[derive(Drop)]
 pub enum Due {
     Resting,
     EnterDue(Work),

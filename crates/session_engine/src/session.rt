@@ -18,7 +18,7 @@ use std::alloc::Global;
 ///
 /// After: where a call answers want of memory, it has taken what it was told all the same; only
 /// what is due was not handed out, and `give_up` is the one call that is left.
-#[derive(Debug, Drop)]
+#[derive(Drop)]
 pub struct Core {
     standing: Standing,
     /// The last call answered want of memory.

@@ -22,7 +22,7 @@ const NO_VIEW: View = View {
 };
 
 /// Where a session stands: what it holds, and what is due of it.
-#[derive(Debug, Drop)]
+#[derive(Drop)]
 pub struct Standing {
     pub id: SessionId,
     pub policy: ReadPolicy,

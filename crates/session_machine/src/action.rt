@@ -7,7 +7,7 @@ use backend_trait::{Answer, Request};
 use pool_base::{BackendId, GateAnswer, GateCall};
 
 /// Why a backend is detached.
-#[derive(Debug, PartialEq, Eq, Drop)]
+#[derive(PartialEq, Eq, Drop)]
 pub enum Cause {
     /// It was lost: its count of faults before and after the call that shows it.
     Fault { before: u64, after: u64 },
@@ -16,7 +16,7 @@ pub enum Cause {
 }
 
 /// What is due.
-#[derive(Debug, PartialEq, Eq, Drop)]
+#[derive(PartialEq, Eq, Drop)]
 pub enum Action {
     /// Nothing: an order may come.
     Rest,
@@ -30,7 +30,7 @@ pub enum Action {
 }
 
 /// What takes place at a session.
-#[derive(Debug, PartialEq, Eq, Drop)]
+#[derive(PartialEq, Eq, Drop)]
 pub enum SessionEvent {
     Ordered(Order),
     /// The gate's answer to a call. A call that is held and tried again is no event.

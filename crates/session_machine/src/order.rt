@@ -4,7 +4,7 @@ use backend_trait::Checked;
 use pool_base::{Code, Text};
 
 /// The verb of a write.
-#[derive(Clone, Copy, Debug, PartialEq, Eq)]
+#[derive(Clone, Copy, PartialEq, Eq)]
 pub enum Verb {
     Insert,
     Update,
@@ -12,7 +12,7 @@ pub enum Verb {
 }
 
 /// How a statement is sent to the backends.
-#[derive(Clone, Copy, Debug, PartialEq, Eq)]
+#[derive(Clone, Copy, PartialEq, Eq)]
 pub enum Class {
     /// One backend answers.
     Read,
@@ -24,7 +24,7 @@ pub enum Class {
 }
 
 /// A statement with its class, and the tables that it changes as the bits of a number.
-#[derive(Clone, Copy, Debug, PartialEq, Eq)]
+#[derive(Clone, Copy, PartialEq, Eq)]
 pub struct Work {
     pub statement: Checked,
     pub class: Class,
@@ -32,7 +32,7 @@ pub struct Work {
 }
 
 /// What is ordered.
-#[derive(Debug, PartialEq, Eq, Drop)]
+#[derive(PartialEq, Eq, Drop)]
 pub enum OrderBody {
     Statement(Work),
     Begin,
@@ -52,7 +52,7 @@ pub enum OrderBody {
 /// An order with its moment.
 ///
 /// Units: microseconds since 2000-01-01 00:00 UTC.
-#[derive(Debug, PartialEq, Eq, Drop)]
+#[derive(PartialEq, Eq, Drop)]
 pub struct Order {
     pub moment: i64,
     pub body: OrderBody,

@@ -6,7 +6,7 @@ use pool_base::{BackendSet, Code, List, Text};
 use std::alloc::AllocError;
 
 /// The tag of a statement that is done, with its count where it has one.
-#[derive(Clone, Copy, Debug, PartialEq, Eq)]
+#[derive(Clone, Copy, PartialEq, Eq)]
 pub enum Tag {
     Select(u64),
     Insert(u64),
@@ -20,7 +20,7 @@ pub enum Tag {
 }
 
 /// What becomes of an order.
-#[derive(Debug, PartialEq, Eq, Drop)]
+#[derive(PartialEq, Eq, Drop)]
 pub enum Outcome {
     Rows { rows: List<Row>, tag: Tag },
     /// It is done, with a warning or without.

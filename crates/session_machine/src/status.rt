@@ -10,7 +10,7 @@ ghost use Rattle.session_machine.specs.Rules.{status_failed};
 ///    ^                   |                        |
 ///    +-- Commit, Rollback +---- Commit, Rollback -+
 /// ```
-#[derive(Clone, Copy, Debug, PartialEq, Eq)]
+#[derive(Clone, Copy, PartialEq, Eq)]
 pub enum Status {
     /// Outside a block.
     Idle,

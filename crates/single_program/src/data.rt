@@ -7,7 +7,7 @@ use world_program::Replicas;
 
 /// A world with the run of the single store beside it; and by session's number the order under way,
 /// and the backends that have done the commit that the session entered last.
-#[derive(Debug, Drop)]
+#[derive(Drop)]
 pub struct Track {
     pub world: Replicas,
     pub run: Run,

@@ -19,7 +19,7 @@ use crate::state::GateState;
 use pool_base::{BackendId, BackendSet, GateAnswer, GateCall, View};
 
 /// The gate: what it holds, and the facts that every call keeps.
-#[derive(Clone, Copy, Debug, PartialEq, Eq)]
+#[derive(Clone, Copy, PartialEq, Eq)]
 pub struct Gate {
     pub state: GateState,
     ghost ordered: { state.commits ≤ state.live },

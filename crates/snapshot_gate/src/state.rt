@@ -2,7 +2,7 @@
 use pool_base::BackendSet;
 
 /// What the gate holds. All but `attached` is 0 at the start.
-#[derive(Clone, Copy, Debug, PartialEq, Eq)]
+#[derive(Clone, Copy, PartialEq, Eq)]
 pub struct GateState {
     /// The attached backends.
     pub attached: BackendSet,

@@ -45,7 +45,7 @@ pub(crate) fn with_draws(draws: u32, fault: ExprFault) -> EvalFault
 }
 
 /// What a read gives.
-#[derive(Debug, PartialEq, Eq, Drop)]
+#[derive(Drop)]
 pub struct ReadEffect {
     pub rows: List<Row>,
     /// The keys of the rows that FOR UPDATE wants; none without it.
@@ -53,7 +53,7 @@ pub struct ReadEffect {
 }
 
 /// What a write leaves at a key: a new row, or none any more.
-#[derive(Debug, PartialEq, Eq, Drop)]
+#[derive(Drop)]
 pub struct Change {
     pub table: u8,
     pub key: Value,
@@ -61,7 +61,7 @@ pub struct Change {
 }
 
 /// What a write does.
-#[derive(Debug, PartialEq, Eq, Drop)]
+#[derive(Drop)]
 pub struct WriteEffect {
     /// One for each row that is written; no two have one key.
     pub changes: List<Change>,

@@ -6,7 +6,7 @@ use pool_base::List;
 use std::alloc::AllocError;
 
 /// A row: one value for each column.
-#[derive(Debug, PartialEq, Eq, Drop)]
+#[derive(PartialEq, Eq, Drop)]
 pub struct Row {
     pub cells: List<Value>,
 }

@@ -2,6 +2,7 @@
 //! a fault is at the first token at which no expression can go on.
 #![tactic(auto)]
 
+mod front;
 mod marks;
 mod opening;
 mod read;

@@ -1,7 +1,7 @@
 //! The tokens that begin a nesting.
 
 /// A function without arguments.
-#[derive(Clone, Copy, Debug, PartialEq, Eq)]
+#[derive(Clone, Copy, PartialEq, Eq)]
 pub enum Function {
     /// `now()`
     Now,
@@ -10,7 +10,7 @@ pub enum Function {
 }
 
 /// A token that begins a nesting of an expression.
-#[derive(Clone, Copy, Debug, PartialEq, Eq)]
+#[derive(Clone, Copy, PartialEq, Eq)]
 pub enum Opening {
     /// A unary `-`.
     Minus,

@@ -29,6 +29,7 @@ fn all(alloc: Global, tokens: &[Token]) -> Result<Expr, ReadError>
 {
     let (whole, rest) = read_front(alloc, tokens)?;
     if !rest.is_empty() {
+        drop(whole);
         return Err(unexpected(rest, Awaited::End));
     }
     Ok(whole)

@@ -1,31 +1,22 @@
 //! Reads expressions from left to right, a function for each level of the grammar.
-ghost use Rattle.std.specs.Prelude.{◌≡◌, ◌<◌, ◌≤◌, ◌∷◌, length, IfOk};
+ghost use Rattle.std.specs.Prelude.{◌≡◌, ◌<◌, ◌≤◌, length, IfOk};
 ghost use Rattle.sql_grammar.specs.Grammar.{part};
 ghost use Rattle.sql_grammar.specs.Reading.{Gives, tails};
 ghost use Rattle.sql_expr.specs.declared.opening.Opening.TheVariants.{Parenthesis};
 ghost use Rattle.sql_expr.specs.Grammar.{sum_part, product_part};
 ghost use Rattle.sql_expr.specs.Reading.{after_or, after_and, after_is, after_comma, after_bars, after_sign, after_factor_sign, nullity_at, named_with, prim_with, un_with, product_with, sum_with, cat_with, items_with, list_with, member_with, mem_rest, mem_with, compared_with, cmp_rest, cmp_with, test_with, not_with, and_with, or_with, minus_with, negated_with, behind};
 
+use crate::front::in_front;
 use crate::marks::{
     mark_and, mark_bars, mark_comma, mark_factor_sign, mark_is, mark_or, mark_sign,
 };
 use crate::opening::Opening;
 use crate::words::{called, close, function_of, name, nullity, string, word_in};
-use pool_base::{Boxed, List, NoMemory};
+use pool_base::{Boxed, List};
 use sql_grammar::{Awaited, Fault, ReadError, unexpected};
 use sql_tokens::{Mark, Name, Token, Word};
 use sql_tree::{Comparison, Expr, ProductPart, SumPart};
 use std::alloc::Global;
-
-/// The list with an item before the others.
-fn in_front(alloc: Global, first: Expr, others: List<Expr>) -> Result<List<Expr>, NoMemory>
-    ensures { IfOk result (λ all. all ≡ first ∷ others) }
-{
-    let mut all = List::new(alloc);
-    all.push(first)?;
-    all.append(others)?;
-    Ok(all)
-}
 
 /// What stands behind a token that begins a nesting, where `depth` nestings may still begin.
 #[cycle(reading)]
@@ -84,14 +75,8 @@ fn named<'a>(
             }
         },
         _ => {
-            let name = first.text.clone()?;
-            Ok((
-                Expr::Column {
-                    qualifier: None,
-                    name,
-                },
-                tokens,
-            ))
+            let (qualifier, name) = (None, first.text.clone()?);
+            Ok((Expr::Column { qualifier, name }, tokens))
         }
     }
 }
@@ -110,8 +95,13 @@ fn primary(alloc: Global, depth: u32, tokens: &[Token]) -> Result<(Expr, &[Token
         [Token::Name(name), after @ ..] => named(alloc, depth, name, after),
         [Token::Mark(Mark::Open), after @ ..] => {
             let (inner, rest) = nested(alloc, depth, Opening::Parenthesis, after)?;
-            let rest = close(rest)?;
-            Ok((inner, rest))
+            match close(rest) {
+                Ok(rest) => Ok((inner, rest)),
+                Err(fault) => {
+                    drop(inner);
+                    Err(fault)
+                }
+            }
         }
         [Token::Word(Word::True), after @ ..] => Ok((Expr::Bool(true), after)),
         [Token::Word(Word::False), after @ ..] => Ok((Expr::Bool(false), after)),
@@ -183,11 +173,18 @@ fn product(alloc: Global, depth: u32, tokens: &[Token]) -> Result<(Expr, &[Token
     ensures shorter { IfOk result (λ x. length x.1.now < length tokens.now) }
 {
     let (first, rest) = unary(alloc, depth, tokens)?;
-    let (others, rest) = factors(alloc, depth, rest)?;
-    if others.is_empty() {
-        return Ok((first, rest));
+    match factors(alloc, depth, rest) {
+        Ok((others, rest)) => {
+            if others.is_empty() {
+                return Ok((first, rest));
+            }
+            Ok((Expr::Product(Boxed::new(alloc, first)?, others), rest))
+        }
+        Err(fault) => {
+            drop(first);
+            Err(fault)
+        }
     }
-    Ok((Expr::Product(Boxed::new(alloc, first)?, others), rest))
 }
 
 /// The further parts of a sum.
@@ -219,11 +216,18 @@ fn sum(alloc: Global, depth: u32, tokens: &[Token]) -> Result<(Expr, &[Token]), 
     ensures shorter { IfOk result (λ x. length x.1.now < length tokens.now) }
 {
     let (first, rest) = product(alloc, depth, tokens)?;
-    let (others, rest) = summands(alloc, depth, rest)?;
-    if others.is_empty() {
-        return Ok((first, rest));
+    match summands(alloc, depth, rest) {
+        Ok((others, rest)) => {
+            if others.is_empty() {
+                return Ok((first, rest));
+            }
+            Ok((Expr::Sum(Boxed::new(alloc, first)?, others), rest))
+        }
+        Err(fault) => {
+            drop(first);
+            Err(fault)
+        }
     }
-    Ok((Expr::Sum(Boxed::new(alloc, first)?, others), rest))
 }
 
 /// The further parts with `||` before them.
@@ -251,11 +255,18 @@ fn concatenation(alloc: Global, depth: u32, tokens: &[Token]) -> Result<(Expr, &
     ensures shorter { IfOk result (λ x. length x.1.now < length tokens.now) }
 {
     let (first, rest) = sum(alloc, depth, tokens)?;
-    let (others, rest) = joined(alloc, depth, rest)?;
-    if others.is_empty() {
-        return Ok((first, rest));
+    match joined(alloc, depth, rest) {
+        Ok((others, rest)) => {
+            if others.is_empty() {
+                return Ok((first, rest));
+            }
+            Ok((Expr::Concat(in_front(alloc, first, others)?), rest))
+        }
+        Err(fault) => {
+            drop(first);
+            Err(fault)
+        }
     }
-    Ok((Expr::Concat(in_front(alloc, first, others)?), rest))
 }
 
 /// The further items of a list.
@@ -287,8 +298,13 @@ fn items(alloc: Global, depth: u32, tokens: &[Token]) -> Result<(List<Expr>, &[T
     ensures shorter { IfOk result (λ x. length x.1.now < length tokens.now) }
 {
     let (first, rest) = nested(alloc, depth, Opening::Parenthesis, tokens)?;
-    let (others, rest) = further_items(alloc, depth, rest)?;
-    Ok((in_front(alloc, first, others)?, rest))
+    match further_items(alloc, depth, rest) {
+        Ok((others, rest)) => Ok((in_front(alloc, first, others)?, rest)),
+        Err(fault) => {
+            drop(first);
+            Err(fault)
+        }
+    }
 }
 
 /// The list behind IN.
@@ -321,8 +337,8 @@ fn member(
         (member_with (behind depth) of negated tokens.now) }
     ensures shorter { IfOk result (λ x. length x.1.now < length tokens.now) }
 {
-    let (list, rest) = list(alloc, depth, tokens)?;
     let of = Boxed::new(alloc, of)?;
+    let (list, rest) = list(alloc, depth, tokens)?;
     Ok((Expr::Member { of, negated, list }, rest))
 }
 
@@ -341,8 +357,13 @@ fn member_or(
     match tokens {
         [Token::Word(Word::In), after @ ..] => member(alloc, depth, of, false, after),
         [Token::Word(Word::Not), after @ ..] => {
-            let after = word_in(after)?;
-            member(alloc, depth, of, true, after)
+            match word_in(after) {
+                Ok(after) => member(alloc, depth, of, true, after),
+                Err(fault) => {
+                    drop(of);
+                    Err(fault)
+                }
+            }
         }
         _ => Ok((of, tokens)),
     }
@@ -372,8 +393,8 @@ fn compared(
         (compared_with (behind depth) comparison left tokens.now) }
     ensures shorter { IfOk result (λ x. length x.1.now < length tokens.now) }
 {
-    let (right, rest) = membership(alloc, depth, tokens)?;
     let left = Boxed::new(alloc, left)?;
+    let (right, rest) = membership(alloc, depth, tokens)?;
     let right = Boxed::new(alloc, right)?;
     Ok((Expr::Compare(comparison, left, right), rest))
 }
@@ -447,12 +468,19 @@ fn test(alloc: Global, depth: u32, tokens: &[Token]) -> Result<(Expr, &[Token]),
     ensures shorter { IfOk result (λ x. length x.1.now < length tokens.now) }
 {
     let (of, rest) = comparison(alloc, depth, tokens)?;
-    let (tests, rest) = tests(alloc, rest)?;
-    if tests.is_empty() {
-        return Ok((of, rest));
+    match tests(alloc, rest) {
+        Ok((tests, rest)) => {
+            if tests.is_empty() {
+                return Ok((of, rest));
+            }
+            let of = Boxed::new(alloc, of)?;
+            Ok((Expr::IsNull { of, tests }, rest))
+        }
+        Err(fault) => {
+            drop(of);
+            Err(fault)
+        }
     }
-    let of = Boxed::new(alloc, of)?;
-    Ok((Expr::IsNull { of, tests }, rest))
 }
 
 /// What stands behind NOT, and the tree of both.
@@ -507,11 +535,18 @@ fn conjunction(alloc: Global, depth: u32, tokens: &[Token]) -> Result<(Expr, &[T
     ensures shorter { IfOk result (λ x. length x.1.now < length tokens.now) }
 {
     let (first, rest) = negation(alloc, depth, tokens)?;
-    let (others, rest) = conjuncts(alloc, depth, rest)?;
-    if others.is_empty() {
-        return Ok((first, rest));
+    match conjuncts(alloc, depth, rest) {
+        Ok((others, rest)) => {
+            if others.is_empty() {
+                return Ok((first, rest));
+            }
+            Ok((Expr::And(in_front(alloc, first, others)?), rest))
+        }
+        Err(fault) => {
+            drop(first);
+            Err(fault)
+        }
     }
-    Ok((Expr::And(in_front(alloc, first, others)?), rest))
 }
 
 /// The further parts with OR before them.
@@ -547,9 +582,16 @@ pub(crate) fn disjunction(
     ensures shorter { IfOk result (λ x. length x.1.now < length tokens.now) }
 {
     let (first, rest) = conjunction(alloc, depth, tokens)?;
-    let (others, rest) = disjuncts(alloc, depth, rest)?;
-    if others.is_empty() {
-        return Ok((first, rest));
+    match disjuncts(alloc, depth, rest) {
+        Ok((others, rest)) => {
+            if others.is_empty() {
+                return Ok((first, rest));
+            }
+            Ok((Expr::Or(in_front(alloc, first, others)?), rest))
+        }
+        Err(fault) => {
+            drop(first);
+            Err(fault)
+        }
     }
-    Ok((Expr::Or(in_front(alloc, first, others)?), rest))
 }

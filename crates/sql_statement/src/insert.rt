@@ -53,8 +53,13 @@ fn cells(alloc: Global, tokens: &[Token]) -> Result<(List<Cell>, &[Token]), Read
     ensures shorter { IfOk result (λ x. length x.1.now < length tokens.now) }
 {
     let (first, rest) = cell(alloc, tokens)?;
-    let (others, rest) = further_cells(alloc, rest)?;
-    Ok((in_front(alloc, first, others)?, rest))
+    match further_cells(alloc, rest) {
+        Ok((others, rest)) => Ok((in_front(alloc, first, others)?, rest)),
+        Err(fault) => {
+            drop(first);
+            Err(fault)
+        }
+    }
 }
 
 /// A row.

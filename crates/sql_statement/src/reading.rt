@@ -74,8 +74,13 @@ fn sets(alloc: Global, tokens: &[Token]) -> Result<(List<SetItem>, &[Token]), Re
     ensures shorter { IfOk result (λ x. length x.1.now < length tokens.now) }
 {
     let (first, rest) = set(alloc, tokens)?;
-    let (others, rest) = further_sets(alloc, rest)?;
-    Ok((in_front(alloc, first, others)?, rest))
+    match further_sets(alloc, rest) {
+        Ok((others, rest)) => Ok((in_front(alloc, first, others)?, rest)),
+        Err(fault) => {
+            drop(first);
+            Err(fault)
+        }
+    }
 }
 
 /// A change, behind UPDATE.

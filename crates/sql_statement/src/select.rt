@@ -43,8 +43,13 @@ fn item(alloc: Global, tokens: &[Token]) -> Result<(SelectItem, &[Token]), ReadE
     ensures shorter { IfOk result (λ x. length x.1.now < length tokens.now) }
 {
     let (expr, rest) = read_front(alloc, tokens)?;
-    let (name, rest) = alias(rest)?;
-    Ok((SelectItem { expr, name }, rest))
+    match alias(rest) {
+        Ok((name, rest)) => Ok((SelectItem { expr, name }, rest)),
+        Err(fault) => {
+            drop(expr);
+            Err(fault)
+        }
+    }
 }
 
 /// The further expressions and their names.
@@ -70,8 +75,13 @@ fn items(alloc: Global, tokens: &[Token]) -> Result<(List<SelectItem>, &[Token])
     ensures shorter { IfOk result (λ x. length x.1.now < length tokens.now) }
 {
     let (first, rest) = item(alloc, tokens)?;
-    let (others, rest) = further_items(alloc, rest)?;
-    Ok((in_front(alloc, first, others)?, rest))
+    match further_items(alloc, rest) {
+        Ok((others, rest)) => Ok((in_front(alloc, first, others)?, rest)),
+        Err(fault) => {
+            drop(first);
+            Err(fault)
+        }
+    }
 }
 
 /// The count of rows, behind `count(`.
@@ -241,17 +251,37 @@ fn behind_from(alloc: Global, tokens: &[Token]) -> Result<(Source, &[Token]), Re
 {
     let (table, rest) = name(tokens)?;
     let (filter, rest) = filter(alloc, rest)?;
-    let (order, rest) = order(alloc, rest)?;
-    let (limit, rest) = limit(alloc, rest)?;
-    let (for_update, rest) = for_update(rest)?;
-    let source = Source {
-        table,
-        filter,
-        order,
-        limit,
-        for_update,
+    let (order, rest) = match order(alloc, rest) {
+        Ok(found) => found,
+        Err(fault) => {
+            drop(filter);
+            return Err(fault);
+        }
     };
-    Ok((source, rest))
+    let (limit, rest) = match limit(alloc, rest) {
+        Ok(found) => found,
+        Err(fault) => {
+            drop(filter);
+            return Err(fault);
+        }
+    };
+    match for_update(rest) {
+        Ok((for_update, rest)) => {
+            let source = Source {
+                table,
+                filter,
+                order,
+                limit,
+                for_update,
+            };
+            Ok((source, rest))
+        }
+        Err(fault) => {
+            drop(filter);
+            drop(limit);
+            Err(fault)
+        }
+    }
 }
 
 /// The SELECT of a list from a table.

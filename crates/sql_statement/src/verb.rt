@@ -1,7 +1,7 @@
 //! The words that begin a statement.
 
 /// A word that begins a statement.
-#[derive(Clone, Copy, Debug, PartialEq, Eq)]
+#[derive(Clone, Copy, PartialEq, Eq)]
 pub enum Verb {
     /// SELECT
     Select,

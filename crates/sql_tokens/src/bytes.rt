@@ -5,7 +5,7 @@ ghost use Rattle.sql_tokens.specs.Bytes.{is_space, begins_name, is_strange, has,
 use crate::Mark;
 
 /// The classes of bytes that run together.
-#[derive(Clone, Copy, Debug)]
+#[derive(Clone, Copy)]
 pub enum Class {
     /// In a name.
     Name,
@@ -19,7 +19,7 @@ pub enum Class {
 }
 
 /// What the first byte tells of what begins there.
-#[derive(Clone, Copy, Debug)]
+#[derive(Clone, Copy)]
 pub enum Kind {
     Letter,
     Space,

@@ -13,7 +13,7 @@ use pool_base::NoMemory;
 use std::alloc::Global;
 
 /// A piece of a text.
-#[derive(Debug, Drop)]
+#[derive(Drop)]
 pub enum Piece {
     /// A space or a comment.
     Gap,

@@ -14,7 +14,7 @@ use std::alloc::Global;
 use std::str;
 
 /// What stands next between quotes.
-#[derive(Clone, Copy, Debug)]
+#[derive(Clone, Copy)]
 pub enum Chunk<'a> {
     /// A part of the text, up to a doubled quote, and what follows.
     Part(&'a [u8], &'a [u8]),

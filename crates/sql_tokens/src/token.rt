@@ -3,7 +3,7 @@ use crate::{Mark, Word};
 use pool_base::Text;
 
 /// A token.
-#[derive(Debug, PartialEq, Eq, Drop)]
+#[derive(PartialEq, Eq, Drop)]
 pub enum Token {
     Word(Word),
     Mark(Mark),
@@ -20,7 +20,7 @@ pub enum Token {
 }
 
 /// A name.
-#[derive(Debug, PartialEq, Eq, Drop)]
+#[derive(PartialEq, Eq, Drop)]
 pub struct Name {
     /// Without quotes in lower case; in quotes as it stands there, a doubled quote being one.
     pub text: Text,
@@ -48,7 +48,7 @@ pub enum TokenFault {
 }
 
 /// A token and where it stands.
-#[derive(Debug, PartialEq, Eq, Drop)]
+#[derive(PartialEq, Eq, Drop)]
 pub struct Placed {
     pub token: Token,
     /// The byte at which the token begins, from 0.

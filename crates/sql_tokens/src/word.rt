@@ -5,7 +5,7 @@ ghost use Rattle.sql_tokens.specs.Words.{spelling, is_outside};
 
 /// A reserved word: one of the grammar of statements and schemas, or one of the outside list, which
 /// are words of SQL that the profile leaves out.
-#[derive(Clone, Copy, Debug, PartialEq, Eq, Drop)]
+#[derive(Clone, Copy, PartialEq, Eq, Drop)]
 pub enum Word {
     Abort,
     All,

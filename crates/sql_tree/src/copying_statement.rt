@@ -108,14 +108,24 @@ fn copied(statement: &Statement) -> Result<Statement, NoMemory>
 fn copied_select(select: &Select) -> Result<Select, NoMemory>
     ensures { IfOk result (λ copy. copy ≡ select.now) }
 {
-    Ok(Select {
-        list: copied_list(&select.list)?,
-        table: copied_name(&select.table)?,
-        filter: copied_filter(&select.filter)?,
-        order: copied_orders(&select.order)?,
-        limit: copied_filter(&select.limit)?,
-        for_update: select.for_update,
-    })
+    let list = copied_list(&select.list)?;
+    let table = copied_name(&select.table)?;
+    let order = copied_orders(&select.order)?;
+    let filter = copied_filter(&select.filter)?;
+    match copied_filter(&select.limit) {
+        Ok(limit) => Ok(Select {
+            list,
+            table,
+            filter,
+            order,
+            limit,
+            for_update: select.for_update,
+        }),
+        Err(NoMemory) => {
+            drop(filter);
+            Err(NoMemory)
+        }
+    }
 }
 
 fn copied_list(given: &SelectList) -> Result<SelectList, NoMemory>
@@ -131,9 +141,10 @@ fn copied_list(given: &SelectList) -> Result<SelectList, NoMemory>
 fn copied_item(item: &SelectItem) -> Result<SelectItem, NoMemory>
     ensures { IfOk result (λ copy. copy ≡ item.now) }
 {
+    let name = copied_name(&item.name)?;
     Ok(SelectItem {
         expr: item.expr.clone()?,
-        name: copied_name(&item.name)?,
+        name,
     })
 }
 

@@ -2,7 +2,7 @@
 use pool_base::{Boxed, List, Text};
 
 /// How two values are compared.
-#[derive(Clone, Copy, Debug, PartialEq, Eq)]
+#[derive(Clone, Copy, PartialEq, Eq)]
 pub enum Comparison {
     /// `=`
     Equal,
@@ -19,7 +19,7 @@ pub enum Comparison {
 }
 
 /// How a further factor is joined.
-#[derive(Clone, Copy, Debug, PartialEq, Eq)]
+#[derive(Clone, Copy, PartialEq, Eq)]
 pub enum ProductSign {
     /// `*`
     Times,
@@ -31,7 +31,7 @@ pub enum ProductSign {
 
 /// An expression. A chain of one operator is one list, taken from the left.
 #[cycle(expr)]
-#[derive(Debug, PartialEq, Eq, Drop)]
+#[derive(PartialEq, Eq, Drop)]
 pub enum Expr {
     /// Parts with OR between them, two or more.
     Or(List<Expr>),
@@ -87,7 +87,7 @@ pub enum Expr {
 
 /// A further summand and its sign.
 #[cycle(expr)]
-#[derive(Debug, PartialEq, Eq, Drop)]
+#[derive(PartialEq, Eq, Drop)]
 pub struct SumPart {
     pub minus: bool,
     pub part: Expr,
@@ -95,7 +95,7 @@ pub struct SumPart {
 
 /// A further factor and its sign.
 #[cycle(expr)]
-#[derive(Debug, PartialEq, Eq, Drop)]
+#[derive(PartialEq, Eq, Drop)]
 pub struct ProductPart {
     pub sign: ProductSign,
     pub part: Expr,

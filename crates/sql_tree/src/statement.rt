@@ -3,7 +3,7 @@ use crate::expr::Expr;
 use pool_base::{List, Text};
 
 /// A statement.
-#[derive(Debug, PartialEq, Eq, Drop)]
+#[derive(PartialEq, Eq, Drop)]
 pub enum Statement {
     /// SELECT.
     Select(Select),
@@ -26,7 +26,7 @@ pub enum Statement {
 }
 
 /// What a SELECT gives, from which table, which rows, in which order, how many.
-#[derive(Debug, PartialEq, Eq, Drop)]
+#[derive(PartialEq, Eq, Drop)]
 pub struct Select {
     pub list: SelectList,
     pub table: Option<Text>,
@@ -37,7 +37,7 @@ pub struct Select {
 }
 
 /// Rows that go into a table. Without columns, a row has a cell for each column of the table.
-#[derive(Debug, PartialEq, Eq, Drop)]
+#[derive(PartialEq, Eq, Drop)]
 pub struct Insert {
     pub table: Text,
     pub columns: Option<List<Text>>,
@@ -45,7 +45,7 @@ pub struct Insert {
 }
 
 /// Values that columns get in the rows of a filter.
-#[derive(Debug, PartialEq, Eq, Drop)]
+#[derive(PartialEq, Eq, Drop)]
 pub struct Update {
     pub table: Text,
     pub sets: List<SetItem>,
@@ -53,14 +53,14 @@ pub struct Update {
 }
 
 /// The rows of a filter, which leave a table.
-#[derive(Debug, PartialEq, Eq, Drop)]
+#[derive(PartialEq, Eq, Drop)]
 pub struct Delete {
     pub table: Text,
     pub filter: Option<Expr>,
 }
 
 /// What a SELECT gives.
-#[derive(Debug, PartialEq, Eq, Drop)]
+#[derive(PartialEq, Eq, Drop)]
 pub enum SelectList {
     /// `*`: all columns.
     Star,
@@ -71,14 +71,14 @@ pub enum SelectList {
 }
 
 /// An expression, and the name that AS gives it.
-#[derive(Debug, PartialEq, Eq, Drop)]
+#[derive(PartialEq, Eq, Drop)]
 pub struct SelectItem {
     pub expr: Expr,
     pub name: Option<Text>,
 }
 
 /// A column that rows are ordered by, and whether its values fall.
-#[derive(Debug, PartialEq, Eq, Drop)]
+#[derive(PartialEq, Eq, Drop)]
 pub struct OrderItem {
     pub qualifier: Option<Text>,
     pub column: Text,
@@ -86,14 +86,14 @@ pub struct OrderItem {
 }
 
 /// A column and its new value.
-#[derive(Debug, PartialEq, Eq, Drop)]
+#[derive(PartialEq, Eq, Drop)]
 pub struct SetItem {
     pub column: Text,
     pub expr: Expr,
 }
 
 /// A cell of a row that goes into a table.
-#[derive(Debug, PartialEq, Eq, Drop)]
+#[derive(PartialEq, Eq, Drop)]
 pub enum Cell {
     /// DEFAULT: what the column is filled with.
     Fill,

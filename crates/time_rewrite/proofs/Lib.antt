@@ -1,6 +1,6 @@
-mod Forms
+pub mod Forms
 mod Folding
-mod TimelessLemmas
+pub mod TimelessLemmas
 mod ValueLemmas
 mod Refusals
 mod Wholes

@@ -54,15 +54,26 @@ fn body_at(moment: i64, body: &CheckedBody) -> Result<CheckedBody, NoMemory>
     ensures { IfOk result (λ made. made ≡ body_at moment body.now) }
 {
     match body {
-        CheckedBody::Read(read) => Ok(CheckedBody::Read(CheckedRead {
-            table: read.table,
-            count: read.count,
-            list: all_at(moment, &read.list)?,
-            filter: some_at(moment, &read.filter)?,
-            order: List::from_slice(read.order.allocator(), read.order.as_slice())?,
-            limit: some_at(moment, &read.limit)?,
-            for_update: read.for_update,
-        })),
+        CheckedBody::Read(read) => {
+            let list = all_at(moment, &read.list)?;
+            let order = List::from_slice(read.order.allocator(), read.order.as_slice())?;
+            let filter = some_at(moment, &read.filter)?;
+            match some_at(moment, &read.limit) {
+                Ok(limit) => Ok(CheckedBody::Read(CheckedRead {
+                    table: read.table,
+                    count: read.count,
+                    list,
+                    filter,
+                    order,
+                    limit,
+                    for_update: read.for_update,
+                })),
+                Err(full) => {
+                    drop(filter);
+                    Err(full)
+                }
+            }
+        }
         CheckedBody::Insert(insert) => Ok(CheckedBody::Insert(CheckedInsert {
             table: insert.table,
             rows: rows_at(moment, &insert.rows)?,

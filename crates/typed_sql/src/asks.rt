@@ -2,14 +2,14 @@
 use pg_values::ColType;
 
 /// What a string, NULL and a parameter of no type take at a place, and which types may stand there.
-#[derive(Clone, Copy, Debug, PartialEq, Eq)]
+#[derive(Clone, Copy, PartialEq, Eq)]
 pub struct Asks {
     pub leaf: ColType,
     pub takes: Takes,
 }
 
 /// Which types may stand at a place.
-#[derive(Clone, Copy, Debug, PartialEq, Eq)]
+#[derive(Clone, Copy, PartialEq, Eq)]
 pub enum Takes {
     Any,
     /// int4 and int8.

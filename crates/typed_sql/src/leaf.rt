@@ -102,10 +102,11 @@ pub(crate) fn parameter(
     if !may {
         return Err(no_parameter(alloc));
     }
-    let form = TypedForm::Param(number);
     if let Some(kind) = known_kind(number, known.as_slice()) {
+        let form = TypedForm::Param(number);
         return Ok(TypedExpr { kind, form });
     }
     put_kind(number, leaf, known)?;
+    let form = TypedForm::Param(number);
     Ok(TypedExpr { kind: leaf, form })
 }

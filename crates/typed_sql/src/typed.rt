@@ -5,7 +5,7 @@ use sql_tree::{Comparison, ProductSign};
 
 /// An expression and the type of its values.
 #[cycle(typed)]
-#[derive(Debug, PartialEq, Eq, Drop)]
+#[derive(PartialEq, Eq, Drop)]
 pub struct TypedExpr {
     pub kind: ColType,
     pub form: TypedForm,
@@ -13,7 +13,7 @@ pub struct TypedExpr {
 
 /// An expression by its form. A chain of one operator is one list, taken from the left.
 #[cycle(typed)]
-#[derive(Debug, PartialEq, Eq, Drop)]
+#[derive(PartialEq, Eq, Drop)]
 pub enum TypedForm {
     /// Parts with OR between them, two or more.
     Or(List<TypedExpr>),
@@ -51,7 +51,7 @@ pub enum TypedForm {
 
 /// A further summand and its sign.
 #[cycle(typed)]
-#[derive(Debug, PartialEq, Eq, Drop)]
+#[derive(PartialEq, Eq, Drop)]
 pub struct TypedSumPart {
     pub minus: bool,
     pub part: TypedExpr,
@@ -59,7 +59,7 @@ pub struct TypedSumPart {
 
 /// A further factor and its sign.
 #[cycle(typed)]
-#[derive(Debug, PartialEq, Eq, Drop)]
+#[derive(PartialEq, Eq, Drop)]
 pub struct TypedProductPart {
     pub sign: ProductSign,
     pub part: TypedExpr,

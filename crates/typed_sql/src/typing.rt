@@ -19,7 +19,7 @@ use crate::own::{first_factor, first_own, first_summand, is_least_int4, own_kind
 use crate::scope::Scope;
 use crate::typed::{TypedExpr, TypedForm, TypedProductPart, TypedSumPart};
 use pg_values::{ColType, Value};
-use pool_base::{Boxed, List, Text};
+use pool_base::{Boxed, List, NoMemory, Text};
 use sql_tree::{Comparison, Expr, ProductPart, SumPart};
 use std::alloc::Global;
 
@@ -81,6 +81,7 @@ pub fn typed_at(
     if takes(asks.takes, made.kind) {
         return Ok(made);
     }
+    drop(made);
     Err(types_do_not_fit(check.alloc))
 }
 
@@ -222,8 +223,8 @@ fn tested(
 {
     match of {
         Ok(of) => {
-            let tests = List::from_slice(alloc, tests.as_slice())?;
             let of = Boxed::new(alloc, of)?;
+            let tests = List::from_slice(alloc, tests.as_slice())?;
             Ok(truth(TypedForm::IsNull { of, tests }))
         }
         Err(fault) => Err(fault),
@@ -240,12 +241,20 @@ fn compared(
     ensures { Becomes (λ b. truth (form.Compare how left b)) right result }
 {
     match right {
-        Ok(right) => {
-            let left = Boxed::new(alloc, left)?;
-            let right = Boxed::new(alloc, right)?;
-            Ok(truth(TypedForm::Compare(how, left, right)))
+        Ok(right) => match Boxed::new(alloc, left) {
+            Ok(left) => {
+                let right = Boxed::new(alloc, right)?;
+                Ok(truth(TypedForm::Compare(how, left, right)))
+            }
+            Err(NoMemory) => {
+                drop(right);
+                Err(CheckFault::NoMemory)
+            }
+        },
+        Err(fault) => {
+            drop(left);
+            Err(fault)
         }
-        Err(fault) => Err(fault),
     }
 }
 
@@ -263,7 +272,10 @@ fn among(
             let of = Boxed::new(alloc, of)?;
             Ok(truth(TypedForm::Member { of, negated, list }))
         }
-        Err(fault) => Err(fault),
+        Err(fault) => {
+            drop(of);
+            Err(fault)
+        }
     }
 }
 
@@ -347,7 +359,10 @@ fn summed(
             let form = TypedForm::Sum(Boxed::new(alloc, first)?, parts);
             Ok(TypedExpr { kind, form })
         }
-        Err(fault) => Err(fault),
+        Err(fault) => {
+            drop(first);
+            Err(fault)
+        }
     }
 }
 
@@ -389,6 +404,9 @@ fn multiplied(
             let form = TypedForm::Product(Boxed::new(alloc, first)?, parts);
             Ok(TypedExpr { kind, form })
         }
-        Err(fault) => Err(fault),
+        Err(fault) => {
+            drop(first);
+            Err(fault)
+        }
     }
 }

@@ -8,7 +8,7 @@ use snapshot_gate::Gate;
 
 /// A backend: its store, and by session's number the answer that it has given and the session has
 /// not taken.
-#[derive(Debug, Drop)]
+#[derive(Drop)]
 pub struct Replica {
     pub store: Database,
     pub mail: Vec<Option<Answer>>,
@@ -16,7 +16,7 @@ pub struct Replica {
 }
 
 /// The world: the gate, the machine of each session by its number, and each backend by its number.
-#[derive(Debug, Drop)]
+#[derive(Drop)]
 pub struct Replicas {
     pub policy: ReadPolicy,
     pub gate: Gate,

@@ -8,7 +8,7 @@ use pool_base::{BackendId, BackendSet, NoMemory};
 use std::alloc::Global;
 
 /// A request that goes down the attached backends in rising order, with their answers so far.
-#[derive(Debug, Drop)]
+#[derive(Drop)]
 pub struct Chain<A> {
     kind: ChainKind,
     slots: Vec<Option<Taken<A>>>,

@@ -10,6 +10,3 @@ mod slots;
 pub use chain::Chain;
 pub use judged::Judged;
 pub use kind::ChainKind;
-
-#[cfg(test)]
-mod tests;

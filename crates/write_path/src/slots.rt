@@ -10,7 +10,7 @@ use pool_base::{BackendId, BackendSet};
 pub(crate) const BACKENDS: u8 = 8;
 
 /// What a backend has answered.
-#[derive(Debug, Drop)]
+#[derive(Drop)]
 pub struct Taken<A> {
     pub answer: A,
     pub refused: bool,

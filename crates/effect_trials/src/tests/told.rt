@@ -166,7 +166,11 @@ pub(crate) fn told(
     requires within { IsWithin tables.now }
 {
     match checked(alloc, tables, text) {
-        Some(checked) => line_of(alloc, tables, &checked, shelf, next),
+        Some(checked) => {
+            let line = line_of(alloc, tables, &checked, shelf, next);
+            drop(checked);
+            line
+        }
         None => Ok(String::from_str(alloc, "no statement")?),
     }
 }

@@ -1,7 +1,31 @@
 //! Schemas and their texts, which are read again.
-use schema::read_schema;
+use pool_base::{NoMemory, Text};
+use schema::{TableDef, read_schema};
 use schema_print::{print_schema, tables_in_range};
 use std::alloc::Global;
+
+/// What was printed is this text, which is read as these tables.
+fn is_read(
+    alloc: Global,
+    printed: Result<Text, NoMemory>,
+    wanted: &str,
+    tables: &[TableDef],
+) -> bool {
+    let Ok(printed) = printed else {
+        return false;
+    };
+    if printed.as_str() != wanted || printed.len() > 262144 {
+        return false;
+    }
+    match read_schema(alloc, printed.as_bytes()) {
+        Ok(again) => {
+            let holds = again.tables() == tables;
+            drop(again);
+            holds
+        }
+        Err(_) => false,
+    }
+}
 
 /// A text is read, printed, and what is printed is read as the same tables.
 fn is_printed(alloc: Global, text: &str, wanted: &str) -> bool {
@@ -12,16 +36,10 @@ fn is_printed(alloc: Global, text: &str, wanted: &str) -> bool {
         return false;
     };
     tables_in_range();
-    let Ok(printed) = print_schema(alloc, &read) else {
-        return false;
-    };
-    if printed.as_str() != wanted || printed.len() > 262144 {
-        return false;
-    }
-    match read_schema(alloc, printed.as_bytes()) {
-        Ok(again) => again.tables() == read.tables(),
-        Err(_) => false,
-    }
+    let printed = print_schema(alloc, &read);
+    let holds = is_read(alloc, printed, wanted, read.tables());
+    drop(read);
+    holds
 }
 
 /// Texts, and what is printed of them: by hand from the rules.

@@ -80,38 +80,37 @@ fn column(alloc: Global, table: Option<&str>, name: &str) -> Option<Expr> {
     Some(Expr::Column { qualifier, name })
 }
 
-fn equal(alloc: Global, left: Expr, right: Expr) -> Option<Expr> {
-    let left = Boxed::new(alloc, left).ok()?;
-    let right = Boxed::new(alloc, right).ok()?;
+fn equal(left: Boxed<Expr>, right: Boxed<Expr>) -> Option<Expr> {
     Some(Expr::Compare(Comparison::Equal, left, right))
 }
 
-fn sum(alloc: Global, first: Expr, part: Expr) -> Option<Expr> {
+fn sum(alloc: Global, first: Boxed<Expr>, part: Boxed<Expr>) -> Option<Expr> {
     let mut parts = List::new(alloc);
+    let part = part.into_inner();
     parts.push(SumPart { minus: false, part }).ok()?;
-    Some(Expr::Sum(Boxed::new(alloc, first).ok()?, parts))
+    Some(Expr::Sum(first, parts))
 }
 
-fn either(alloc: Global, first: Expr, second: Expr) -> Option<Expr> {
+fn either(alloc: Global, first: Boxed<Expr>, second: Boxed<Expr>) -> Option<Expr> {
     let mut parts = List::new(alloc);
-    parts.push(first).ok()?;
-    parts.push(second).ok()?;
+    parts.push(first.into_inner()).ok()?;
+    parts.push(second.into_inner()).ok()?;
     Some(Expr::Or(parts))
 }
 
-fn of_two(alloc: Global, word: Word, first: Expr, second: Expr) -> Option<Expr> {
+fn of_two(alloc: Global, word: Word, first: Boxed<Expr>, second: Boxed<Expr>) -> Option<Expr> {
     match word {
         Plus => sum(alloc, first, second),
-        Equal => equal(alloc, first, second),
+        Equal => equal(first, second),
         Or => either(alloc, first, second),
         _ => None,
     }
 }
 
 /// The last operands joined by a word, or an operand of its own.
-fn joined(alloc: Global, word: Word, before: &mut List<Expr>) -> Option<Expr> {
+fn joined(alloc: Global, word: Word, before: &mut List<Boxed<Expr>>) -> Option<Expr> {
     match word {
-        Minus => Some(Expr::Minus(Boxed::new(alloc, before.pop()?).ok()?)),
+        Minus => Some(Expr::Minus(before.pop()?)),
         Plus | Equal | Or => {
             let second = before.pop()?;
             of_two(alloc, word, before.pop()?, second)
@@ -123,11 +122,11 @@ fn joined(alloc: Global, word: Word, before: &mut List<Expr>) -> Option<Expr> {
 }
 
 /// The expression that the words tell.
-fn told(alloc: Global, words: &[Word]) -> Option<Expr> {
+fn told(alloc: Global, words: &[Word]) -> Option<Boxed<Expr>> {
     let mut made = List::new(alloc);
     for word in words {
         let next = joined(alloc, *word, &mut made)?;
-        made.push(next).ok()?;
+        made.push(Boxed::new(alloc, next).ok()?).ok()?;
     }
     made.pop()
 }
@@ -207,7 +206,12 @@ fn is_told(found: &Result<(TypedExpr, Option<ColType>), CheckFault>, wanted: Wan
 
 fn is_right(alloc: Global, place: Place, words: &[Word], wanted: Wanted) -> bool {
     match told(alloc, words) {
-        Some(expr) => is_told(&read(alloc, asks_of(place), &expr), wanted),
+        Some(expr) => {
+            let found = read(alloc, asks_of(place), expr.get());
+            let told = is_told(&found, wanted);
+            drop(found);
+            told
+        }
         None => false,
     }
 }

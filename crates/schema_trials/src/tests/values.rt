@@ -73,70 +73,70 @@ fn operand(alloc: Global, word: Word) -> Option<TypedExpr> {
     }
 }
 
-fn minus(alloc: Global, of: TypedExpr) -> Option<TypedExpr> {
-    let kind = of.kind;
-    typed(kind, TypedForm::Minus(Boxed::new(alloc, of).ok()?))
+fn minus(of: Boxed<TypedExpr>) -> Option<TypedExpr> {
+    let kind = of.get().kind;
+    typed(kind, TypedForm::Minus(of))
 }
 
-fn tested(alloc: Global, of: TypedExpr, tests: &[bool]) -> Option<TypedExpr> {
-    let of = Boxed::new(alloc, of).ok()?;
+fn tested(alloc: Global, of: Boxed<TypedExpr>, tests: &[bool]) -> Option<TypedExpr> {
     let tests = List::from_slice(alloc, tests).ok()?;
     typed(ColType::Bool, TypedForm::IsNull { of, tests })
 }
 
-fn of_one(alloc: Global, word: Word, of: TypedExpr) -> Option<TypedExpr> {
+fn of_one(alloc: Global, word: Word, of: Boxed<TypedExpr>) -> Option<TypedExpr> {
     match word {
-        Minus => minus(alloc, of),
+        Minus => minus(of),
         IsNull(tests) => tested(alloc, of, tests),
         _ => None,
     }
 }
 
-fn sum(alloc: Global, first: TypedExpr, part: TypedExpr) -> Option<TypedExpr> {
-    let kind = part.kind;
+fn sum(alloc: Global, first: Boxed<TypedExpr>, part: Boxed<TypedExpr>) -> Option<TypedExpr> {
+    let kind = part.get().kind;
     let mut parts = List::new(alloc);
+    let part = part.into_inner();
     parts.push(TypedSumPart { minus: false, part }).ok()?;
-    typed(kind, TypedForm::Sum(Boxed::new(alloc, first).ok()?, parts))
+    typed(kind, TypedForm::Sum(first, parts))
 }
 
 fn product(
     alloc: Global,
     sign: ProductSign,
-    first: TypedExpr,
-    part: TypedExpr,
+    first: Boxed<TypedExpr>,
+    part: Boxed<TypedExpr>,
 ) -> Option<TypedExpr> {
-    let kind = part.kind;
+    let kind = part.get().kind;
     let mut parts = List::new(alloc);
+    let part = part.into_inner();
     parts.push(TypedProductPart { sign, part }).ok()?;
-    typed(
-        kind,
-        TypedForm::Product(Boxed::new(alloc, first).ok()?, parts),
-    )
+    typed(kind, TypedForm::Product(first, parts))
 }
 
-fn compared(
-    alloc: Global,
-    how: Comparison,
-    left: TypedExpr,
-    right: TypedExpr,
-) -> Option<TypedExpr> {
-    let left = Boxed::new(alloc, left).ok()?;
-    let right = Boxed::new(alloc, right).ok()?;
+fn compared(how: Comparison, left: Boxed<TypedExpr>, right: Boxed<TypedExpr>) -> Option<TypedExpr> {
     typed(ColType::Bool, TypedForm::Compare(how, left, right))
 }
 
-fn pair(alloc: Global, first: TypedExpr, second: TypedExpr) -> Option<List<TypedExpr>> {
+fn pair(
+    alloc: Global,
+    first: Boxed<TypedExpr>,
+    second: Boxed<TypedExpr>,
+) -> Option<List<TypedExpr>> {
     let mut parts = List::new(alloc);
-    parts.push(first).ok()?;
-    parts.push(second).ok()?;
+    parts.push(first.into_inner()).ok()?;
+    parts.push(second.into_inner()).ok()?;
     Some(parts)
 }
 
-fn of_two(alloc: Global, word: Word, first: TypedExpr, second: TypedExpr) -> Option<TypedExpr> {
+fn of_two(
+    alloc: Global,
+    word: Word,
+    first: Boxed<TypedExpr>,
+    second: Boxed<TypedExpr>,
+) -> Option<TypedExpr> {
     match word {
         Plus => sum(alloc, first, second),
         Signed(sign) => product(alloc, sign, first, second),
-        Compared(how) => compared(alloc, how, first, second),
+        Compared(how) => compared(how, first, second),
         And => typed(ColType::Bool, TypedForm::And(pair(alloc, first, second)?)),
         Or => typed(ColType::Bool, TypedForm::Or(pair(alloc, first, second)?)),
         Behind => typed(
@@ -150,17 +150,16 @@ fn of_two(alloc: Global, word: Word, first: TypedExpr, second: TypedExpr) -> Opt
 fn among(
     alloc: Global,
     negated: bool,
-    of: TypedExpr,
-    first: TypedExpr,
-    second: TypedExpr,
+    of: Boxed<TypedExpr>,
+    first: Boxed<TypedExpr>,
+    second: Boxed<TypedExpr>,
 ) -> Option<TypedExpr> {
-    let of = Boxed::new(alloc, of).ok()?;
     let list = pair(alloc, first, second)?;
     typed(ColType::Bool, TypedForm::Member { of, negated, list })
 }
 
 /// The last operands joined by a word, or an operand of its own.
-fn joined(alloc: Global, word: Word, before: &mut List<TypedExpr>) -> Option<TypedExpr> {
+fn joined(alloc: Global, word: Word, before: &mut List<Boxed<TypedExpr>>) -> Option<TypedExpr> {
     match word {
         Minus | IsNull(_) => of_one(alloc, word, before.pop()?),
         Plus | Signed(_) | Compared(_) | And | Or | Behind => {
@@ -177,11 +176,11 @@ fn joined(alloc: Global, word: Word, before: &mut List<TypedExpr>) -> Option<Typ
 }
 
 /// The expression that the words tell.
-fn told(alloc: Global, words: &[Word]) -> Option<TypedExpr> {
+fn told(alloc: Global, words: &[Word]) -> Option<Boxed<TypedExpr>> {
     let mut made = List::new(alloc);
     for word in words {
         let next = joined(alloc, *word, &mut made)?;
-        made.push(next).ok()?;
+        made.push(Boxed::new(alloc, next).ok()?).ok()?;
     }
     made.pop()
 }
@@ -221,7 +220,7 @@ fn is_given(found: &Result<Value, ExprFault>, wanted: Gives) -> bool {
 
 fn is_right(alloc: Global, words: &[Word], wanted: Gives) -> bool {
     match told(alloc, words) {
-        Some(expr) => is_given(&on_the_row(alloc, &expr), wanted),
+        Some(expr) => is_given(&on_the_row(alloc, expr.get()), wanted),
         None => false,
     }
 }

@@ -1,7 +1,22 @@
 //! Schemas that are read and written again, and texts that are none.
-use schema::{SchemaFault, read_schema};
+use schema::{SchemaFault, TableDef, read_schema};
 use schema_round::schema_again;
 use std::alloc::Global;
+
+/// A text is read as these tables.
+fn is_read(alloc: Global, text: &str, tables: &[TableDef]) -> bool {
+    if text.len() > 262144 {
+        return false;
+    }
+    match read_schema(alloc, text.as_bytes()) {
+        Ok(read) => {
+            let holds = read.tables() == tables;
+            drop(read);
+            holds
+        }
+        Err(_) => false,
+    }
+}
 
 /// A text is written again as this one, which is read as the same tables.
 fn is_again(alloc: Global, text: &str, wanted: &str) -> bool {
@@ -11,14 +26,15 @@ fn is_again(alloc: Global, text: &str, wanted: &str) -> bool {
     let Ok(again) = schema_again(alloc, text.as_bytes()) else {
         return false;
     };
-    if again.as_str() != wanted || again.len() > 262144 {
+    if again.as_str() != wanted {
         return false;
     }
-    let Ok(read) = read_schema(alloc, text.as_bytes()) else {
-        return false;
-    };
-    match read_schema(alloc, again.as_bytes()) {
-        Ok(other) => other.tables() == read.tables(),
+    match read_schema(alloc, text.as_bytes()) {
+        Ok(read) => {
+            let holds = is_read(alloc, again.as_str(), read.tables());
+            drop(read);
+            holds
+        }
         Err(_) => false,
     }
 }

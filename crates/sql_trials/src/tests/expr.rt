@@ -19,7 +19,11 @@ fn read(alloc: Global, text: &str) -> Result<Expr, ReadError> {
 fn fault(alloc: Global, text: &str) -> Option<Fault> {
     match read(alloc, text) {
         Err(ReadError::Fault(fault)) => Some(fault),
-        Ok(_) | Err(ReadError::NoMemory) => None,
+        Err(ReadError::NoMemory) => None,
+        Ok(expr) => {
+            drop(expr);
+            None
+        }
     }
 }
 
@@ -38,7 +42,10 @@ fn read_as(text: &'static str, tree: Made<Expr>) -> Made<Row> {
 /// Finds a text that is not read as it is to be.
 fn failing(alloc: Global, rows: &[Row]) -> Result<Option<&'static str>, ReadError> {
     for row in rows {
-        if read(alloc, row.text)? != row.tree {
+        let found = read(alloc, row.text)?;
+        let same = found == row.tree;
+        drop(found);
+        if !same {
             return Ok(Some(row.text));
         }
     }
@@ -261,17 +268,35 @@ const SIGNS: [(Repeated, Option<Fault>); 4] = [
     ),
 ];
 
+/// Finds parentheses that do not have their fault: how many, and what stands in them.
+fn otherwise_within(
+    alloc: Global,
+    rows: &[(usize, &'static str, Option<Fault>)],
+) -> Result<Option<(usize, &'static str)>, Fail> {
+    for (times, inner, wanted) in rows {
+        if within(alloc, *times, inner)? != *wanted {
+            return Ok(Some((*times, *inner)));
+        }
+    }
+    Ok(None)
+}
+
+/// Finds signs that do not have their fault: how many, and which.
+fn otherwise_behind(
+    alloc: Global,
+    rows: &[(Repeated, Option<Fault>)],
+) -> Result<Option<(usize, &'static str)>, Fail> {
+    for (sign, wanted) in rows {
+        if behind(alloc, *sign)? != *wanted {
+            return Ok(Some((sign.2, sign.1)));
+        }
+    }
+    Ok(None)
+}
+
 #[test]
 fn sixty_four_nestings_are_read_and_no_more(rt: HostRuntime) -> Result<(), Fail> {
-    for (times, inner, wanted) in PARENTHESES {
-        assert_eq!(rt;
-            within(rt.alloc(), times, inner)?,
-            wanted,
-            "{times} {inner}"
-        );
-    }
-    for (sign, wanted) in SIGNS {
-        assert_eq!(rt; behind(rt.alloc(), sign)?, wanted, "{} {}", sign.2, sign.1);
-    }
+    assert_eq!(rt; otherwise_within(rt.alloc(), &PARENTHESES)?, None);
+    assert_eq!(rt; otherwise_behind(rt.alloc(), &SIGNS)?, None);
     Ok(())
 }

@@ -1,7 +1,7 @@
 //! Trees of each form, and their copies.
 use crate::tests::made::{
     Made, and, column, compared, concat, int, ints, member, minus, moment, not, null_tests, one,
-    or, product, string, sum, summand, with,
+    or, pair, product, string, sum, summand, with,
 };
 use pool_base::{List, Text};
 use sql_tree::{
@@ -100,12 +100,12 @@ fn order(alloc: Global, falling: bool) -> Made<OrderItem> {
 }
 
 fn select(alloc: Global, limit: Option<Expr>, falling: bool) -> Made<Statement> {
-    let list = SelectList::Items(one(alloc, item(alloc))?);
-    let table = Some(text(alloc, "t")?);
-    let order = one(alloc, order(alloc, falling))?;
+    let parts = pair(one(alloc, item(alloc)), one(alloc, order(alloc, falling)));
+    let ends = pair(text(alloc, "t"), Ok(limit));
+    let ((items, order), (table, limit)) = pair(parts, ends)?;
     Ok(Statement::Select(Select {
-        list,
-        table,
+        list: SelectList::Items(items),
+        table: Some(table),
         filter: Some(Expr::Bool(true)),
         order,
         limit,
@@ -126,8 +126,8 @@ fn all_of(alloc: Global, list: SelectList, for_update: bool) -> Made<Statement> 
 }
 
 fn insert(alloc: Global, columns: Made<Option<List<Text>>>, cell: Cell) -> Made<Statement> {
-    let columns = columns?;
     let rows = one(alloc, one(alloc, Ok(cell)))?;
+    let columns = columns?;
     let table = text(alloc, "t")?;
     Ok(Statement::Insert(Insert {
         table,
@@ -157,7 +157,7 @@ fn update(alloc: Global, value: i64) -> Made<Statement> {
 }
 
 fn delete(alloc: Global, filter: Option<Expr>) -> Made<Statement> {
-    let table = text(alloc, "t")?;
+    let (table, filter) = pair(text(alloc, "t"), Ok(filter))?;
     Ok(Statement::Delete(Delete { table, filter }))
 }
 

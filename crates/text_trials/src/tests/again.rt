@@ -1,5 +1,7 @@
 //! Statements, and the tokens of their texts.
-use crate::tests::made::{Made, column, compared, concat, int, minus, one, string, two, with};
+use crate::tests::made::{
+    Made, column, compared, concat, int, minus, one, pair, string, two, with,
+};
 use pool_base::{List, Text};
 use sql_again::tokens_again;
 use sql_tokens::{Mark, Name, Token, Word};
@@ -38,9 +40,11 @@ fn marks(tokens: Made<List<Token>>, marks: &[u8]) -> Made<List<Token>> {
 
 /// DELETE FROM the table, with this filter.
 fn delete(alloc: Global, table: &str, filter: Made<Expr>) -> Made<Statement> {
-    let filter = Some(filter?);
-    let table = Text::from_str(alloc, table)?;
-    Ok(Statement::Delete(Delete { table, filter }))
+    let (table, filter) = pair(Text::from_str(alloc, table), filter)?;
+    Ok(Statement::Delete(Delete {
+        table,
+        filter: Some(filter),
+    }))
 }
 
 /// What stands before such a filter.
@@ -86,12 +90,12 @@ fn with_minuses(alloc: Global) -> Made<Row> {
 
 /// `DELETE FROM t WHERE (t."B" || 'it''s') = now()`
 fn with_marks(alloc: Global) -> Made<Row> {
+    let text = Text::from_str(alloc, "it's")?;
     let parts = two(alloc, column(alloc, Some("t"), "B"), string(alloc, "it's"));
     let filter = compared(alloc, Comparison::Equal, concat(parts), Ok(Expr::Now));
     let tokens = marks(front(alloc, named(alloc, "t", false)), b"(");
     let tokens = marks(with(tokens, named(alloc, "t", false)), b".");
     let tokens = marks(with(tokens, named(alloc, "B", true)), b"|");
-    let text = Text::from_str(alloc, "it's")?;
     let tokens = marks(with(tokens, Ok(Token::Str(text))), b")=");
     let tokens = marks(with(tokens, named(alloc, "now", false)), b"()");
     read_as(delete(alloc, "t", filter), tokens)

@@ -17,6 +17,11 @@ pub fn one<T: Drop>(alloc: Global, first: Made<T>) -> Made<List<T>> {
     with(Ok(List::new(alloc)), first)
 }
 
+/// Both, or the want of memory.
+pub fn pair<T: Drop, U: Drop>(first: Made<T>, second: Made<U>) -> Made<(T, U)> {
+    Ok((first?, second?))
+}
+
 /// The two expressions.
 pub fn two(alloc: Global, first: Made<Expr>, second: Made<Expr>) -> Made<List<Expr>> {
     with(one(alloc, first), second)
@@ -82,8 +87,7 @@ pub fn null_tests(alloc: Global, of: Made<Expr>, tests: &[bool]) -> Made<Expr> {
 }
 
 pub fn compared(alloc: Global, how: Comparison, left: Made<Expr>, right: Made<Expr>) -> Made<Expr> {
-    let left = boxed(alloc, left)?;
-    let right = boxed(alloc, right)?;
+    let (left, right) = pair(boxed(alloc, left), boxed(alloc, right))?;
     Ok(Expr::Compare(how, left, right))
 }
 

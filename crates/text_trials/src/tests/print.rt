@@ -1,9 +1,9 @@
 //! Statements, and the one text of each, worked out by hand.
 use crate::tests::made::{
     Made, and, column, compared, concat, factor, factored, int, ints, member, minus, moment, not,
-    null_tests, one, or, product, string, sum, summand, two, with,
+    null_tests, one, or, pair, product, string, sum, summand, two, with,
 };
-use pool_base::{List, NoMemory, Text};
+use pool_base::{List, Text};
 use sql_print::print_statement;
 use sql_tree::{
     Cell, Comparison, Delete, Expr, Insert, OrderItem, ProductSign, Select, SelectItem, SelectList,
@@ -52,22 +52,20 @@ fn select(
     limit: Made<Option<Expr>>,
     for_update: bool,
 ) -> Made<Statement> {
-    match (list, table, order, limit) {
-        (Ok(list), Ok(table), Ok(order), Ok(limit)) => Ok(Statement::Select(Select {
-            list,
-            table,
-            filter,
-            order,
-            limit,
-            for_update,
-        })),
-        _ => Err(NoMemory),
-    }
+    let ends = pair(order, pair(Ok(filter), limit));
+    let ((list, table), (order, (filter, limit))) = pair(pair(list, table), ends)?;
+    Ok(Statement::Select(Select {
+        list,
+        table,
+        filter,
+        order,
+        limit,
+        for_update,
+    }))
 }
 
 fn item(expr: Made<Expr>, name: Made<Option<Text>>) -> Made<SelectItem> {
-    let expr = expr?;
-    let name = name?;
+    let (expr, name) = pair(expr, name)?;
     Ok(SelectItem { expr, name })
 }
 
@@ -143,13 +141,21 @@ const OPERATORS: [(Comparison, &str); 6] = [
     (Comparison::AtLeast, "1 >= $1"),
 ];
 
-fn comparisons(alloc: Global, rows: Made<List<Row>>) -> Made<List<Row>> {
+fn compared_by(
+    alloc: Global,
+    rows: Made<List<Row>>,
+    operators: &[(Comparison, &'static str)],
+) -> Made<List<Row>> {
     let mut rows = rows?;
-    for (how, text) in OPERATORS {
-        let tree = compared(alloc, how, int(1), Ok(Expr::Param(1)));
+    for (how, text) in operators {
+        let tree = compared(alloc, *how, int(1), Ok(Expr::Param(1)));
         rows.push(of(alloc, tree, text)?)?;
     }
     Ok(rows)
+}
+
+fn comparisons(alloc: Global, rows: Made<List<Row>>) -> Made<List<Row>> {
+    compared_by(alloc, rows, &OPERATORS)
 }
 
 fn numbers(alloc: Global, rows: Made<List<Row>>) -> Made<List<Row>> {
@@ -195,12 +201,20 @@ const SPELLED: [(&str, &str); 12] = [
     ("a b", "\"a b\""),
 ];
 
-fn names(alloc: Global, rows: Made<List<Row>>) -> Made<List<Row>> {
+fn names_of(
+    alloc: Global,
+    rows: Made<List<Row>>,
+    spelled: &[(&str, &'static str)],
+) -> Made<List<Row>> {
     let mut rows = rows?;
-    for (name, text) in SPELLED {
+    for (name, text) in spelled {
         rows.push(of(alloc, named(alloc, name), text)?)?;
     }
     Ok(rows)
+}
+
+fn names(alloc: Global, rows: Made<List<Row>>) -> Made<List<Row>> {
+    names_of(alloc, rows, &SPELLED)
 }
 
 #[test]
@@ -322,8 +336,7 @@ fn unnamed_insert(alloc: Global) -> Made<Statement> {
 }
 
 fn set(alloc: Global, name: &str, expr: Made<Expr>) -> Made<SetItem> {
-    let column = text(alloc, name)?;
-    let expr = expr?;
+    let (column, expr) = pair(text(alloc, name), expr)?;
     Ok(SetItem { column, expr })
 }
 
@@ -331,8 +344,8 @@ fn update(alloc: Global) -> Made<Statement> {
     let next = both(alloc, named(alloc, "v"), false, int(1));
     let sets = one(alloc, set(alloc, "v", next));
     let sets = with(sets, set(alloc, "w", minus(alloc, int(1))))?;
-    let filter = compared(alloc, Comparison::Equal, named(alloc, "id"), int(7))?;
     let table = text(alloc, "t")?;
+    let filter = compared(alloc, Comparison::Equal, named(alloc, "id"), int(7))?;
     Ok(Statement::Update(Update {
         table,
         sets,
@@ -341,7 +354,7 @@ fn update(alloc: Global) -> Made<Statement> {
 }
 
 fn delete(alloc: Global, filter: Option<Expr>) -> Made<Statement> {
-    let table = text(alloc, "t")?;
+    let (table, filter) = pair(text(alloc, "t"), Ok(filter))?;
     Ok(Statement::Delete(Delete { table, filter }))
 }
 

@@ -1,6 +1,6 @@
 //! Statements, each of them printed and read again.
-use crate::tests::made::{Made, column, compared, int, minus, not, one, string, with};
-use pool_base::{List, NoMemory, Text};
+use crate::tests::made::{Made, column, compared, int, minus, not, one, pair, string, with};
+use pool_base::{List, Text};
 use sql_reader::SqlFault;
 use sql_round::statements_again;
 use sql_tree::{
@@ -15,14 +15,16 @@ fn text(alloc: Global, given: &str) -> Made<Text> {
 }
 
 fn delete(alloc: Global, table: &str, filter: Made<Expr>) -> Made<Statement> {
-    let filter = Some(filter?);
-    let table = text(alloc, table)?;
-    Ok(Statement::Delete(Delete { table, filter }))
+    let (table, filter) = pair(text(alloc, table), filter)?;
+    Ok(Statement::Delete(Delete {
+        table,
+        filter: Some(filter),
+    }))
 }
 
 fn item(alloc: Global) -> Made<SelectItem> {
-    let expr = minus(alloc, minus(alloc, int(i64::MIN)))?;
     let name = Some(text(alloc, "n")?);
+    let expr = minus(alloc, minus(alloc, int(i64::MIN)))?;
     Ok(SelectItem { expr, name })
 }
 
@@ -38,19 +40,18 @@ fn order(alloc: Global) -> Made<OrderItem> {
 
 /// SELECT -(-(-9223372036854775808)) AS n FROM "Key" ORDER BY t.a DESC LIMIT -5 FOR UPDATE
 fn select(alloc: Global) -> Made<Statement> {
-    let items = one(alloc, item(alloc));
-    let order = one(alloc, order(alloc));
-    match (items, order, minus(alloc, int(5)), text(alloc, "Key")) {
-        (Ok(items), Ok(order), Ok(limit), Ok(table)) => Ok(Statement::Select(Select {
-            list: SelectList::Items(items),
-            table: Some(table),
-            filter: None,
-            order,
-            limit: Some(limit),
-            for_update: true,
-        })),
-        _ => Err(NoMemory),
-    }
+    let list = SelectList::Items(one(alloc, item(alloc))?);
+    let order = one(alloc, order(alloc))?;
+    let table = Some(text(alloc, "Key")?);
+    let limit = Some(minus(alloc, int(5))?);
+    Ok(Statement::Select(Select {
+        list,
+        table,
+        filter: None,
+        order,
+        limit,
+        for_update: true,
+    }))
 }
 
 /// INSERT INTO t VALUES (DEFAULT, a = now())
@@ -76,8 +77,8 @@ fn set(alloc: Global) -> Made<SetItem> {
 /// UPDATE t SET "select" = 'it''s' WHERE a
 fn update(alloc: Global) -> Made<Statement> {
     let sets = one(alloc, set(alloc))?;
-    let filter = Some(column(alloc, None, "a")?);
     let table = text(alloc, "t")?;
+    let filter = Some(column(alloc, None, "a")?);
     Ok(Statement::Update(Update {
         table,
         sets,

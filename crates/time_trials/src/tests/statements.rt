@@ -82,7 +82,11 @@ const WRITES: [Row; 6] = [
 /// Whether the one statement is the other at the moment.
 fn is_at_moment(asked: &Checked, wanted: &Checked) -> bool {
     match rewrite(asked, MOMENT) {
-        Ok(made) => made == *wanted,
+        Ok(made) => {
+            let holds = made == *wanted;
+            drop(made);
+            holds
+        }
         Err(_) => false,
     }
 }
@@ -92,7 +96,11 @@ fn is_text_at_moment(alloc: Global, tables: &Catalogue, asked: &Checked, text: &
     requires within { IsWithin tables.now }
 {
     match checked(alloc, tables, text) {
-        Some(wanted) => is_at_moment(asked, &wanted),
+        Some(wanted) => {
+            let holds = is_at_moment(asked, &wanted);
+            drop(wanted);
+            holds
+        }
         None => false,
     }
 }
@@ -101,7 +109,11 @@ fn is_right(alloc: Global, tables: &Catalogue, row: Row) -> bool
     requires within { IsWithin tables.now }
 {
     match checked(alloc, tables, row.0) {
-        Some(asked) => is_text_at_moment(alloc, tables, &asked, row.1),
+        Some(asked) => {
+            let holds = is_text_at_moment(alloc, tables, &asked, row.1);
+            drop(asked);
+            holds
+        }
         None => false,
     }
 }
@@ -133,10 +145,14 @@ fn time_functions_and_cells_of_the_moment_are_its_literal(rt: HostRuntime) {
 }
 
 fn is_out_of_range(checked: &Checked, moment: i64) -> bool {
-    matches!(
-        rewrite(checked, moment),
-        Err(RewriteFault::MomentOutOfRange)
-    )
+    match rewrite(checked, moment) {
+        Ok(made) => {
+            drop(made);
+            false
+        }
+        Err(RewriteFault::MomentOutOfRange) => true,
+        Err(RewriteFault::NoMemory) => false,
+    }
 }
 
 /// Whether a text without time functions is refused before the first moment and behind the last.
@@ -145,8 +161,10 @@ fn is_refused(alloc: Global, tables: &Catalogue) -> bool
 {
     match checked(alloc, tables, "DELETE FROM n") {
         Some(checked) => {
-            is_out_of_range(&checked, -63_082_281_600_000_001)
-                && is_out_of_range(&checked, 252_455_616_000_000_000)
+            let holds = is_out_of_range(&checked, -63_082_281_600_000_001)
+                && is_out_of_range(&checked, 252_455_616_000_000_000);
+            drop(checked);
+            holds
         }
         None => false,
     }

@@ -11,9 +11,9 @@ pub loop-item-preserved : goal.loop-item-preserved
 loop-item-preserved c =
     listed_next (λ (s : TypedSet). s.column) (SetOf (scope_of c.args.check.now.scope) c.args.key) c.args.items.now c.loop-item.item-index
     c.item-item.result c.loop-item.sets c.as_slice.result.now c.args.known.now.items c.loop-item.known.items
-    c.push-in-loop-item.new.self c.push.new.self c.in_ok-set.set c.set_of.new.known.items
+    c.push.new.self c.push-in-loop-item.new.self c.in_ok-set.set c.set_of.new.known.items
     (omega arith) c.item-item.is (c.loop-item.invariant.0, c.as_slice.ensures ∙ c.loop-item.invariant.1) c.in_ok-set.ensures
-    c.in_ok-push-2.ensures.ok (c.in_ok-push.ensures.ok ∙ ap (λ (b : List ℕ). b ++ c.in_ok-set.set.column ∷ []) (sym c.as_slice.ensures))
+    c.in_ok-push.ensures.ok (c.in_ok-push-2.ensures.ok ∙ ap (λ (b : List ℕ). b ++ c.in_ok-set.set.column ∷ []) (sym c.as_slice.ensures))
 
 pub returns-in_err-set : goal.returns-in_err-set
 returns-in_err-set c =

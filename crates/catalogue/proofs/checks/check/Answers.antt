@@ -20,11 +20,11 @@ returns-in_err-body c =
     (c.is_some-parameters.ensures ∙ stands_same (λ (k : Bor (List ℕ)). k.now) c.args.kinds) c.in_err-body.field-0.0 c.body_of.new.known.items
     c.in_err-body.ensures)
 
-pub returns : goal.returns
-returns c =
+pub returns-in-Ok : goal.returns-in-Ok
+returns-in-Ok c =
     body_given c.args.tables.now c.args.statement.now (option_map (λ (k : Bor (List ℕ)). k.now) c.args.kinds)
     c.in_ok-known.known.items c.in_ok-known.ensures c.is_some-parameters.result
     (c.is_some-parameters.ensures ∙ stands_same (λ (k : Bor (List ℕ)). k.now) c.args.kinds)
-    c.in_ok-body.body c.in_ok-body.columns c.body_of.new.known.items c.in_ok-kinds.kinds
+    c.in_ok-body.body c.in_ok-body.columns c.body_of.new.known.items c.in-Ok.kinds
     c.in_ok-body.ensures
-    c.in_ok-kinds.ensures
+    c.in-Ok.ensures

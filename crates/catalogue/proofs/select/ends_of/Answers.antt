@@ -18,19 +18,18 @@ returns-in_err-limit c =
     c.in_ok-keys.keys c.args.known.now.items (rw (c.as_slice-items.ensures, c.as_slice-kinds.ensures.value) at c.in_ok-keys.ensures)
     c.in_err-limit.field-0.0 c.limit_of.new.known.items c.limit_of.new.known.items c.in_err-limit.ensures)
 
-pub returns-in_err-uncounted : goal.returns-in_err-uncounted
-returns-in_err-uncounted c =
-    let p = err_from_is_err_and c.from_residual-in_err-uncounted.result c.from_residual-in_err-uncounted.ensures.1 in
-    rw (p.1, p.2) (lock_stops (scope_of c.args.check.now.scope) c.args.select.now c.args.table.now
+pub returns-in-Err : goal.returns-in-Err
+returns-in-Err c =
+    lock_stops (scope_of c.args.check.now.scope) c.args.select.now c.args.table.now
     c.is_count-count.result c.is_count-count.ensures c.args.known.now.items
     c.in_ok-keys.keys c.args.known.now.items (rw (c.as_slice-items.ensures, c.as_slice-kinds.ensures.value) at c.in_ok-keys.ensures)
     c.in_ok-limit.limit c.limit_of.new.known.items c.in_ok-limit.ensures
-    c.in_err-uncounted.field-0.0 c.limit_of.new.known.items c.in_err-uncounted.ensures)
+    c.in-Err.fault c.limit_of.new.known.items c.in-Err.ensures
 
-pub returns : goal.returns
-returns c =
+pub returns-in-Ok : goal.returns-in-Ok
+returns-in-Ok c =
     ends_give (scope_of c.args.check.now.scope) c.args.select.now c.args.table.now
     c.is_count-count.result c.is_count-count.ensures c.args.known.now.items
     c.in_ok-keys.keys c.args.known.now.items (rw (c.as_slice-items.ensures, c.as_slice-kinds.ensures.value) at c.in_ok-keys.ensures)
     c.in_ok-limit.limit c.limit_of.new.known.items c.in_ok-limit.ensures
-    c.in_ok-order.order c.in_ok-uncounted.ensures c.in_ok-order.ensures
+    c.in_ok-order.order c.in-Ok.ensures c.in_ok-order.ensures

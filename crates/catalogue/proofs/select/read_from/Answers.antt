@@ -18,19 +18,18 @@ returns-in_err-filter c =
     c.in_ok-list.list c.list_of.new.known.items (rw c.as_slice-columns.ensures at c.in_ok-list.ensures)
     c.in_err-filter.field-0.0 c.filter_of.new.known.items c.filter_of.new.known.items c.in_err-filter.ensures)
 
-pub returns-in_err-ends : goal.returns-in_err-ends
-returns-in_err-ends c =
-    let p = err_from_is_err_and c.from_residual-in_err-ends.result c.from_residual-in_err-ends.ensures.1 in
-    rw (p.1, p.2) (ends_stop c.args.parameters c.args.select.now (c.args.table.0, c.args.table.1.now) (scope_of c.over.result) c.over.ensures
+pub returns-in-Err : goal.returns-in-Err
+returns-in-Err c =
+    ends_stop c.args.parameters c.args.select.now (c.args.table.0, c.args.table.1.now) (scope_of c.over.result) c.over.ensures
     c.args.known.now.items
     c.in_ok-list.list c.list_of.new.known.items (rw c.as_slice-columns.ensures at c.in_ok-list.ensures)
     c.in_ok-filter.filter c.filter_of.new.known.items c.in_ok-filter.ensures
-    c.in_err-ends.field-0.0 c.ends_of.new.known.items c.ends_of.new.known.items c.in_err-ends.ensures)
+    c.in-Err.fault c.ends_of.new.known.items c.ends_of.new.known.items c.in-Err.ensures
 
-pub returns : goal.returns
-returns c =
+pub returns-in_ok-read-in-Ok : goal.returns-in_ok-read-in-Ok
+returns-in_ok-read-in-Ok c =
     read_gives c.args.parameters c.args.select.now (c.args.table.0, c.args.table.1.now) (scope_of c.over.result) c.over.ensures
     c.args.known.now.items
     c.in_ok-list.list c.list_of.new.known.items (rw c.as_slice-columns.ensures at c.in_ok-list.ensures)
     c.in_ok-filter.filter c.filter_of.new.known.items c.in_ok-filter.ensures
-    c.in_ok-ends.ends c.ends_of.new.known.items c.in_ok-read.read c.in_ok-ends.ensures c.in_ok-read.ensures
+    c.in-Ok.ends c.ends_of.new.known.items c.in_ok-read-in-Ok.read c.in-Ok.ensures c.in_ok-read-in-Ok.ensures

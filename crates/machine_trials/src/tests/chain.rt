@@ -1,6 +1,7 @@
-use super::*;
+//! A chain of answers, of which two are the same.
 use pool_base::{BackendId, BackendSet, NoMemory};
 use std::alloc::Global;
+use write_path::{Chain, ChainKind, Judged};
 
 fn judged(alloc: Global) -> Result<Judged, NoMemory> {
     let mut chain: Chain<u64> = Chain::new(alloc)?;

@@ -1,0 +1,20 @@
+//! A list with an item before the others.
+ghost use Rattle.std.specs.Prelude.{◌≡◌, ◌∷◌, IfOk};
+
+use pool_base::{List, NoMemory};
+use sql_tree::Expr;
+use std::alloc::Global;
+
+/// The list with an item before the others.
+pub(crate) fn in_front(
+    alloc: Global,
+    first: Expr,
+    others: List<Expr>,
+) -> Result<List<Expr>, NoMemory>
+    ensures { IfOk result (λ all. all ≡ first ∷ others) }
+{
+    let mut all = List::new(alloc);
+    all.push(first)?;
+    all.append(others)?;
+    Ok(all)
+}
