@@ -198,7 +198,7 @@ printed_again l g = record {
   lines = spelled l ∷ [];
   one_each = (spelled_one l g, tt);
   text_is = sym (append-nil (spelled l ++ 10 ∷ []));
-  are = inr (l, [], (line_again l g.bytes g.is.0 g.is.1, g.is.1, g.is.2), refl, refl);
+  are = inr (l, [], (line_again l g.bytes g.is.0 g.is.1, g.is.1, g.is.2, g.is.3), refl, refl);
 }
 
 grammar_of : (lines : List (List ℕ)) (found : List Line) → AreLines lines found → AllByRecursion IsOfGrammar found

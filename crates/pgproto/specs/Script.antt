@@ -4,6 +4,9 @@ use Rattle.std.specs.List.{AllByRecursion, flat_map}
 use Rattle.pg_messages.specs.Client.{Fits}
 use Rattle.pg_messages.specs.declared.client.ClientMessage.{ClientMessage}
 use Rattle.pg_messages.specs.declared.client.ClientMessage.TheVariants as client
+use Rattle.pg_values.specs.declared.col_type.ColType.TheVariants as kind
+use Rattle.pg_values.specs.declared.value.Value.{Value}
+use Rattle.pg_values.specs.Answers.{ReadsText}
 use Rattle.pgproto.specs.declared.line.ScriptLine.{ScriptLine}
 use Rattle.pgproto.specs.declared.line.ScriptValue.{ScriptValue}
 use Rattle.pgproto.specs.declared.line.ScriptValue.TheVariants.{Null, Str, Hex}
@@ -37,9 +40,18 @@ message_of (flush s) = Some client.Flush
 message_of (sync s) = Some client.Sync
 message_of (terminate s) = Some client.Terminate
 
--- the bytes are this line, and what it sends can be written
+-- the text is a text form of a moment
+abbrev pub IsClock : List ℕ → Type 0
+IsClock text = (value : Value) × ReadsText kind.Moment text value
+
+-- the text of a `moment` line is one of a moment
+abbrev pub IsTimed : Line → Type 0
+IsTimed (moment text) = IsClock text
+IsTimed line = Unit {0}
+
+-- the bytes are this line, what it sends can be written, and what it sets is a moment
 abbrev pub IsScriptLine : Line → List ℕ → Type 0
-IsScriptLine l bytes = IsLine l bytes × IsSmall l × IfSome (message_of l) Fits
+IsScriptLine l bytes = IsLine l bytes × IsSmall l × IfSome (message_of l) Fits × IsTimed l
 
 -- a line that says nothing
 abbrev pub IsSkipped : List ℕ → Type 0

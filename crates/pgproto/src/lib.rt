@@ -6,6 +6,7 @@ mod line;
 mod lists;
 mod message;
 mod messages;
+mod moments;
 mod parts;
 mod pieces;
 mod print;

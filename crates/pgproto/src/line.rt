@@ -5,7 +5,7 @@ use pool_base::{BackendId, List, SessionId, Text};
 pub type Script = List<ScriptLine>;
 
 /// One line of a script.
-#[derive(Debug, PartialEq, Eq, Drop)]
+#[derive(Drop)]
 pub enum ScriptLine {
     /// `session n`: a client connects as session n.
     Session(SessionId),
@@ -68,7 +68,7 @@ pub enum ScriptLine {
 }
 
 /// Where a session stops.
-#[derive(Clone, Copy, Debug, PartialEq, Eq)]
+#[derive(Clone, Copy)]
 pub enum Mark {
     /// It took an order.
     Order,
@@ -85,7 +85,7 @@ pub enum Mark {
 }
 
 /// A value of a `B` line.
-#[derive(Debug, PartialEq, Eq, Drop)]
+#[derive(Drop)]
 pub enum ScriptValue {
     /// `null`
     Null,

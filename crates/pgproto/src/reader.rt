@@ -40,7 +40,10 @@ pub(crate) fn ended(line: ScriptLine, rest: &[u8]) -> Result<ScriptLine, Stop>
 {
     match rest {
         [] => Ok(line),
-        _ => Err(Stop::NotALine),
+        _ => {
+            drop(line);
+            Err(Stop::NotALine)
+        }
     }
 }
 

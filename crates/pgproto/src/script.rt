@@ -7,10 +7,11 @@ ghost use Rattle.pgproto.specs.declared.stop.Stop.TheVariants.{NotALine};
 
 use crate::line::{Script, ScriptLine};
 use crate::message::message_of;
+use crate::moments::is_timed;
 use crate::reader::line;
 use crate::stop::Stop;
 use pg_messages::fits;
-use pool_base::List;
+use pool_base::{List, NoMemory};
 use std::alloc::Global;
 
 /// Why a script was not read.
@@ -22,7 +23,7 @@ pub enum ScriptFault {
     NoMemory,
 }
 
-/// One line whose message can be written.
+/// One line whose message can be written, and whose moment is one.
 fn script_line(alloc: Global, bytes: &[u8]) -> Result<ScriptLine, Stop>
     ensures found { IfOk result (λ l. IsScriptLine (line_of l) bytes.now) }
     ensures only { (l : Line) → IsScriptLine l bytes.now → Gives line_of result (Some l) }
@@ -30,12 +31,26 @@ fn script_line(alloc: Global, bytes: &[u8]) -> Result<ScriptLine, Stop>
         → ⊥) }
 {
     let found = line(alloc, bytes)?;
-    if let Some(message) = message_of(alloc, &found)? {
-        if !fits(&message) {
-            return Err(Stop::NotALine);
+    if !is_timed(alloc, &found) {
+        drop(found);
+        return Err(Stop::NotALine);
+    }
+    match message_of(alloc, &found) {
+        Ok(Some(message)) => {
+            let can = fits(&message);
+            drop(message);
+            if !can {
+                drop(found);
+                return Err(Stop::NotALine);
+            }
+            Ok(found)
+        }
+        Ok(None) => Ok(found),
+        Err(NoMemory) => {
+            drop(found);
+            Err(Stop::NoMemory)
         }
     }
-    Ok(found)
 }
 
 /// The first line and what follows its end, if it has one.

@@ -284,12 +284,28 @@ fn start_messages_of_drivers(rt: HostRuntime) {
     assert_eq!(rt; failing_starts(rt.alloc(), &STARTS), None);
 }
 
-/// Whether the bytes are this message.
-fn is_read(alloc: Global, bytes: &[u8], message: StartMessage) -> bool {
-    let length = bytes.len();
+/// Whether both are the same request before a start.
+fn is_request(found: &StartMessage, wanted: &StartMessage) -> bool {
+    match (found, wanted) {
+        (StartMessage::Ssl, StartMessage::Ssl) | (StartMessage::Gss, StartMessage::Gss) => true,
+        (
+            StartMessage::Cancel { process, secret },
+            StartMessage::Cancel {
+                process: other,
+                secret: own,
+            },
+        ) => process == other && secret == own,
+        _ => false,
+    }
+}
+
+/// Whether the bytes are this request.
+fn is_read(alloc: Global, bytes: &[u8], wanted: &StartMessage) -> bool {
     match read_start(alloc, bytes) {
-        Ok(read) => read == Read::Whole { message, length },
-        Err(NoMemory) => false,
+        Ok(Read::Whole { message, length }) => {
+            length == bytes.len() && is_request(&message, wanted)
+        }
+        Ok(_) | Err(NoMemory) => false,
     }
 }
 
@@ -298,15 +314,29 @@ fn is_read(alloc: Global, bytes: &[u8], message: StartMessage) -> bool {
 fn requests_before_a_start_are_told_apart(rt: HostRuntime) {
     let alloc = rt.alloc();
     let tls = b"\x00\x00\x00\x08\x04\xd2\x16\x2f";
-    assert!(rt; is_read(alloc, tls, StartMessage::Ssl));
+    assert!(rt; is_read(alloc, tls, &StartMessage::Ssl));
     let gss = b"\x00\x00\x00\x08\x04\xd2\x16\x30";
-    assert!(rt; is_read(alloc, gss, StartMessage::Gss));
+    assert!(rt; is_read(alloc, gss, &StartMessage::Gss));
     let cancel = b"\x00\x00\x00\x10\x04\xd2\x16\x2e\x00\x00\x00\x01\xff\xff\xff\xff";
     let message = StartMessage::Cancel {
         process: 1,
         secret: -1,
     };
-    assert!(rt; is_read(alloc, cancel, message));
+    assert!(rt; is_read(alloc, cancel, &message));
+}
+
+/// Writes a message behind the others, where it is of the type and can be written.
+fn put_again(
+    bytes: &[u8],
+    tag: u8,
+    message: &ClientMessage,
+    onto: &mut List<u8>,
+) -> Result<bool, NoMemory> {
+    if bytes.first() != Some(&tag) || !fits(message) {
+        return Ok(false);
+    }
+    write_client(message, onto)?;
+    Ok(true)
 }
 
 /// The length of the message of this type at the front of the bytes, which is written behind the
@@ -320,11 +350,9 @@ fn copied(
     let Read::Whole { message, length } = read_client(alloc, bytes)? else {
         return Ok(None);
     };
-    if bytes.first() != Some(&tag) || !fits(&message) {
-        return Ok(None);
-    }
-    write_client(&message, onto)?;
-    Ok(Some(length))
+    let put = put_again(bytes, tag, &message, onto);
+    drop(message);
+    Ok(if put? { Some(length) } else { None })
 }
 
 /// Whether the bytes are messages of these types, which are written as the same bytes.

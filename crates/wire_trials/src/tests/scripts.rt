@@ -127,7 +127,7 @@ fn comments_and_blank_lines_are_skipped(rt: HostRuntime) -> Result<(), Fail> {
 }
 
 /// Texts that are refused, and the number of the line.
-const REFUSED: [(&str, u32); 8] = [
+const REFUSED: [(&str, u32); 11] = [
     ("session 1\n# a comment\n\n1 'Z'\nlose 8\n", 4),
     ("session 65\n", 1),
     ("1 raw \"580\"\n", 1),
@@ -136,6 +136,9 @@ const REFUSED: [(&str, u32); 8] = [
     ("cut 0\n", 1),
     ("1 'Q' \"a\tb\"\n", 1),
     ("1  go\n", 1),
+    ("moment \"yesterday\"\n", 1),
+    ("session 1\nmoment \"2026-02-29\"\n", 2),
+    ("moment \"\"\n", 1),
 ];
 
 /// The number of the bad line of a short text, if it has one.

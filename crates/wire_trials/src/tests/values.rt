@@ -409,9 +409,9 @@ const NUMBERS_OF_TYPES: [(ColType, u32); 5] = [
 fn types_have_their_numbers(rt: HostRuntime) {
     for (kind, oid) in NUMBERS_OF_TYPES {
         assert_eq!(rt; oid_of(kind), oid);
-        assert_eq!(rt; kind_of(oid), Some(kind));
+        assert!(rt; kind_of(oid) == Some(kind));
     }
-    assert_eq!(rt; kind_of(1043), None);
+    assert!(rt; kind_of(1043).is_none());
 }
 
 #[test]
