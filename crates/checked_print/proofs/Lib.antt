@@ -1,3 +1,4 @@
 pub mod Forms
 mod Places
+pub mod Held
 pub mod Dates

@@ -1,3 +1,4 @@
 pub mod Moments
 pub mod Spelled
+pub mod Ranges
 pub mod Statements

@@ -1,6 +1,8 @@
 //! Expressions as they stand in a statement.
-ghost use Rattle.std.specs.Prelude.{◌≡◌, IfOk, map};
+ghost use Rattle.std.specs.Prelude.{◌≡◌, IfOk, map, true};
+ghost use Rattle.std.specs.List.{list_all};
 ghost use Rattle.std.specs.Option.{option_map};
+ghost use Rattle.checked_print.specs.Ranges.{is_held_expr, is_held_option};
 ghost use Rattle.checked_print.specs.Spelled.{at, spelled, spelled_factor, spelled_summand, spelled_whole, spelling};
 
 use crate::place::Place;
@@ -12,9 +14,10 @@ use typed_sql::{TypedExpr, TypedForm, TypedProductPart, TypedSumPart};
 
 /// An expression at a place.
 #[cycle(spelling)]
-#[tactic(auto, using(crate::proofs::Places::forms))]
+#[tactic(auto, using(crate::proofs::Places::forms, crate::proofs::Held::held))]
 fn spelled_at(speller: &Speller<'_>, place: Place, expr: &TypedExpr) -> Result<Expr, NoMemory>
-    ensures { IfOk result (λ e. e ≡ at place (spelling speller.now.columns.now expr.now)) }
+    ensures made { IfOk result (λ e. e ≡ at place (spelling speller.now.columns.now expr.now)) }
+    ensures held { IfOk result (λ made. is_held_expr expr.now ≡ true) }
 {
     match &expr.form {
         TypedForm::Or(parts) => Ok(Expr::Or(spelled_all(speller, parts)?)),
@@ -64,14 +67,16 @@ fn copied(speller: &Speller<'_>, tests: &List<bool>) -> Result<List<bool>, NoMem
 
 #[cycle(spelling)]
 fn part_box(speller: &Speller<'_>, of: &Boxed<TypedExpr>) -> Result<Boxed<Expr>, NoMemory>
-    ensures { IfOk result (λ e. e ≡ spelled speller.now.columns.now of.now) }
+    ensures made { IfOk result (λ e. e ≡ spelled speller.now.columns.now of.now) }
+    ensures held { IfOk result (λ made. is_held_expr of.now ≡ true) }
 {
     Boxed::new(speller.alloc, spelled_at(speller, Place::Part, of.get())?)
 }
 
 #[cycle(spelling)]
 fn negated_box(speller: &Speller<'_>, of: &Boxed<TypedExpr>) -> Result<Boxed<Expr>, NoMemory>
-    ensures { IfOk result (λ e. e ≡ (spelling speller.now.columns.now of.now).negated) }
+    ensures made { IfOk result (λ e. e ≡ (spelling speller.now.columns.now of.now).negated) }
+    ensures held { IfOk result (λ made. is_held_expr of.now ≡ true) }
 {
     Boxed::new(
         speller.alloc,
@@ -81,7 +86,8 @@ fn negated_box(speller: &Speller<'_>, of: &Boxed<TypedExpr>) -> Result<Boxed<Exp
 
 #[cycle(spelling)]
 fn spelled_all(speller: &Speller<'_>, parts: &List<TypedExpr>) -> Result<List<Expr>, NoMemory>
-    ensures { IfOk result (λ made. made ≡ map (spelled speller.now.columns.now) parts.now) }
+    ensures made { IfOk result (λ made. made ≡ map (spelled speller.now.columns.now) parts.now) }
+    ensures held { IfOk result (λ made. list_all is_held_expr parts.now ≡ true) }
 {
     let mut made = List::new(speller.alloc);
     for part in parts.as_slice() {
@@ -92,7 +98,9 @@ fn spelled_all(speller: &Speller<'_>, parts: &List<TypedExpr>) -> Result<List<Ex
 
 #[cycle(spelling)]
 fn summands(speller: &Speller<'_>, parts: &List<TypedSumPart>) -> Result<List<SumPart>, NoMemory>
-    ensures { IfOk result (λ made. made ≡ map (spelled_summand speller.now.columns.now) parts.now) }
+    ensures made { IfOk result (λ made. made
+        ≡ map (spelled_summand speller.now.columns.now) parts.now) }
+    ensures held { IfOk result (λ made. list_all (λ s. is_held_expr s.part) parts.now ≡ true) }
 {
     let mut made = List::new(speller.alloc);
     for part in parts.as_slice() {
@@ -109,7 +117,9 @@ fn factors(
     speller: &Speller<'_>,
     parts: &List<TypedProductPart>,
 ) -> Result<List<ProductPart>, NoMemory>
-    ensures { IfOk result (λ made. made ≡ map (spelled_factor speller.now.columns.now) parts.now) }
+    ensures made { IfOk result (λ made. made
+        ≡ map (spelled_factor speller.now.columns.now) parts.now) }
+    ensures held { IfOk result (λ made. list_all (λ f. is_held_expr f.part) parts.now ≡ true) }
 {
     let mut made = List::new(speller.alloc);
     for part in parts.as_slice() {
@@ -123,14 +133,16 @@ fn factors(
 
 /// An item or a part of another expression.
 pub(crate) fn spelled(speller: &Speller<'_>, expr: &TypedExpr) -> Result<Expr, NoMemory>
-    ensures { IfOk result (λ e. e ≡ spelled speller.now.columns.now expr.now) }
+    ensures made { IfOk result (λ e. e ≡ spelled speller.now.columns.now expr.now) }
+    ensures held { IfOk result (λ made. is_held_expr expr.now ≡ true) }
 {
     spelled_at(speller, Place::Part, expr)
 }
 
 /// A whole cell, a value of SET or a limit.
 pub(crate) fn spelled_whole(speller: &Speller<'_>, expr: &TypedExpr) -> Result<Expr, NoMemory>
-    ensures { IfOk result (λ e. e ≡ spelled_whole speller.now.columns.now expr.now) }
+    ensures made { IfOk result (λ e. e ≡ spelled_whole speller.now.columns.now expr.now) }
+    ensures held { IfOk result (λ made. is_held_expr expr.now ≡ true) }
 {
     spelled_at(speller, Place::Whole, expr)
 }
@@ -140,7 +152,9 @@ pub(crate) fn some_spelled(
     speller: &Speller<'_>,
     expr: &Option<TypedExpr>,
 ) -> Result<Option<Expr>, NoMemory>
-    ensures { IfOk result (λ made. made ≡ option_map (spelled speller.now.columns.now) expr.now) }
+    ensures made { IfOk result (λ made. made
+        ≡ option_map (spelled speller.now.columns.now) expr.now) }
+    ensures held { IfOk result (λ made. is_held_option expr.now ≡ true) }
 {
     match expr {
         Some(expr) => Ok(Some(spelled(speller, expr)?)),
@@ -153,8 +167,9 @@ pub(crate) fn some_whole(
     speller: &Speller<'_>,
     expr: &Option<TypedExpr>,
 ) -> Result<Option<Expr>, NoMemory>
-    ensures { IfOk result (λ made. made
+    ensures made { IfOk result (λ made. made
         ≡ option_map (spelled_whole speller.now.columns.now) expr.now) }
+    ensures held { IfOk result (λ made. is_held_option expr.now ≡ true) }
 {
     match expr {
         Some(expr) => Ok(Some(spelled_whole(speller, expr)?)),

@@ -1,6 +1,7 @@
 //! The text of a checked statement.
-ghost use Rattle.std.specs.Prelude.{◌≡◌, IfOk};
+ghost use Rattle.std.specs.Prelude.{◌≡◌, IfOk, true};
 ghost use Rattle.sql_print.specs.Printed.{statement_text};
+ghost use Rattle.checked_print.specs.Ranges.{is_held_statement};
 ghost use Rattle.checked_print.specs.Statements.{spelled_statement};
 
 use crate::select::spelled_read;
@@ -18,7 +19,10 @@ pub fn spelled_statement(
     tables: &Catalogue,
     checked: &Checked,
 ) -> Result<Statement, NoMemory>
-    ensures { IfOk result (λ made. made ≡ spelled_statement tables.now checked.now) }
+    ensures made { IfOk result (λ made. made ≡ spelled_statement tables.now checked.now) }
+
+    // Each of its numbers was read: it is in the range of its type.
+    ensures held { IfOk result (λ made. is_held_statement checked.now ≡ true) }
 {
     let columns = checked.columns.as_slice();
     Ok(match &checked.body {
@@ -39,5 +43,7 @@ pub fn print_checked(alloc: Global, tables: &Catalogue, checked: &Checked) -> Re
         ≡ statement_text (spelled_statement tables.now checked.now)) }
 {
     let statement = spelled_statement(alloc, tables, checked)?;
-    print_statement(alloc, &statement)
+    let text = print_statement(alloc, &statement);
+    drop(statement);
+    text
 }

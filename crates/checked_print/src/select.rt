@@ -1,5 +1,6 @@
 //! A SELECT as it is written.
-ghost use Rattle.std.specs.Prelude.{◌≡◌, ◌++◌, IfOk, OnOk, None as Nothing, bytes_eq, map, []};
+ghost use Rattle.std.specs.Prelude.{◌≡◌, ◌++◌, IfOk, OnOk, None as Nothing, bytes_eq, map, true, []};
+ghost use Rattle.checked_print.specs.Ranges.{are_held, is_held_expr, is_held_list, is_held_read};
 ghost use Rattle.checked_print.specs.Statements.{as_name, spelled_item, spelled_items, spelled_key, spelled_list, spelled_read, spelled_select};
 ghost use Rattle.catalogue.specs.Naming.{own_name};
 
@@ -54,12 +55,18 @@ fn item(
     expr: &TypedExpr,
     column: &ColumnDesc,
 ) -> Result<SelectItem, NoMemory>
-    ensures { IfOk result (λ made. made
+    ensures made { IfOk result (λ made. made
         ≡ spelled_item speller.now.columns.now expr.now column.now) }
+    ensures held { IfOk result (λ made. is_held_expr expr.now ≡ true) }
 {
     let expr = spelled(speller, expr)?;
-    let name = as_name(&expr, &column.name)?;
-    Ok(SelectItem { expr, name })
+    match as_name(&expr, &column.name) {
+        Ok(name) => Ok(SelectItem { expr, name }),
+        Err(NoMemory) => {
+            drop(expr);
+            Err(NoMemory)
+        }
+    }
 }
 
 /// Puts each expression with the name of its column behind the items.
@@ -69,8 +76,9 @@ fn push_items(
     columns: &[ColumnDesc],
     onto: &mut List<SelectItem>,
 ) -> Result<(), NoMemory>
-    ensures { OnOk result (onto.new
+    ensures made { OnOk result (onto.new
         ≡ onto.old ++ spelled_items speller.now.columns.now list.now columns.now) }
+    ensures held { OnOk result (are_held list.now columns.now ≡ true) }
 {
     match list {
         [] => Ok(()),
@@ -89,8 +97,9 @@ fn items(
     list: &[TypedExpr],
     columns: &[ColumnDesc],
 ) -> Result<List<SelectItem>, NoMemory>
-    ensures { IfOk result (λ made. made
+    ensures made { IfOk result (λ made. made
         ≡ spelled_items speller.now.columns.now list.now columns.now) }
+    ensures held { IfOk result (λ made. are_held list.now columns.now ≡ true) }
 {
     let mut made = List::new(speller.alloc);
     push_items(speller, list, columns, &mut made)?;
@@ -102,8 +111,10 @@ fn list(
     read: &CheckedRead,
     columns: &[ColumnDesc],
 ) -> Result<SelectList, NoMemory>
-    ensures { IfOk result (λ made. made
+    ensures made { IfOk result (λ made. made
         ≡ spelled_list read.now.count speller.now.columns.now read.now.list columns.now) }
+    ensures held { IfOk result (λ made.
+        is_held_list read.now.count read.now.list columns.now ≡ true) }
 {
     if read.count {
         Ok(SelectList::Count)
@@ -148,21 +159,32 @@ fn select(
     read: &CheckedRead,
     columns: &[ColumnDesc],
 ) -> Result<Select, NoMemory>
-    ensures { IfOk result (λ made. made
+    ensures made { IfOk result (λ made. made
         ≡ spelled_select table name.now speller.now.columns.now read.now columns.now) }
+    ensures held { IfOk result (λ made. is_held_read read.now columns.now ≡ true) }
 {
-    Ok(Select {
-        list: list(speller, read, columns)?,
-        table,
-        filter: some_spelled(speller, &read.filter)?,
-        order: order(speller, name, &read.order)?,
-        limit: some_whole(speller, &read.limit)?,
-        for_update: read.for_update,
-    })
+    let list = list(speller, read, columns)?;
+    let order = order(speller, name, &read.order)?;
+    let filter = some_spelled(speller, &read.filter)?;
+    match some_whole(speller, &read.limit) {
+        Ok(limit) => Ok(Select {
+            list,
+            table,
+            filter,
+            order,
+            limit,
+            for_update: read.for_update,
+        }),
+        Err(NoMemory) => {
+            drop(filter);
+            Err(NoMemory)
+        }
+    }
 }
 
 fn alone(alloc: Global, read: &CheckedRead, columns: &[ColumnDesc]) -> Result<Select, NoMemory>
-    ensures { IfOk result (λ made. made ≡ spelled_select Nothing [] [] read.now columns.now) }
+    ensures made { IfOk result (λ made. made ≡ spelled_select Nothing [] [] read.now columns.now) }
+    ensures held { IfOk result (λ made. is_held_read read.now columns.now ≡ true) }
 {
     let speller = Speller {
         alloc,
@@ -179,8 +201,9 @@ pub(crate) fn spelled_read(
     read: &CheckedRead,
     columns: &[ColumnDesc],
 ) -> Result<Select, NoMemory>
-    ensures { IfOk result (λ made. made
+    ensures made { IfOk result (λ made. made
         ≡ spelled_read tables.now read.now.table read.now columns.now) }
+    ensures held { IfOk result (λ made. is_held_read read.now columns.now ≡ true) }
 {
     match read.table {
         None => alone(alloc, read, columns),

@@ -1,9 +1,10 @@
 //! Values as they stand in a statement.
-ghost use Rattle.std.specs.Prelude.{◌≡◌, ◌↔◌, ◌∷◌, [], IfOk, IsTrue, pos, false};
+ghost use Rattle.std.specs.Prelude.{◌≡◌, ◌↔◌, ◌∷◌, [], IfOk, IsTrue, pos, false, true};
 ghost use Rattle.pg_values.specs.Range.{IsMoment};
 ghost use Rattle.pg_values.specs.declared.value.Value.TheVariants as value;
 ghost use Rattle.sql_tree.specs.declared.expr.Expr.TheVariants as expr;
 ghost use Rattle.checked_print.specs.Moments.{IsShown, is_moment, moment_text, shown_text};
+ghost use Rattle.checked_print.specs.Ranges.{is_held};
 ghost use Rattle.checked_print.specs.Spelled.{at, fits_int4, int8_negated, int8_part, is_least_int4, is_plain, number, spelled_value, summand, widened};
 
 use crate::place::Place;
@@ -157,9 +158,10 @@ fn int8_at(alloc: Global, place: Place, given: i64) -> Result<Expr, NoMemory>
 }
 
 /// A value at a place.
-#[tactic(auto, using(crate::proofs::Places::one_way))]
+#[tactic(auto, using(crate::proofs::Places::one_way, crate::proofs::Held::values))]
 pub(crate) fn value_at(alloc: Global, place: Place, value: &Value) -> Result<Expr, NoMemory>
-    ensures { IfOk result (λ e. e ≡ at place (spelled_value value.now)) }
+    ensures made { IfOk result (λ e. e ≡ at place (spelled_value value.now)) }
+    ensures held { IfOk result (λ made. is_held value.now ≡ true) }
 {
     match value {
         Value::Null => Ok(Expr::Null),

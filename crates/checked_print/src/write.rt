@@ -1,5 +1,7 @@
 //! An INSERT, UPDATE or DELETE as it is written.
-ghost use Rattle.std.specs.Prelude.{◌≡◌, IfOk, Some, map};
+ghost use Rattle.std.specs.Prelude.{◌≡◌, IfOk, Some, map, true};
+ghost use Rattle.std.specs.List.{list_all};
+ghost use Rattle.checked_print.specs.Ranges.{is_held_cell, is_held_change, is_held_expr, is_held_insert, is_held_remove};
 ghost use Rattle.checked_print.specs.Statements.{spelled_cell, spelled_change, spelled_insert, spelled_remove, spelled_set};
 
 use crate::expression::{some_spelled, spelled_whole};
@@ -11,7 +13,8 @@ use std::alloc::Global;
 
 /// A cell: DEFAULT where the table fills it.
 fn cell(alloc: Global, cell: &TypedCell) -> Result<Cell, NoMemory>
-    ensures { IfOk result (λ made. made ≡ spelled_cell cell.now) }
+    ensures made { IfOk result (λ made. made ≡ spelled_cell cell.now) }
+    ensures held { IfOk result (λ made. is_held_cell cell.now ≡ true) }
 {
     match cell {
         TypedCell::Serial | TypedCell::Now => Ok(Cell::Fill),
@@ -26,7 +29,8 @@ fn cell(alloc: Global, cell: &TypedCell) -> Result<Cell, NoMemory>
 }
 
 fn row(alloc: Global, cells: &List<TypedCell>) -> Result<List<Cell>, NoMemory>
-    ensures { IfOk result (λ made. made ≡ map spelled_cell cells.now) }
+    ensures made { IfOk result (λ made. made ≡ map spelled_cell cells.now) }
+    ensures held { IfOk result (λ made. list_all is_held_cell cells.now ≡ true) }
 {
     let mut made = List::new(alloc);
     for given in cells.as_slice() {
@@ -36,7 +40,8 @@ fn row(alloc: Global, cells: &List<TypedCell>) -> Result<List<Cell>, NoMemory>
 }
 
 fn rows(alloc: Global, rows: &List<List<TypedCell>>) -> Result<List<List<Cell>>, NoMemory>
-    ensures { IfOk result (λ made. made ≡ map (map spelled_cell) rows.now) }
+    ensures made { IfOk result (λ made. made ≡ map (map spelled_cell) rows.now) }
+    ensures held { IfOk result (λ made. list_all (list_all is_held_cell) rows.now ≡ true) }
 {
     let mut made = List::new(alloc);
     for cells in rows.as_slice() {
@@ -51,7 +56,8 @@ pub(crate) fn spelled_insert(
     tables: &Catalogue,
     insert: &CheckedInsert,
 ) -> Result<Insert, NoMemory>
-    ensures { IfOk result (λ made. made ≡ spelled_insert tables.now insert.now) }
+    ensures made { IfOk result (λ made. made ≡ spelled_insert tables.now insert.now) }
+    ensures held { IfOk result (λ made. is_held_insert insert.now ≡ true) }
 {
     let speller = Speller {
         alloc,
@@ -67,7 +73,8 @@ pub(crate) fn spelled_insert(
 }
 
 fn set_item(speller: &Speller<'_>, set: &TypedSet) -> Result<SetItem, NoMemory>
-    ensures { IfOk result (λ made. made ≡ spelled_set speller.now.columns.now set.now) }
+    ensures made { IfOk result (λ made. made ≡ spelled_set speller.now.columns.now set.now) }
+    ensures held { IfOk result (λ made. is_held_expr set.now.expr ≡ true) }
 {
     Ok(SetItem {
         column: name_at(speller, set.column)?,
@@ -76,7 +83,8 @@ fn set_item(speller: &Speller<'_>, set: &TypedSet) -> Result<SetItem, NoMemory>
 }
 
 fn set_items(speller: &Speller<'_>, sets: &List<TypedSet>) -> Result<List<SetItem>, NoMemory>
-    ensures { IfOk result (λ made. made ≡ map (spelled_set speller.now.columns.now) sets.now) }
+    ensures made { IfOk result (λ made. made ≡ map (spelled_set speller.now.columns.now) sets.now) }
+    ensures held { IfOk result (λ made. list_all (λ s. is_held_expr s.expr) sets.now ≡ true) }
 {
     let mut made = List::new(speller.alloc);
     for set in sets.as_slice() {
@@ -90,7 +98,8 @@ pub(crate) fn spelled_change(
     tables: &Catalogue,
     change: &CheckedChange,
 ) -> Result<Update, NoMemory>
-    ensures { IfOk result (λ made. made ≡ spelled_change tables.now change.now) }
+    ensures made { IfOk result (λ made. made ≡ spelled_change tables.now change.now) }
+    ensures held { IfOk result (λ made. is_held_change change.now ≡ true) }
 {
     let speller = Speller {
         alloc,
@@ -109,7 +118,8 @@ pub(crate) fn spelled_remove(
     tables: &Catalogue,
     remove: &CheckedRemove,
 ) -> Result<Delete, NoMemory>
-    ensures { IfOk result (λ made. made ≡ spelled_remove tables.now remove.now) }
+    ensures made { IfOk result (λ made. made ≡ spelled_remove tables.now remove.now) }
+    ensures held { IfOk result (λ made. is_held_remove remove.now ≡ true) }
 {
     let speller = Speller {
         alloc,

@@ -1,9 +1,7 @@
 -- Every expression whose nodes have the types that the rules give them is said by its spelling.
-use Rattle.std.proofs.Common.{rules, ◌≡◌, ◌∙◌, ◌≤◌, ℕ, zero, suc, List, [], ◌∷◌, length, map, refl, ap, sym, subst, arith}
-use Rattle.std.specs.Prelude.{◌&&◌, nat_le, Bool as Truth, true, false, Option, Some, None, Ok, option_map, slice_get}
+use Rattle.std.proofs.Common.{◌≡◌, ◌∙◌, ◌≤◌, ℕ, zero, suc, List, [], ◌∷◌, length, map, refl, ap, sym, subst, arith}
+use Rattle.std.specs.Prelude.{◌&&◌, Bool as Truth, true, false, Option, Some, None, Ok, option_map, slice_get}
 use Rattle.std.specs.List.{list_all}
-use Rattle.std.proofs.lemmas.Bool.{leb-true}
-use Rattle.std.proofs.lemmas.List.{length-map}
 use Rattle.std.proofs.lemmas.Option.{slice_get-map}
 use Rattle.pg_values.specs.declared.col_type.ColType.{ColType}
 use Rattle.pg_values.specs.declared.col_type.ColType.TheVariants as kind
@@ -14,9 +12,9 @@ use Rattle.sql_tree.specs.declared.expr.Expr.TheVariants as expr
 use Rattle.typed_sql.specs.declared.asks.Takes.{Takes}
 use Rattle.typed_sql.specs.declared.asks.Takes.TheVariants.{Any, Whole, Like}
 use Rattle.typed_sql.specs.declared.typed.TypedExpr.{TypedExpr}
-use Rattle.typed_sql.specs.declared.typed.TypedForm.{TypedForm, roll-TypedForm, map-TypedForm, the_lemmas}
+use Rattle.typed_sql.specs.declared.typed.TypedForm.{TypedForm, roll-TypedForm, map-TypedForm}
 use Rattle.typed_sql.specs.declared.typed.TypedForm.TheOpen.{TypedForm-F, TypedExpr-F, TypedProductPart-F, TypedSumPart-F}
-use Rattle.typed_sql.specs.declared.typed.TypedForm.TheFolds.{fold-TypedForm, fold-TypedProductPart, fold-TypedSumPart, fold-roll-TypedForm, ind-TypedExpr}
+use Rattle.typed_sql.specs.declared.typed.TypedForm.TheFolds.{ind-TypedExpr}
 use Rattle.typed_sql.specs.declared.typed.TypedForm.TheVariants as form
 use Rattle.typed_sql.specs.declared.typed.TypedSumPart.{TypedSumPart}
 use Rattle.typed_sql.specs.declared.typed.TypedProductPart.{TypedProductPart}
@@ -24,12 +22,13 @@ use Rattle.typed_sql.specs.Places.{is_whole, same_kind, sum_kind, takes as takes
 use Rattle.typed_sql.specs.Own.{Own, Scope, column_meant, of_kind, own}
 use Rattle.typed_sql.specs.Steps.{Known, known_kind, or_none}
 use Rattle.typed_sql.proofs.OwnForms.{own_product, own_sum}
-use Rattle.checked_sql.specs.Sound.{Names, chain_kind, form_in, has_column, has_this, is_parameter, is_some_test, is_sound, is_value, stands}
+use Rattle.checked_sql.specs.Sound.{Names, chain_kind, form_in, has_column, has_one, has_this, has_two, is_parameter, is_sound, is_value, stands}
 use Rattle.checked_sql.specs.OfCatalogue.{around}
 use Rattle.checked_sql.proofs.Forms.{fits_and, fits_compare, fits_concat, fits_is_null, fits_member, fits_minus, fits_not, fits_or, fits_product, fits_sum, gives_and, gives_column, gives_compare, gives_concat, gives_current, gives_is_null, gives_literal, gives_member, gives_minus, gives_not, gives_now, gives_or, gives_param, gives_product, gives_sum, gives_transaction, sound_by_form}
 use Rattle.checked_print.specs.Spelled.{Spelling, always, column_name, spelled, spelled_factor, spelled_negated, spelled_summand, spelled_whole, spelling}
 use Rattle.checked_print.proofs.Forms.{and_is, column_is, compare_is, concat_is, current_is, is_null_is, literal_is, member_is, minus_is, not_is, now_is, or_is, param_is, product_is, sum_is, transaction_is}
-use Rattle.checked_round.specs.Ranges.{formed, is_formed}
+use Rattle.checked_print.proofs.Held.{factor_by, factor_held, form_held, held_at, held_by_form, summand_by, summand_held}
+use Rattle.checked_print.specs.Ranges.{held_layer, is_held_expr}
 use Rattle.checked_round.proofs.Claims.{Said}
 use Rattle.checked_round.proofs.Alike.{same_is, sum_whole}
 use Rattle.checked_round.proofs.Leaves.{column_said, current_said, minus_not_least, negated_by, now_said, param_said, transaction_said}
@@ -53,34 +52,16 @@ Round scope columns kinds e = Said scope (known_of kinds) e (spelled columns e)
     × (is_whole e.kind ≡ true → IsNegated scope (known_of kinds) e (spelled_negated columns e))
     × IsWhole scope (known_of kinds) columns e (spelled_whole columns e)
 
--- ---- folds
-
-abbrev pub form_formed : TypedForm → Truth
-form_formed = fold-TypedForm Truth Truth Truth Truth formed (λ e. e.form) (λ f. f.part) (λ s. s.part)
-
-abbrev pub factor_formed : TypedProductPart → Truth
-factor_formed = fold-TypedProductPart Truth Truth Truth Truth formed (λ e. e.form) (λ f. f.part) (λ s. s.part)
-
-abbrev pub summand_formed : TypedSumPart → Truth
-summand_formed = fold-TypedSumPart Truth Truth Truth Truth formed (λ e. e.form) (λ f. f.part) (λ s. s.part)
-
-pub formed_by : (e : TypedExpr) → is_formed e ≡ form_formed e.form
-formed_by e = search (rules, the_lemmas)
-
-pub factor_by : (f : TypedProductPart) → factor_formed f ≡ is_formed f.part
-factor_by f = search (rules, the_lemmas)
-
-pub summand_by : (s : TypedSumPart) → summand_formed s ≡ is_formed s.part
-summand_by s = search (rules, the_lemmas)
-
-pub formed_at : (d : TypedForm-F TypedForm TypedExpr TypedProductPart TypedSumPart) → form_formed (roll-TypedForm d)
-    ≡ formed (map-TypedForm TypedForm TypedExpr TypedProductPart TypedSumPart Truth Truth Truth Truth form_formed is_formed factor_formed summand_formed d)
-formed_at d = fold-roll-TypedForm Truth Truth Truth Truth formed (λ e. e.form) (λ f. f.part) (λ s. s.part) d
-
 -- ---- tests
 
-long : {A : Type 0} (f : A → Truth) (xs : List A) → nat_le 1 (length (map f xs)) ≡ true → 1 ≤ length xs
-long f xs is = let some = leb-true 1 (length (map f xs)) is in omega (arith, some, length-map xs f)
+pub one_long : {A : Type 0} (xs : List A) → has_one xs ≡ true → 1 ≤ length xs
+one_long [] is = absurd (let f : false ≡ true = is in cc)
+one_long (x ∷ xs) is = omega arith
+
+pub two_long : {A : Type 0} (xs : List A) → has_two xs ≡ true → 2 ≤ length xs
+two_long [] is = absurd (let f : false ≡ true = is in cc)
+two_long (x ∷ []) is = absurd (let f : false ≡ true = is in cc)
+two_long (x ∷ y ∷ xs) is = omega arith
 
 chain_whole : (k : ColType) (ks : List ColType) → is_whole k ≡ true → is_whole (chain_kind k ks) ≡ true
 chain_whole k [] is = is
@@ -105,43 +86,43 @@ module _ (scope : Scope) (columns : List ColumnDef) (kinds : List ColType) (mean
   )
 
   abbrev GoodExpr : TypedExpr → Type 0
-  GoodExpr e = is_formed e ≡ true → is_sound names e ≡ true → Rounds e
+  GoodExpr e = is_held_expr e ≡ true → is_sound names e ≡ true → Rounds e
 
   abbrev GoodForm : TypedForm → Type 0
-  GoodForm f = (e : TypedExpr) → e.form ≡ f → form_formed f ≡ true → (form_in names f).gives e.kind ≡ true → (form_in names f).fits ≡ true → Rounds e
+  GoodForm f = (e : TypedExpr) → e.form ≡ f → form_held f ≡ true → (form_in names f).gives e.kind ≡ true → (form_in names f).fits ≡ true → Rounds e
 
   least : (o : Own) (k : Option ColType) → o ≡ of_kind k → o.least_int4 ≡ false
   least o k is = ap (λ (x : Own). x.least_int4) is
 
   -- a part that stands where such types may
-  stood : (t : Takes) (e : TypedExpr) → GoodExpr e → is_formed e ≡ true → stands names t e ≡ true → Said scope known e (spelled columns e) × (takes_kind t e.kind ≡ true)
+  stood : (t : Takes) (e : TypedExpr) → GoodExpr e → is_held_expr e ≡ true → stands names t e ≡ true → Said scope known e (spelled columns e) × (takes_kind t e.kind ≡ true)
   stood t e good formed is =
       let both = both_of (takes_kind t e.kind) (is_sound names e) is in
       ((good formed both.1).0, both.0)
 
   module _ {X Y Z W : Type 0} (f_of : X → TypedForm) (e_of : Y → TypedExpr) (p_of : Z → TypedProductPart) (s_of : W → TypedSumPart)
       (ey : (y : Y) → GoodExpr (e_of y)) (pz : (z : Z) → GoodExpr (p_of z).part) (sw : (w : W) → GoodExpr (s_of w).part) where
-    parts : (k : ColType) (ys : List Y) → list_all (λ part. part) (map is_formed (map e_of ys)) ≡ true → list_all (stands names (Like k)) (map e_of ys) ≡ true
+    parts : (k : ColType) (ys : List Y) → list_all (λ part. part) (map is_held_expr (map e_of ys)) ≡ true → list_all (stands names (Like k)) (map e_of ys) ≡ true
         → AreSaid scope known columns k (map e_of ys)
     parts k [] formed is = tt
     parts k (y ∷ ys) formed is =
-        let all = both_of (is_formed (e_of y)) (list_all (λ part. part) (map is_formed (map e_of ys))) formed in
+        let all = both_of (is_held_expr (e_of y)) (list_all (λ part. part) (map is_held_expr (map e_of ys))) formed in
         let both = both_of (stands names (Like k) (e_of y)) (list_all (stands names (Like k)) (map e_of ys)) is in
         (stood (Like k) (e_of y) (ey y) all.0 both.0, parts k ys all.1 both.1)
 
-    summands : (ws : List W) → list_all (λ part. part) (map summand_formed (map s_of ws)) ≡ true → list_all (λ s. stands names Whole s.part) (map s_of ws) ≡ true
+    summands : (ws : List W) → list_all (λ part. part) (map summand_held (map s_of ws)) ≡ true → list_all (λ s. stands names Whole s.part) (map s_of ws) ≡ true
         → AreNumbers scope known columns (λ s. s.part) (map s_of ws)
     summands [] formed is = tt
     summands (w ∷ ws) formed is =
-        let all = both_of (summand_formed (s_of w)) (list_all (λ part. part) (map summand_formed (map s_of ws))) formed in
+        let all = both_of (summand_held (s_of w)) (list_all (λ part. part) (map summand_held (map s_of ws))) formed in
         let both = both_of (stands names Whole (s_of w).part) (list_all (λ (s : TypedSumPart). stands names Whole s.part) (map s_of ws)) is in
         (stood Whole (s_of w).part (sw w) (sym (summand_by (s_of w)) ∙ all.0) both.0, summands ws all.1 both.1)
 
-    factors : (zs : List Z) → list_all (λ part. part) (map factor_formed (map p_of zs)) ≡ true → list_all (λ f. stands names Whole f.part) (map p_of zs) ≡ true
+    factors : (zs : List Z) → list_all (λ part. part) (map factor_held (map p_of zs)) ≡ true → list_all (λ f. stands names Whole f.part) (map p_of zs) ≡ true
         → AreNumbers scope known columns (λ f. f.part) (map p_of zs)
     factors [] formed is = tt
     factors (z ∷ zs) formed is =
-        let all = both_of (factor_formed (p_of z)) (list_all (λ part. part) (map factor_formed (map p_of zs))) formed in
+        let all = both_of (factor_held (p_of z)) (list_all (λ part. part) (map factor_held (map p_of zs))) formed in
         let both = both_of (stands names Whole (p_of z).part) (list_all (λ (f : TypedProductPart). stands names Whole f.part) (map p_of zs)) is in
         (stood Whole (p_of z).part (pz z) (sym (factor_by (p_of z)) ∙ all.0) both.0, factors zs all.1 both.1)
 
@@ -151,7 +132,7 @@ module _ (scope : Scope) (columns : List ColumnDef) (kinds : List ColType) (mean
     -- by the tests of its parts
     abbrev Holds : TypedForm-F X Y Z W → Type 0
     Holds d = (e : TypedExpr) → e.form ≡ roll-TypedForm (layer d)
-        → formed (map-TypedForm TypedForm TypedExpr TypedProductPart TypedSumPart Truth Truth Truth Truth form_formed is_formed factor_formed summand_formed (layer d)) ≡ true
+        → held_layer (map-TypedForm TypedForm TypedExpr TypedProductPart TypedSumPart Truth Truth Truth Truth form_held is_held_expr factor_held summand_held (layer d)) ≡ true
         → (form_in names (roll-TypedForm (layer d))).gives e.kind ≡ true → (form_in names (roll-TypedForm (layer d))).fits ≡ true → Rounds e
 
     bool_is : (e : TypedExpr) → same_kind kind.Bool e.kind ≡ true → e.kind ≡ kind.Bool
@@ -162,30 +143,27 @@ module _ (scope : Scope) (columns : List ColumnDef) (kinds : List ColType) (mean
         let es = map e_of ys in
         let f = roll-TypedForm (TypedForm-F.Or es) in
         let xs = map (spelled columns) es in
-        let all = both_of (nat_le 2 (length (map is_formed es))) (list_all (λ part. part) (map is_formed es)) well in
         alike e (expr.Or xs) (or_is columns e es (is ∙ form.rolls-Or es)) (least (own scope [] (expr.Or xs)) (Some kind.Bool) (own_or scope [] xs))
         (or_said scope known columns e es (is ∙ form.rolls-Or es) (bool_is e (sym (gives_or names f e.kind es (form.rolls-Or es)) ∙ gives))
-        (parts kind.Bool ys all.1 (sym (fits_or names f es (form.rolls-Or es)) ∙ fits)))
+        (parts kind.Bool ys well (both_of (has_two es) (list_all (stands names (Like kind.Bool)) es) (sym (fits_or names f es (form.rolls-Or es)) ∙ fits)).1))
 
     and_holds : (ys : List Y) → Holds (TypedForm-F.And ys)
     and_holds ys e is well gives fits =
         let es = map e_of ys in
         let f = roll-TypedForm (TypedForm-F.And es) in
         let xs = map (spelled columns) es in
-        let all = both_of (nat_le 2 (length (map is_formed es))) (list_all (λ part. part) (map is_formed es)) well in
         alike e (expr.And xs) (and_is columns e es (is ∙ form.rolls-And es)) (least (own scope [] (expr.And xs)) (Some kind.Bool) (own_and scope [] xs))
         (and_said scope known columns e es (is ∙ form.rolls-And es) (bool_is e (sym (gives_and names f e.kind es (form.rolls-And es)) ∙ gives))
-        (parts kind.Bool ys all.1 (sym (fits_and names f es (form.rolls-And es)) ∙ fits)))
+        (parts kind.Bool ys well (both_of (has_two es) (list_all (stands names (Like kind.Bool)) es) (sym (fits_and names f es (form.rolls-And es)) ∙ fits)).1))
 
     concat_holds : (ys : List Y) → Holds (TypedForm-F.Concat ys)
     concat_holds ys e is well gives fits =
         let es = map e_of ys in
         let f = roll-TypedForm (TypedForm-F.Concat es) in
         let xs = map (spelled columns) es in
-        let all = both_of (nat_le 2 (length (map is_formed es))) (list_all (λ part. part) (map is_formed es)) well in
         alike e (expr.Concat xs) (concat_is columns e es (is ∙ form.rolls-Concat es)) (least (own scope [] (expr.Concat xs)) (Some kind.Text) (own_concat scope [] xs))
         (concat_said scope known columns e es (is ∙ form.rolls-Concat es) (sym (same_is kind.Text e.kind (sym (gives_concat names f e.kind es (form.rolls-Concat es)) ∙ gives)))
-        (parts kind.Text ys all.1 (sym (fits_concat names f es (form.rolls-Concat es)) ∙ fits)))
+        (parts kind.Text ys well (both_of (has_two es) (list_all (stands names (Like kind.Text)) es) (sym (fits_concat names f es (form.rolls-Concat es)) ∙ fits)).1))
 
     not_holds : (y : Y) → Holds (TypedForm-F.Not y)
     not_holds y e is well gives fits =
@@ -201,8 +179,8 @@ module _ (scope : Scope) (columns : List ColumnDef) (kinds : List ColType) (mean
         let a = e_of y in
         let f = roll-TypedForm (TypedForm-F.IsNull a tests) in
         let x = spelled columns a in
-        let stands_there = (both_of (is_some_test tests) (stands names Any a) (sym (fits_is_null names f a tests (form.rolls-IsNull a tests)) ∙ fits)).1 in
-        let part = stood Any a (ey y) (both_of (is_formed a) (nat_le 1 (length tests)) well).0 stands_there in
+        let stands_there = (both_of (has_one tests) (stands names Any a) (sym (fits_is_null names f a tests (form.rolls-IsNull a tests)) ∙ fits)).1 in
+        let part = stood Any a (ey y) well stands_there in
         alike e (expr.IsNull x tests) (is_null_is columns e a tests (is ∙ form.rolls-IsNull a tests)) (least (own scope [] (expr.IsNull x tests)) (Some kind.Bool) (own_is_null scope [] x tests))
         (is_null_said scope known columns e a tests (is ∙ form.rolls-IsNull a tests) (bool_is e (sym (gives_is_null names f e.kind a tests (form.rolls-IsNull a tests)) ∙ gives)) part.0)
 
@@ -212,7 +190,7 @@ module _ (scope : Scope) (columns : List ColumnDef) (kinds : List ColType) (mean
         let b = e_of z in
         let f = roll-TypedForm (TypedForm-F.Compare how a b) in
         let eq = form.rolls-Compare how a b in
-        let all = both_of (is_formed a) (is_formed b) well in
+        let all = both_of (is_held_expr a) (is_held_expr b) well in
         let both = both_of (stands names Any a) (stands names (Like a.kind) b) (sym (fits_compare names f how a b eq) ∙ fits) in
         let first = stood Any a (ey y) all.0 both.0 in
         let second = stood (Like a.kind) b (ey z) all.1 both.1 in
@@ -226,13 +204,13 @@ module _ (scope : Scope) (columns : List ColumnDef) (kinds : List ColType) (mean
         let es = map e_of ys in
         let f = roll-TypedForm (TypedForm-F.Member a negated es) in
         let eq = form.rolls-Member a negated es in
-        let all = both_of (is_formed a) (nat_le 1 (length (map is_formed es)) && list_all (λ part. part) (map is_formed es)) well in
-        let entries = both_of (nat_le 1 (length (map is_formed es))) (list_all (λ part. part) (map is_formed es)) all.1 in
-        let both = both_of (stands names Any a) (list_all (stands names (Like a.kind)) es) (sym (fits_member names f a negated es eq) ∙ fits) in
+        let all = both_of (is_held_expr a) (list_all (λ part. part) (map is_held_expr es)) well in
+        let both = both_of (stands names Any a) (has_one es && list_all (stands names (Like a.kind)) es) (sym (fits_member names f a negated es eq) ∙ fits) in
+        let entries = both_of (has_one es) (list_all (stands names (Like a.kind)) es) both.1 in
         let first = stood Any a (ey y) all.0 both.0 in
         let x = expr.Member (spelled columns a) negated (map (spelled columns) es) in
         alike e x (member_is columns e a negated es (is ∙ eq)) (least (own scope [] x) (Some kind.Bool) (own_member scope [] (spelled columns a) negated (map (spelled columns) es)))
-        (member_said scope known columns e a negated es (is ∙ eq) (bool_is e (sym (gives_member names f e.kind a negated es eq) ∙ gives)) first.0 (parts a.kind ys entries.1 both.1))
+        (member_said scope known columns e a negated es (is ∙ eq) (bool_is e (sym (gives_member names f e.kind a negated es eq) ∙ gives)) first.0 (parts a.kind ys all.1 entries.1))
 
     sum_holds : (y : Y) (ws : List W) → Holds (TypedForm-F.Sum y ws)
     sum_holds y ws e is well gives fits =
@@ -240,9 +218,9 @@ module _ (scope : Scope) (columns : List ColumnDef) (kinds : List ColType) (mean
         let ss = map s_of ws in
         let f = roll-TypedForm (TypedForm-F.Sum a ss) in
         let eq = form.rolls-Sum a ss in
-        let all = both_of (is_formed a) (nat_le 1 (length (map summand_formed ss)) && list_all (λ part. part) (map summand_formed ss)) well in
-        let rest = both_of (nat_le 1 (length (map summand_formed ss))) (list_all (λ part. part) (map summand_formed ss)) all.1 in
-        let both = both_of (stands names Whole a) (list_all (λ (s : TypedSumPart). stands names Whole s.part) ss) (sym (fits_sum names f a ss eq) ∙ fits) in
+        let all = both_of (is_held_expr a) (list_all (λ part. part) (map summand_held ss)) well in
+        let both = both_of (stands names Whole a) (has_one ss && list_all (λ (s : TypedSumPart). stands names Whole s.part) ss) (sym (fits_sum names f a ss eq) ∙ fits) in
+        let rest = both_of (has_one ss) (list_all (λ (s : TypedSumPart). stands names Whole s.part) ss) both.1 in
         let first = stood Whole a (ey y) all.0 both.0 in
         let x = spelled columns a in
         let xs = map (spelled_summand columns) ss in
@@ -250,7 +228,7 @@ module _ (scope : Scope) (columns : List ColumnDef) (kinds : List ColType) (mean
         ap is_whole (sym (same_is (chain_kind a.kind (map (λ (s : TypedSumPart). s.part.kind) ss)) e.kind (sym (gives_sum names f e.kind a ss eq) ∙ gives)))
         ∙ chain_whole a.kind (map (λ (s : TypedSumPart). s.part.kind) ss) first.1 in
         alike e (expr.Sum x xs) (sum_is columns e a ss (is ∙ eq)) (ap (λ (o : Own). o.least_int4) (own_sum scope [] x xs))
-        (sum_said scope known columns e a ss (is ∙ eq) (long summand_formed ss rest.0) whole first.0 first.1 (summands ws rest.1 both.1))
+        (sum_said scope known columns e a ss (is ∙ eq) (one_long ss rest.0) whole first.0 first.1 (summands ws all.1 rest.1))
 
     product_holds : (y : Y) (zs : List Z) → Holds (TypedForm-F.Product y zs)
     product_holds y zs e is well gives fits =
@@ -258,9 +236,9 @@ module _ (scope : Scope) (columns : List ColumnDef) (kinds : List ColType) (mean
         let fs = map p_of zs in
         let f = roll-TypedForm (TypedForm-F.Product a fs) in
         let eq = form.rolls-Product a fs in
-        let all = both_of (is_formed a) (nat_le 1 (length (map factor_formed fs)) && list_all (λ part. part) (map factor_formed fs)) well in
-        let rest = both_of (nat_le 1 (length (map factor_formed fs))) (list_all (λ part. part) (map factor_formed fs)) all.1 in
-        let both = both_of (stands names Whole a) (list_all (λ (q : TypedProductPart). stands names Whole q.part) fs) (sym (fits_product names f a fs eq) ∙ fits) in
+        let all = both_of (is_held_expr a) (list_all (λ part. part) (map factor_held fs)) well in
+        let both = both_of (stands names Whole a) (has_one fs && list_all (λ (q : TypedProductPart). stands names Whole q.part) fs) (sym (fits_product names f a fs eq) ∙ fits) in
+        let rest = both_of (has_one fs) (list_all (λ (q : TypedProductPart). stands names Whole q.part) fs) both.1 in
         let first = stood Whole a (ey y) all.0 both.0 in
         let x = spelled columns a in
         let xs = map (spelled_factor columns) fs in
@@ -268,7 +246,7 @@ module _ (scope : Scope) (columns : List ColumnDef) (kinds : List ColType) (mean
         ap is_whole (sym (same_is (chain_kind a.kind (map (λ (q : TypedProductPart). q.part.kind) fs)) e.kind (sym (gives_product names f e.kind a fs eq) ∙ gives)))
         ∙ chain_whole a.kind (map (λ (q : TypedProductPart). q.part.kind) fs) first.1 in
         alike e (expr.Product x xs) (product_is columns e a fs (is ∙ eq)) (ap (λ (o : Own). o.least_int4) (own_product scope [] x xs))
-        (product_said scope known columns e a fs (is ∙ eq) (long factor_formed fs rest.0) whole first.0 first.1 (factors zs rest.1 both.1))
+        (product_said scope known columns e a fs (is ∙ eq) (one_long fs rest.0) whole first.0 first.1 (factors zs all.1 rest.1))
 
     minus_holds : (y : Y) → Holds (TypedForm-F.Minus y)
     minus_holds y e is well gives fits =
@@ -350,12 +328,12 @@ module _ (scope : Scope) (columns : List ColumnDef) (kinds : List ColType) (mean
         (moment_is e (sym (gives_transaction names (roll-TypedForm TypedForm-F.TransactionTimestamp) e.kind form.rolls-TransactionTimestamp) ∙ gives)))
 
     form_good : (d : TypedForm-F X Y Z W) → GoodForm (roll-TypedForm (layer d))
-    form_good d e is well gives fits = holds d e is (sym (formed_at (layer d)) ∙ well) gives fits
+    form_good d e is well gives fits = holds d e is (sym (held_at (layer d)) ∙ well) gives fits
 
   expr_good : (e : TypedExpr) → GoodForm e.form → GoodExpr e
   expr_good e good well sound =
       let both = both_of ((form_in names e.form).gives e.kind) (form_in names e.form).fits (sym (sound_by_form names e) ∙ sound) in
-      good e refl (sym (formed_by e) ∙ well) both.0 both.1
+      good e refl (sym (held_by_form e) ∙ well) both.0 both.1
 
   -- every expression
   pub round : (e : TypedExpr) → GoodExpr e

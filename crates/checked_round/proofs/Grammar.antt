@@ -1,9 +1,9 @@
 -- The spelling of an expression whose nodes are sound is of the grammar at each of its places.
 use Rattle.std.proofs.Common.{◌≡◌, ◌∙◌, inl, inr, ℕ, zero, suc, ◌<◌, ◌≤◌, ◌≢◌, ℤ, pos, negsuc, List, [], ◌∷◌, length, map, refl, ap, sym, subst, arith}
-use Rattle.std.specs.Prelude.{◌&&◌, ◌==◌, T, not, nat_le, Bool as Truth, true, false, Option, Some, None, slice_get, if◌then◌else◌}
+use Rattle.std.specs.Prelude.{◌&&◌, ◌==◌, T, not, Bool as Truth, true, false, Option, Some, None, slice_get, if◌then◌else◌}
 use Rattle.std.specs.List.{AllByRecursion, list_all}
 use Rattle.std.specs.Int.Signed.{le_z_yes}
-use Rattle.std.proofs.lemmas.Bool.{eqb-true, eqb-false, le-leb, leb-true}
+use Rattle.std.proofs.lemmas.Bool.{eqb-true, eqb-false, le-leb}
 use Rattle.std.proofs.lemmas.List.{length-map}
 use Rattle.pg_values.specs.declared.col_type.ColType.{ColType}
 use Rattle.pg_values.specs.declared.col_type.ColType.TheVariants as kind
@@ -27,14 +27,15 @@ use Rattle.typed_sql.specs.declared.typed.TypedProductPart.{TypedProductPart}
 use Rattle.typed_sql.specs.declared.asks.Takes.{Takes}
 use Rattle.typed_sql.specs.declared.asks.Takes.TheVariants.{Any, Whole, Like}
 use Rattle.typed_sql.specs.Places.{same_kind, takes as takes_kind}
-use Rattle.checked_sql.specs.Sound.{Names, form_in, has_column, has_no_zero, is_moment, is_parameter, is_some_byte, is_some_test, is_sound, is_value, stands}
+use Rattle.checked_sql.specs.Sound.{Names, form_in, has_column, has_no_zero, has_one, has_two, is_moment, is_parameter, is_some_byte, is_sound, is_value, stands}
 use Rattle.checked_sql.specs.OfCatalogue.{around, is_empty, is_name}
 use Rattle.checked_sql.proofs.Forms.{fits_and, fits_compare, fits_concat, fits_is_null, fits_member, fits_minus, fits_not, fits_or, fits_product, fits_sum, gives_column, gives_literal, gives_param, sound_by_form}
 use Rattle.checked_print.specs.Moments.{moment_text}
 use Rattle.checked_print.specs.Spelled.{Spelling, always, column_name, fits_int4, int8_part, is_least_int4, number, spelled, spelled_factor, spelled_negated, spelled_summand, spelled_value, spelling, summand, widened}
 use Rattle.checked_print.proofs.Forms.{and_is, column_is, compare_is, concat_is, current_is, is_null_is, literal_is, member_is, minus_is, not_is, now_is, or_is, param_is, product_is, sum_is, transaction_is}
-use Rattle.checked_round.specs.Ranges.{fits_int8, formed, is_formed, is_held}
-use Rattle.checked_round.proofs.Exprs.{factor_by, factor_formed, form_formed, formed_at, formed_by, summand_by, summand_formed}
+use Rattle.checked_print.specs.Ranges.{fits_int8, held_layer, is_held_expr, is_held}
+use Rattle.checked_round.proofs.Exprs.{one_long, two_long}
+use Rattle.checked_print.proofs.Held.{factor_by, factor_held, form_held, held_at, held_by_form, summand_by, summand_held}
 use Rattle.checked_round.proofs.Leaves.{moment_again, moment_within}
 use Rattle.checked_round.proofs.Numbers.{both_of, int4_fits, number_least, number_negative, number_pos, strictly, wide_below}
 use Rattle.checked_round.proofs.Trees.{layer_tree}
@@ -129,43 +130,43 @@ module _ (columns : List ColumnDef) (kinds : List ColType) (named : (n : ℕ) (c
   names = around columns kinds
 
   abbrev GoodExpr : TypedExpr → Type 0
-  GoodExpr e = is_formed e ≡ true → is_sound names e ≡ true → Trees (spelling columns e)
+  GoodExpr e = is_held_expr e ≡ true → is_sound names e ≡ true → Trees (spelling columns e)
 
   abbrev GoodForm : TypedForm → Type 0
-  GoodForm f = (e : TypedExpr) → e.form ≡ f → form_formed f ≡ true → (form_in names f).gives e.kind ≡ true → (form_in names f).fits ≡ true → Trees (spelling columns e)
+  GoodForm f = (e : TypedExpr) → e.form ≡ f → form_held f ≡ true → (form_in names f).gives e.kind ≡ true → (form_in names f).fits ≡ true → Trees (spelling columns e)
 
   alike : (e : TypedExpr) (x : Expr) → spelling columns e ≡ always x → IsTree x → Trees (spelling columns e)
   alike e x is tree = subst Trees (sym is) (one_way x tree)
 
-  stood : (t : Takes) (e : TypedExpr) → GoodExpr e → is_formed e ≡ true → stands names t e ≡ true → Trees (spelling columns e)
+  stood : (t : Takes) (e : TypedExpr) → GoodExpr e → is_held_expr e ≡ true → stands names t e ≡ true → Trees (spelling columns e)
   stood t e good well is = good well (both_of (takes_kind t e.kind) (is_sound names e) is).1
 
-  long : {A B : Type 0} (n : ℕ) (f : A → Truth) (g : A → B) (xs : List A) → nat_le n (length (map f xs)) ≡ true → n ≤ length (map g xs)
-  long n f g xs is = let some = leb-true n (length (map f xs)) is in omega (arith, some, length-map xs f, length-map xs g)
+  long : {A B : Type 0} (n : ℕ) (g : A → B) (xs : List A) → n ≤ length xs → n ≤ length (map g xs)
+  long n g xs some = omega (arith, some, length-map xs g)
 
   module _ {X Y Z W : Type 0} (f_of : X → TypedForm) (e_of : Y → TypedExpr) (p_of : Z → TypedProductPart) (s_of : W → TypedSumPart)
       (ey : (y : Y) → GoodExpr (e_of y)) (pz : (z : Z) → GoodExpr (p_of z).part) (sw : (w : W) → GoodExpr (s_of w).part) where
-    parts : (t : Takes) (ys : List Y) → list_all (λ part. part) (map is_formed (map e_of ys)) ≡ true → list_all (stands names t) (map e_of ys) ≡ true
+    parts : (t : Takes) (ys : List Y) → list_all (λ part. part) (map is_held_expr (map e_of ys)) ≡ true → list_all (stands names t) (map e_of ys) ≡ true
         → AllByRecursion IsTree (map (spelled columns) (map e_of ys))
     parts t [] well is = tt
     parts t (y ∷ ys) well is =
-        let all = both_of (is_formed (e_of y)) (list_all (λ part. part) (map is_formed (map e_of ys))) well in
+        let all = both_of (is_held_expr (e_of y)) (list_all (λ part. part) (map is_held_expr (map e_of ys))) well in
         let both = both_of (stands names t (e_of y)) (list_all (stands names t) (map e_of ys)) is in
         ((stood t (e_of y) (ey y) all.0 both.0).0, parts t ys all.1 both.1)
 
-    summands : (ws : List W) → list_all (λ part. part) (map summand_formed (map s_of ws)) ≡ true → list_all (λ s. stands names Whole s.part) (map s_of ws) ≡ true
+    summands : (ws : List W) → list_all (λ part. part) (map summand_held (map s_of ws)) ≡ true → list_all (λ s. stands names Whole s.part) (map s_of ws) ≡ true
         → AllByRecursion (λ s. IsTree s.part) (map (spelled_summand columns) (map s_of ws))
     summands [] well is = tt
     summands (w ∷ ws) well is =
-        let all = both_of (summand_formed (s_of w)) (list_all (λ part. part) (map summand_formed (map s_of ws))) well in
+        let all = both_of (summand_held (s_of w)) (list_all (λ part. part) (map summand_held (map s_of ws))) well in
         let both = both_of (stands names Whole (s_of w).part) (list_all (λ (s : TypedSumPart). stands names Whole s.part) (map s_of ws)) is in
         ((stood Whole (s_of w).part (sw w) (sym (summand_by (s_of w)) ∙ all.0) both.0).0, summands ws all.1 both.1)
 
-    factors : (zs : List Z) → list_all (λ part. part) (map factor_formed (map p_of zs)) ≡ true → list_all (λ f. stands names Whole f.part) (map p_of zs) ≡ true
+    factors : (zs : List Z) → list_all (λ part. part) (map factor_held (map p_of zs)) ≡ true → list_all (λ f. stands names Whole f.part) (map p_of zs) ≡ true
         → AllByRecursion (λ f. IsTree f.part) (map (spelled_factor columns) (map p_of zs))
     factors [] well is = tt
     factors (z ∷ zs) well is =
-        let all = both_of (factor_formed (p_of z)) (list_all (λ part. part) (map factor_formed (map p_of zs))) well in
+        let all = both_of (factor_held (p_of z)) (list_all (λ part. part) (map factor_held (map p_of zs))) well in
         let both = both_of (stands names Whole (p_of z).part) (list_all (λ (f : TypedProductPart). stands names Whole f.part) (map p_of zs)) is in
         ((stood Whole (p_of z).part (pz z) (sym (factor_by (p_of z)) ∙ all.0) both.0).0, factors zs all.1 both.1)
 
@@ -174,32 +175,32 @@ module _ (columns : List ColumnDef) (kinds : List ColType) (named : (n : ℕ) (c
 
     abbrev Holds : TypedForm-F X Y Z W → Type 0
     Holds d = (e : TypedExpr) → e.form ≡ roll-TypedForm (layer d)
-        → formed (map-TypedForm TypedForm TypedExpr TypedProductPart TypedSumPart Truth Truth Truth Truth form_formed is_formed factor_formed summand_formed (layer d)) ≡ true
+        → held_layer (map-TypedForm TypedForm TypedExpr TypedProductPart TypedSumPart Truth Truth Truth Truth form_held is_held_expr factor_held summand_held (layer d)) ≡ true
         → (form_in names (roll-TypedForm (layer d))).gives e.kind ≡ true → (form_in names (roll-TypedForm (layer d))).fits ≡ true → Trees (spelling columns e)
 
     or_holds : (ys : List Y) → Holds (TypedForm-F.Or ys)
     or_holds ys e is well gives fits =
         let es = map e_of ys in
         let xs = map (spelled columns) es in
-        let all = both_of (nat_le 2 (length (map is_formed es))) (list_all (λ part. part) (map is_formed es)) well in
+        let both = both_of (has_two es) (list_all (stands names (Like kind.Bool)) es) (sym (fits_or names (roll-TypedForm (TypedForm-F.Or es)) es (form.rolls-Or es)) ∙ fits) in
         alike e (expr.Or xs) (or_is columns e es (is ∙ form.rolls-Or es)) (layer_tree (Expr-F.Or xs) (expr.Or xs) (expr.rolls-Or xs)
-        (long 2 is_formed (spelled columns) es all.0, parts (Like kind.Bool) ys all.1 (sym (fits_or names (roll-TypedForm (TypedForm-F.Or es)) es (form.rolls-Or es)) ∙ fits)))
+        (long 2 (spelled columns) es (two_long es both.0), parts (Like kind.Bool) ys well both.1))
 
     and_holds : (ys : List Y) → Holds (TypedForm-F.And ys)
     and_holds ys e is well gives fits =
         let es = map e_of ys in
         let xs = map (spelled columns) es in
-        let all = both_of (nat_le 2 (length (map is_formed es))) (list_all (λ part. part) (map is_formed es)) well in
+        let both = both_of (has_two es) (list_all (stands names (Like kind.Bool)) es) (sym (fits_and names (roll-TypedForm (TypedForm-F.And es)) es (form.rolls-And es)) ∙ fits) in
         alike e (expr.And xs) (and_is columns e es (is ∙ form.rolls-And es)) (layer_tree (Expr-F.And xs) (expr.And xs) (expr.rolls-And xs)
-        (long 2 is_formed (spelled columns) es all.0, parts (Like kind.Bool) ys all.1 (sym (fits_and names (roll-TypedForm (TypedForm-F.And es)) es (form.rolls-And es)) ∙ fits)))
+        (long 2 (spelled columns) es (two_long es both.0), parts (Like kind.Bool) ys well both.1))
 
     concat_holds : (ys : List Y) → Holds (TypedForm-F.Concat ys)
     concat_holds ys e is well gives fits =
         let es = map e_of ys in
         let xs = map (spelled columns) es in
-        let all = both_of (nat_le 2 (length (map is_formed es))) (list_all (λ part. part) (map is_formed es)) well in
+        let both = both_of (has_two es) (list_all (stands names (Like kind.Text)) es) (sym (fits_concat names (roll-TypedForm (TypedForm-F.Concat es)) es (form.rolls-Concat es)) ∙ fits) in
         alike e (expr.Concat xs) (concat_is columns e es (is ∙ form.rolls-Concat es)) (layer_tree (Expr-F.Concat xs) (expr.Concat xs) (expr.rolls-Concat xs)
-        (long 2 is_formed (spelled columns) es all.0, parts (Like kind.Text) ys all.1 (sym (fits_concat names (roll-TypedForm (TypedForm-F.Concat es)) es (form.rolls-Concat es)) ∙ fits)))
+        (long 2 (spelled columns) es (two_long es both.0), parts (Like kind.Text) ys well both.1))
 
     not_holds : (y : Y) → Holds (TypedForm-F.Not y)
     not_holds y e is well gives fits =
@@ -212,18 +213,17 @@ module _ (columns : List ColumnDef) (kinds : List ColType) (named : (n : ℕ) (c
     is_null_holds y tests e is well gives fits =
         let a = e_of y in
         let x = spelled columns a in
-        let both = both_of (is_formed a) (nat_le 1 (length tests)) well in
         let fits_there = sym (fits_is_null names (roll-TypedForm (TypedForm-F.IsNull a tests)) a tests (form.rolls-IsNull a tests)) ∙ fits in
-        let stands_there = (both_of (is_some_test tests) (stands names Any a) fits_there).1 in
+        let both = both_of (has_one tests) (stands names Any a) fits_there in
         alike e (expr.IsNull x tests) (is_null_is columns e a tests (is ∙ form.rolls-IsNull a tests)) (layer_tree (Expr-F.IsNull x tests) (expr.IsNull x tests) (expr.rolls-IsNull x tests)
-        ((stood Any a (ey y) both.0 stands_there).0, leb-true 1 (length tests) both.1))
+        ((stood Any a (ey y) well both.1).0, one_long tests both.0))
 
     compare_holds : (how : Comparison) (y z : Y) → Holds (TypedForm-F.Compare how y z)
     compare_holds how y z e is well gives fits =
         let a = e_of y in
         let b = e_of z in
         let eq = form.rolls-Compare how a b in
-        let all = both_of (is_formed a) (is_formed b) well in
+        let all = both_of (is_held_expr a) (is_held_expr b) well in
         let both = both_of (stands names Any a) (stands names (Like a.kind) b) (sym (fits_compare names (roll-TypedForm (TypedForm-F.Compare how a b)) how a b eq) ∙ fits) in
         let x = spelled columns a in
         let w = spelled columns b in
@@ -235,38 +235,38 @@ module _ (columns : List ColumnDef) (kinds : List ColType) (named : (n : ℕ) (c
         let a = e_of y in
         let es = map e_of ys in
         let eq = form.rolls-Member a negated es in
-        let all = both_of (is_formed a) (nat_le 1 (length (map is_formed es)) && list_all (λ part. part) (map is_formed es)) well in
-        let entries = both_of (nat_le 1 (length (map is_formed es))) (list_all (λ part. part) (map is_formed es)) all.1 in
-        let both = both_of (stands names Any a) (list_all (stands names (Like a.kind)) es) (sym (fits_member names (roll-TypedForm (TypedForm-F.Member a negated es)) a negated es eq) ∙ fits) in
+        let all = both_of (is_held_expr a) (list_all (λ part. part) (map is_held_expr es)) well in
+        let both = both_of (stands names Any a) (has_one es && list_all (stands names (Like a.kind)) es) (sym (fits_member names (roll-TypedForm (TypedForm-F.Member a negated es)) a negated es eq) ∙ fits) in
+        let entries = both_of (has_one es) (list_all (stands names (Like a.kind)) es) both.1 in
         let x = spelled columns a in
         let xs = map (spelled columns) es in
         alike e (expr.Member x negated xs) (member_is columns e a negated es (is ∙ eq)) (layer_tree (Expr-F.Member x negated xs) (expr.Member x negated xs) (expr.rolls-Member x negated xs)
-        ((stood Any a (ey y) all.0 both.0).0, (long 1 is_formed (spelled columns) es entries.0, parts (Like a.kind) ys entries.1 both.1)))
+        ((stood Any a (ey y) all.0 both.0).0, (long 1 (spelled columns) es (one_long es entries.0), parts (Like a.kind) ys all.1 entries.1)))
 
     sum_holds : (y : Y) (ws : List W) → Holds (TypedForm-F.Sum y ws)
     sum_holds y ws e is well gives fits =
         let a = e_of y in
         let ss = map s_of ws in
         let eq = form.rolls-Sum a ss in
-        let all = both_of (is_formed a) (nat_le 1 (length (map summand_formed ss)) && list_all (λ part. part) (map summand_formed ss)) well in
-        let rest = both_of (nat_le 1 (length (map summand_formed ss))) (list_all (λ part. part) (map summand_formed ss)) all.1 in
-        let both = both_of (stands names Whole a) (list_all (λ (s : TypedSumPart). stands names Whole s.part) ss) (sym (fits_sum names (roll-TypedForm (TypedForm-F.Sum a ss)) a ss eq) ∙ fits) in
+        let all = both_of (is_held_expr a) (list_all (λ part. part) (map summand_held ss)) well in
+        let both = both_of (stands names Whole a) (has_one ss && list_all (λ (s : TypedSumPart). stands names Whole s.part) ss) (sym (fits_sum names (roll-TypedForm (TypedForm-F.Sum a ss)) a ss eq) ∙ fits) in
+        let rest = both_of (has_one ss) (list_all (λ (s : TypedSumPart). stands names Whole s.part) ss) both.1 in
         alike e (expr.Sum (spelled columns a) (map (spelled_summand columns) ss)) (sum_is columns e a ss (is ∙ eq))
-        (sum_tree (spelled columns a) (map (spelled_summand columns) ss) (long 1 summand_formed (spelled_summand columns) ss rest.0)
-        (stood Whole a (ey y) all.0 both.0).0 (summands ws rest.1 both.1))
+        (sum_tree (spelled columns a) (map (spelled_summand columns) ss) (long 1 (spelled_summand columns) ss (one_long ss rest.0))
+        (stood Whole a (ey y) all.0 both.0).0 (summands ws all.1 rest.1))
 
     product_holds : (y : Y) (zs : List Z) → Holds (TypedForm-F.Product y zs)
     product_holds y zs e is well gives fits =
         let a = e_of y in
         let fs = map p_of zs in
         let eq = form.rolls-Product a fs in
-        let all = both_of (is_formed a) (nat_le 1 (length (map factor_formed fs)) && list_all (λ part. part) (map factor_formed fs)) well in
-        let rest = both_of (nat_le 1 (length (map factor_formed fs))) (list_all (λ part. part) (map factor_formed fs)) all.1 in
-        let both = both_of (stands names Whole a) (list_all (λ (f : TypedProductPart). stands names Whole f.part) fs) (sym (fits_product names (roll-TypedForm (TypedForm-F.Product a fs)) a fs eq) ∙ fits) in
+        let all = both_of (is_held_expr a) (list_all (λ part. part) (map factor_held fs)) well in
+        let both = both_of (stands names Whole a) (has_one fs && list_all (λ (f : TypedProductPart). stands names Whole f.part) fs) (sym (fits_product names (roll-TypedForm (TypedForm-F.Product a fs)) a fs eq) ∙ fits) in
+        let rest = both_of (has_one fs) (list_all (λ (f : TypedProductPart). stands names Whole f.part) fs) both.1 in
         let x = spelled columns a in
         let xs = map (spelled_factor columns) fs in
         alike e (expr.Product x xs) (product_is columns e a fs (is ∙ eq)) (layer_tree (Expr-F.Product x xs) (expr.Product x xs) (expr.rolls-Product x xs)
-        ((stood Whole a (ey y) all.0 both.0).0, (long 1 factor_formed (spelled_factor columns) fs rest.0, factors zs rest.1 both.1)))
+        ((stood Whole a (ey y) all.0 both.0).0, (long 1 (spelled_factor columns) fs (one_long fs rest.0), factors zs all.1 rest.1)))
 
     minus_holds : (y : Y) → Holds (TypedForm-F.Minus y)
     minus_holds y e is well gives fits =
@@ -322,12 +322,12 @@ module _ (columns : List ColumnDef) (kinds : List ColType) (named : (n : ℕ) (c
         alike e expr.TransactionTimestamp (transaction_is columns e (is ∙ form.rolls-TransactionTimestamp)) (layer_tree Expr-F.TransactionTimestamp expr.TransactionTimestamp expr.rolls-TransactionTimestamp tt)
 
     form_good : (d : TypedForm-F X Y Z W) → GoodForm (roll-TypedForm (layer d))
-    form_good d e is well gives fits = holds d e is (sym (formed_at (layer d)) ∙ well) gives fits
+    form_good d e is well gives fits = holds d e is (sym (held_at (layer d)) ∙ well) gives fits
 
   expr_good : (e : TypedExpr) → GoodForm e.form → GoodExpr e
   expr_good e good well sound =
       let both = both_of ((form_in names e.form).gives e.kind) (form_in names e.form).fits (sym (sound_by_form names e) ∙ sound) in
-      good e refl (sym (formed_by e) ∙ well) both.0 both.1
+      good e refl (sym (held_by_form e) ∙ well) both.0 both.1
 
   -- every expression
   pub trees : (e : TypedExpr) → GoodExpr e

@@ -43,11 +43,11 @@ use Rattle.checked_sql.proofs.Forms.{gives_literal, gives_param, sound_by_form}
 use Rattle.checked_print.specs.Spelled.{Spelling, column_name, fits_int4, int8_part, is_least_int4, number, spelled, spelled_negated, spelled_value, spelled_whole, summand, widened}
 use Rattle.checked_print.specs.Statements.{column_names, columns_of, name_of, spelled_body, spelled_cell, spelled_items, spelled_key, spelled_list, spelled_read, spelled_select, spelled_set, spelled_statement}
 use Rattle.checked_print.proofs.Forms.{literal_is, minus_is, param_is}
-use Rattle.checked_round.specs.Ranges.{fits_int8, is_formed, is_formed_body, is_formed_cell, is_formed_option, is_formed_statement, is_held}
+use Rattle.checked_print.specs.Ranges.{fits_int8, are_held, is_held_body, is_held_cell, is_held_change, is_held_expr, is_held_insert, is_held_list, is_held_option, is_held_read, is_held_remove, is_held_statement, is_held}
 use Rattle.checked_round.proofs.Grammar.{allowed_name, told_name, trees}
 use Rattle.checked_round.proofs.Alike.{same_is}
 use Rattle.checked_round.proofs.Numbers.{both_of, int4_fits, number_least, number_negative, number_pos, strictly, wide_below}
-use Rattle.checked_round.proofs.Exprs.{form_formed, formed_at, formed_by}
+use Rattle.checked_print.proofs.Held.{form_held, held_at, held_by_form}
 use Rattle.checked_round.proofs.Selects.{empty_is, none_is, not_is, within}
 use Rattle.checked_round.proofs.Tables.{table_is}
 
@@ -131,9 +131,9 @@ value_limit k (value.Text text) whole is held = absurd (let no : false ≡ true 
 value_limit k (value.Moment m) whole is held = absurd (let no : false ≡ true = sym (ap is_whole (same_is k kind.Moment (both_of (same_kind k kind.Moment) (is_moment m) is).0)) ∙ whole in cc)
 
 -- a literal is in the range of its type
-held_by : (e : TypedExpr) (v : Value) → e.form ≡ form.Literal v → is_formed e ≡ true → is_held v ≡ true
+held_by : (e : TypedExpr) (v : Value) → e.form ≡ form.Literal v → is_held_expr e ≡ true → is_held v ≡ true
 held_by e v is well =
-    sym (formed_at (TypedForm-F.Literal v)) ∙ (ap form_formed (form.rolls-Literal v ∙ sym is) ∙ (sym (formed_by e) ∙ well))
+    sym (held_at (TypedForm-F.Literal v)) ∙ (ap form_held (form.rolls-Literal v ∙ sym is) ∙ (sym (held_by_form e) ∙ well))
 
 module _ (columns : List ColumnDef) (kinds : List ColType) where
   abbrev names : Names
@@ -144,7 +144,7 @@ module _ (columns : List ColumnDef) (kinds : List ColType) where
   above_zero (suc n) k is = omega arith
 
   limit_by : (e : TypedExpr) (d : TypedForm-F TypedForm TypedExpr TypedProductPart TypedSumPart) → e.form ≡ roll-TypedForm d → is_limit_layer d ≡ true → is_whole e.kind ≡ true
-      → (form_in names e.form).gives e.kind ≡ true → is_formed e ≡ true → IsLimit (spelled_whole columns e)
+      → (form_in names e.form).gives e.kind ≡ true → is_held_expr e ≡ true → IsLimit (spelled_whole columns e)
   limit_by e (TypedForm-F.Param n) is of whole gives well =
       subst IsLimit (sym (ap (λ (s : Spelling). s.whole) (param_is columns e n (is ∙ form.rolls-Param n))))
       (inr (inr (inr (n, (above_zero n e.kind (sym (gives_param names e.form e.kind n (is ∙ form.rolls-Param n)) ∙ gives), refl)))))
@@ -161,7 +161,7 @@ module _ (columns : List ColumnDef) (kinds : List ColType) where
       (inr (inl (spells.0, (spells.1, ap expr.Minus digits))))
   limit_by e d is of whole gives well = absurd (let no : false ≡ true = of in cc)
 
-  pub limit_tree : (limit : Option TypedExpr) → is_limit names limit ≡ true → is_formed_option limit ≡ true → IfSome (option_map (spelled_whole columns) limit) IsLimit
+  pub limit_tree : (limit : Option TypedExpr) → is_limit names limit ≡ true → is_held_option limit ≡ true → IfSome (option_map (spelled_whole columns) limit) IsLimit
   limit_tree None is well = tt
   limit_tree (Some e) is well =
       let form = both_of (is_limit_form e.form) (stands names Whole e) is in
@@ -172,7 +172,7 @@ module _ (columns : List ColumnDef) (kinds : List ColType) where
   -- ---- filters and items
 
   module _ (named : NamesOf columns) where
-    filter_tree : (filter : Option TypedExpr) → is_filter names filter ≡ true → is_formed_option filter ≡ true → IfSome (option_map (spelled columns) filter) IsTree
+    filter_tree : (filter : Option TypedExpr) → is_filter names filter ≡ true → is_held_option filter ≡ true → IfSome (option_map (spelled columns) filter) IsTree
     filter_tree None is well = tt
     filter_tree (Some e) is well = (trees columns kinds named e well (both_of (takes_kind (Like kind.Bool) e.kind) (is_sound names e) is).1).0
 
@@ -180,14 +180,14 @@ module _ (columns : List ColumnDef) (kinds : List ColType) where
     name_tree true name is = tt
     name_tree false name is = told_name name is
 
-    items_tree : (es : List TypedExpr) (descs : List ColumnDesc) → list_all (is_sound names) es ≡ true → are_results es descs ≡ true → list_all is_formed es ≡ true
+    items_tree : (es : List TypedExpr) (descs : List ColumnDesc) → list_all (is_sound names) es ≡ true → are_results es descs ≡ true → are_held es descs ≡ true
         → AllByRecursion IsItem (spelled_items columns es descs)
     items_tree [] descs sound is well = tt
     items_tree (e ∷ es) [] sound is well = tt
     items_tree (e ∷ es) (d ∷ descs) sound is well =
         let all = both_of (is_sound names e) (list_all (is_sound names) es) sound in
         let both = both_of (is_result e d) (are_results es descs) is in
-        let formed = both_of (is_formed e) (list_all is_formed es) well in (
+        let formed = both_of (is_held_expr e) (are_held es descs) well in (
           (
             (trees columns kinds named e formed.0 all.0).0,
             name_tree (bytes_eq (own_name (spelled columns e)) d.name) d.name (both_of (same_kind d.kind e.kind) (is_name d.name) both.0).1,
@@ -200,24 +200,24 @@ module _ (columns : List ColumnDef) (kinds : List ColType) where
     items_long (e ∷ es) [] some is = absurd (let no : false ≡ true = is in cc)
     items_long (e ∷ es) (d ∷ descs) some is = omega arith
 
-    list_tree : (es : List TypedExpr) (descs : List ColumnDesc) → is_list names es ≡ true → are_results es descs ≡ true → list_all is_formed es ≡ true → AreParts IsItem 1 (spelled_items columns es descs)
+    list_tree : (es : List TypedExpr) (descs : List ColumnDesc) → is_list names es ≡ true → are_results es descs ≡ true → are_held es descs ≡ true → AreParts IsItem 1 (spelled_items columns es descs)
     list_tree es descs is results well =
         let some = both_of (not (is_empty es)) (nat_lt (length es) 1665 && list_all (is_sound names) es) is in
         let few = both_of (nat_lt (length es) 1665) (list_all (is_sound names) es) some.1 in
         (items_long es descs some.0 results, items_tree es descs few.1 results well)
 
-    set_by : (s : TypedSet) (o : Option ColumnDef) → slice_get columns s.column ≡ o → is_value_of names o s.expr ≡ true → is_formed s.expr ≡ true → IsSet (spelled_set columns s)
+    set_by : (s : TypedSet) (o : Option ColumnDef) → slice_get columns s.column ≡ o → is_value_of names o s.expr ≡ true → is_held_expr s.expr ≡ true → IsSet (spelled_set columns s)
     set_by s None there is well = absurd (let no : false ≡ true = is in cc)
     set_by s (Some c) there is well =
         (subst IsName (sym (ap column_name there)) (named s.column c there), (trees columns kinds named s.expr well (both_of (are_alike c.kind s.expr.kind) (is_sound names s.expr) is).1).2)
 
     sets_tree : (key : ℕ) (sets : List TypedSet) → list_all (λ s. not (s.column == key) && is_value_of names (slice_get columns s.column) s.expr) sets ≡ true
-        → list_all (λ s. is_formed s.expr) sets ≡ true → AllByRecursion IsSet (map (spelled_set columns) sets)
+        → list_all (λ s. is_held_expr s.expr) sets ≡ true → AllByRecursion IsSet (map (spelled_set columns) sets)
     sets_tree key [] is well = tt
     sets_tree key (s ∷ sets) is well =
         let one = not (s.column == key) && is_value_of names (slice_get columns s.column) s.expr in
         let both = both_of one (list_all (λ (r : TypedSet). not (r.column == key) && is_value_of names (slice_get columns r.column) r.expr) sets) is in
-        let all = both_of (is_formed s.expr) (list_all (λ (r : TypedSet). is_formed r.expr) sets) well in
+        let all = both_of (is_held_expr s.expr) (list_all (λ (r : TypedSet). is_held_expr r.expr) sets) well in
         (set_by s (slice_get columns s.column) refl (both_of (not (s.column == key)) (is_value_of names (slice_get columns s.column) s.expr) both.0).1 all.0, sets_tree key sets both.1 all.1)
 
     keys_tree : (name : List ℕ) → IsName name → (keys : List OrderKey) → list_all (λ o. nat_lt o.column (length columns)) keys ≡ true → All IsOrder (map (spelled_key name columns) keys)
@@ -236,19 +236,19 @@ map_some f (x ∷ xs) some = omega arith
 -- ---- rows
 
 module _ (kinds : List ColType) where
-  cell_tree : (column : ColumnDef) (c : TypedCell) → is_cell kinds column c ≡ true → is_formed_cell c ≡ true → IsCell (spelled_cell c)
+  cell_tree : (column : ColumnDef) (c : TypedCell) → is_cell kinds column c ≡ true → is_held_cell c ≡ true → IsCell (spelled_cell c)
   cell_tree column cell.Serial is well = tt
   cell_tree column cell.Now is well = tt
   cell_tree column (cell.Given e) is well =
       (trees [] kinds no_names e well (both_of (are_alike column.kind e.kind) (is_sound (around [] kinds) e) is).1).2
 
-  cells_tree : (columns : List ColumnDef) (cs : List TypedCell) → are_cells kinds columns cs ≡ true → list_all is_formed_cell cs ≡ true → AllByRecursion IsCell (map spelled_cell cs)
+  cells_tree : (columns : List ColumnDef) (cs : List TypedCell) → are_cells kinds columns cs ≡ true → list_all is_held_cell cs ≡ true → AllByRecursion IsCell (map spelled_cell cs)
   cells_tree [] [] is well = tt
   cells_tree [] (c ∷ cs) is well = absurd (let no : false ≡ true = is in cc)
   cells_tree (column ∷ columns) [] is well = tt
   cells_tree (column ∷ columns) (c ∷ cs) is well =
       let both = both_of (is_cell kinds column c) (are_cells kinds columns cs) is in
-      let all = both_of (is_formed_cell c) (list_all is_formed_cell cs) well in
+      let all = both_of (is_held_cell c) (list_all is_held_cell cs) well in
       (cell_tree column c both.0 all.0, cells_tree columns cs both.1 all.1)
 
   cells_long : (columns : List ColumnDef) (cs : List TypedCell) → 1 ≤ length columns → are_cells kinds columns cs ≡ true → 1 ≤ length (map spelled_cell cs)
@@ -256,12 +256,12 @@ module _ (kinds : List ColType) where
   cells_long (column ∷ columns) [] some is = absurd (let no : false ≡ true = is in cc)
   cells_long (column ∷ columns) (c ∷ cs) some is = omega arith
 
-  rows_tree : (columns : List ColumnDef) (rows : List (List TypedCell)) → 1 ≤ length columns → list_all (are_cells kinds columns) rows ≡ true → list_all (list_all is_formed_cell) rows ≡ true
+  rows_tree : (columns : List ColumnDef) (rows : List (List TypedCell)) → 1 ≤ length columns → list_all (are_cells kinds columns) rows ≡ true → list_all (list_all is_held_cell) rows ≡ true
       → AllByRecursion IsRow (map (map spelled_cell) rows)
   rows_tree columns [] some is well = tt
   rows_tree columns (cs ∷ rows) some is well =
       let both = both_of (are_cells kinds columns cs) (list_all (are_cells kinds columns) rows) is in
-      let all = both_of (list_all is_formed_cell cs) (list_all (list_all is_formed_cell) rows) well in
+      let all = both_of (list_all is_held_cell cs) (list_all (list_all is_held_cell) rows) well in
       ((cells_long columns cs some both.0, cells_tree columns cs both.0 all.0), rows_tree columns rows some both.1 all.1)
 
 -- ---- statements
@@ -284,12 +284,12 @@ module _ (tables : List TableDef) (allowed : AreAllowed tables) (kinds : List Co
         some = (let below = table.has_key in omega (arith, below));
       }
 
-  module _ (read : CheckedRead) (descs : List ColumnDesc) (well : is_formed_body (body.Read read) ≡ true) where
-    first : list_all is_formed read.list ≡ true
-    first = (both_of (list_all is_formed read.list) (is_formed_option read.filter && is_formed_option read.limit) well).0
+  module _ (read : CheckedRead) (descs : List ColumnDesc) (well : is_held_read read descs ≡ true) where
+    first : (count : Truth) → read.count ≡ count → is_held_list count read.list descs ≡ true
+    first count is = ap (λ (c : Truth). is_held_list c read.list descs) (sym is) ∙ (both_of (is_held_list read.count read.list descs) (is_held_option read.filter && is_held_option read.limit) well).0
 
-    rest : (is_formed_option read.filter ≡ true) × (is_formed_option read.limit ≡ true)
-    rest = both_of (is_formed_option read.filter) (is_formed_option read.limit) (both_of (list_all is_formed read.list) (is_formed_option read.filter && is_formed_option read.limit) well).1
+    rest : (is_held_option read.filter ≡ true) × (is_held_option read.limit ≡ true)
+    rest = both_of (is_held_option read.filter) (is_held_option read.limit) (both_of (is_held_list read.count read.list descs) (is_held_option read.filter && is_held_option read.limit) well).1
 
     bare_tree : (not read.count && is_bare (around [] kinds) read descs) ≡ true → IsSelect (spelled_select None [] [] read descs)
     bare_tree is =
@@ -305,7 +305,7 @@ module _ (tables : List TableDef) (allowed : AreAllowed tables) (kinds : List Co
         let order : map (spelled_key [] []) read.order ≡ [] = ap (map (spelled_key [] [])) (empty_is read.order plain.0) in
         let limit : option_map (spelled_whole []) read.limit ≡ None = ap (option_map (spelled_whole [])) (none_is read.limit last.0) in
         record {
-          given = subst IsList (sym items) (list_tree [] kinds no_names read.list descs one.0 two.0 first);
+          given = subst IsList (sym items) (list_tree [] kinds no_names read.list descs one.0 two.0 (first false count));
           table = tt;
           filter = subst (λ (f : Option Expr). IfSome f IsTree) (sym filter) tt;
           order = subst (λ (os : List OrderItem). All IsOrder os) (sym order) (λ k d below. absurd (omega arith));
@@ -347,7 +347,7 @@ module _ (tables : List TableDef) (allowed : AreAllowed tables) (kinds : List Co
           let four = both_of (is_order t read.order) (is_limit names read.limit) three.1 in
           let order = both_of (list_all (λ o. nat_lt o.column (length t.columns)) read.order) (is_key t (slice_get read.order (length read.order - 1))) four.0 in
           record {
-            given = subst IsList (sym (ap (λ (c : Truth). spelled_list c t.columns read.list descs) is)) (list_tree t.columns kinds is_there.columns read.list descs one.0 two.0 first);
+            given = subst IsList (sym (ap (λ (c : Truth). spelled_list c t.columns read.list descs) is)) (list_tree t.columns kinds is_there.columns read.list descs one.0 two.0 (first false is));
             table = is_there.named;
             filter = filter_tree t.columns kinds is_there.columns read.filter three.0 rest.0;
             order = keys_tree t.columns kinds is_there.columns t.name is_there.named read.order order.0;
@@ -363,7 +363,7 @@ module _ (tables : List TableDef) (allowed : AreAllowed tables) (kinds : List Co
     read_tree None of = bare_tree of
     read_tree (Some n) of = found_tree n (slice_get tables n) refl of
 
-  insert_tree : (insert : CheckedInsert) → is_formed_body (body.Insert insert) ≡ true → (o : Option TableDef) → slice_get tables insert.table ≡ o → of_table (is_insert kinds) o insert ≡ true
+  insert_tree : (insert : CheckedInsert) → is_held_insert insert ≡ true → (o : Option TableDef) → slice_get tables insert.table ≡ o → of_table (is_insert kinds) o insert ≡ true
       → IsInsert (record { table = name_of o; columns = Some (column_names (columns_of o)); rows = map (map spelled_cell) insert.rows })
   insert_tree insert well None at of = absurd (let no : false ≡ true = of in cc)
   insert_tree insert well (Some t) at of =
@@ -376,7 +376,7 @@ module _ (tables : List TableDef) (allowed : AreAllowed tables) (kinds : List Co
         rows = (map_some (map spelled_cell) insert.rows one.0, rows_tree kinds t.columns insert.rows is_there.some two.1 well);
       }
 
-  change_tree : (change : CheckedChange) → is_formed_body (body.Change change) ≡ true → (o : Option TableDef) → slice_get tables change.table ≡ o → of_table (is_change kinds) o change ≡ true
+  change_tree : (change : CheckedChange) → is_held_change change ≡ true → (o : Option TableDef) → slice_get tables change.table ≡ o → of_table (is_change kinds) o change ≡ true
       → IsUpdate (record { table = name_of o; sets = map (spelled_set (columns_of o)) change.sets; filter = option_map (spelled (columns_of o)) change.filter })
   change_tree change well None at of = absurd (let no : false ≡ true = of in cc)
   change_tree change well (Some t) at of =
@@ -385,21 +385,21 @@ module _ (tables : List TableDef) (allowed : AreAllowed tables) (kinds : List Co
       let one = both_of (not (is_empty change.sets)) (are_apart change.sets && (list_all (is_set names t) change.sets && is_filter names change.filter)) of in
       let two = both_of (are_apart change.sets) (list_all (is_set names t) change.sets && is_filter names change.filter) one.1 in
       let three = both_of (list_all (is_set names t) change.sets) (is_filter names change.filter) two.1 in
-      let formed = both_of (list_all (λ (s : TypedSet). is_formed s.expr) change.sets) (is_formed_option change.filter) well in
+      let formed = both_of (list_all (λ (s : TypedSet). is_held_expr s.expr) change.sets) (is_held_option change.filter) well in
       record {
         table = is_there.named;
         sets = (map_some (spelled_set t.columns) change.sets one.0, sets_tree t.columns kinds is_there.columns t.key change.sets three.0 formed.0);
         filter = filter_tree t.columns kinds is_there.columns change.filter three.1 formed.1;
       }
 
-  remove_tree : (remove : CheckedRemove) → is_formed_body (body.Remove remove) ≡ true → (o : Option TableDef) → slice_get tables remove.table ≡ o → of_table (is_remove kinds) o remove ≡ true
+  remove_tree : (remove : CheckedRemove) → is_held_remove remove ≡ true → (o : Option TableDef) → slice_get tables remove.table ≡ o → of_table (is_remove kinds) o remove ≡ true
       → IsDelete (record { table = name_of o; filter = option_map (spelled (columns_of o)) remove.filter })
   remove_tree remove well None at of = absurd (let no : false ≡ true = of in cc)
   remove_tree remove well (Some t) at of =
       let is_there = there remove.table t at in
       record { table = is_there.named; filter = filter_tree t.columns kinds is_there.columns remove.filter of well }
 
-  body_tree : (b : CheckedBody) (descs : List ColumnDesc) → is_body tables kinds b descs ≡ true → is_formed_body b ≡ true → IsStatement (spelled_body tables descs b)
+  body_tree : (b : CheckedBody) (descs : List ColumnDesc) → is_body tables kinds b descs ≡ true → is_held_body b descs ≡ true → IsStatement (spelled_body tables descs b)
   body_tree (body.Read read) descs is well = read_tree read descs well read.table is
   body_tree (body.Insert insert) descs is well =
       insert_tree insert well (slice_get tables insert.table) refl (both_of (is_empty descs) (of_table (is_insert kinds) (slice_get tables insert.table) insert) is).1
@@ -409,6 +409,6 @@ module _ (tables : List TableDef) (allowed : AreAllowed tables) (kinds : List Co
       remove_tree remove well (slice_get tables remove.table) refl (both_of (is_empty descs) (of_table (is_remove kinds) (slice_get tables remove.table) remove) is).1
 
 -- over tables that a schema can have
-pub statement_tree : (tables : List TableDef) (checked : Checked) → AreAllowed tables → is_of tables checked ≡ true → is_formed_statement checked ≡ true
+pub statement_tree : (tables : List TableDef) (checked : Checked) → AreAllowed tables → is_of tables checked ≡ true → is_held_statement checked ≡ true
     → IsStatement (spelled_statement tables checked)
 statement_tree tables checked allowed is well = body_tree tables allowed checked.kinds checked.body checked.columns is well

@@ -27,9 +27,9 @@ use Rattle.checked_sql.specs.OfCatalogue.{is_body, is_change, is_empty, is_inser
 use Rattle.checked_print.specs.Statements.{spelled_body, spelled_statement}
 use Rattle.checked_round.specs.declared.again.AgainFault.{AgainFault}
 use Rattle.checked_round.specs.declared.again.AgainFault.TheVariants as fault_of
-use Rattle.checked_round.specs.Reread.{AnswersOne, AnswersText, CanBeRead, IsAnswer, IsLimit, IsMemory, IsOne, IsSame, IsWithinLimits, text_of}
+use Rattle.checked_round.specs.Reread.{AnswersOne, AnswersText, CanBeRead, IsAnswer, IsLimit, IsMemory, IsOne, IsSame, IsShort, IsWithinLimits, text_of}
 use Rattle.checked_round.specs.Again.{GivesKinds, IsAgain, SameEffect}
-use Rattle.checked_round.specs.Ranges.{is_formed_body, is_formed_statement}
+use Rattle.checked_print.specs.Ranges.{is_held_body, is_held_statement}
 use Rattle.checked_round.proofs.Exprs.{known_of}
 use Rattle.checked_round.proofs.GrammarStatements.{statement_tree}
 use Rattle.checked_round.proofs.Numbers.{both_of}
@@ -37,6 +37,8 @@ use Rattle.checked_round.proofs.Selects.{read_sure}
 use Rattle.checked_round.proofs.Sure.{Gave, Sure}
 use Rattle.checked_round.proofs.Tables.{MayHave}
 use Rattle.checked_round.proofs.Writes.{change_sure, insert_sure, remove_sure}
+use Rattle.checked_round.proofs.WrittenStatements.{are_low, are_writable, of_no_backend, text_fits}
+use Rattle.sql_within.proofs.Told.{long}
 
 -- ---- the types of the parameters
 
@@ -68,7 +70,7 @@ texts (k ∷ kinds) = ap (λ (ks : List ColType). k ∷ ks) (texts kinds)
 -- ---- the body
 
 module _ (tables : List TableDef) (allowed : AreAllowed tables) (parameters : Truth) (kinds : List ColType) (may : MayHave parameters kinds) where
-  body_sure : (b : CheckedBody) (descs : List ColumnDesc) → is_body tables kinds b descs ≡ true → is_formed_body b ≡ true
+  body_sure : (b : CheckedBody) (descs : List ColumnDesc) → is_body tables kinds b descs ≡ true → is_held_body b descs ≡ true
       → Sure (λ (x : Body). SameEffect tables x.0 b) (known_of kinds) (BodyOf tables parameters (spelled_body tables descs b))
   body_sure (body.Read read) descs is well = read_sure tables allowed parameters kinds may read descs well is
   body_sure (body.Insert insert) descs is well =
@@ -88,7 +90,7 @@ abbrev is_ok : {A : Type 0} → Result A Fault → Truth
 is_ok (Ok x) = true
 is_ok (Err e) = false
 
-module _ (tables : List TableDef) (checked : Checked) (numbers : Option (List ℕ)) (allowed : AreAllowed tables) (is : is_of tables checked ≡ true) (well : is_formed_statement checked ≡ true)
+module _ (tables : List TableDef) (checked : Checked) (numbers : Option (List ℕ)) (allowed : AreAllowed tables) (is : is_of tables checked ≡ true) (well : is_held_statement checked ≡ true)
     (given : GivesKinds numbers checked.kinds) where
   abbrev s : Statement
   s = spelled_statement tables checked
@@ -122,10 +124,10 @@ is_checked tables descs (body.Insert insert) = tt
 is_checked tables descs (body.Change change) = tt
 is_checked tables descs (body.Remove remove) = tt
 
-module _ (tables : List TableDef) (checked : Checked) (can : CanBeRead tables checked) where
+module _ (tables : List TableDef) (checked : Checked) (can : CanBeRead tables checked) (held : is_held_statement checked ≡ true) where
   answer_is : (numbers : List ℕ) → numbers ≡ map oid_number checked.kinds → (result : Result Checked CheckFault) → AnswersCheck tables (spelled_statement tables checked) (Some numbers) result
       → IsAgain tables checked result
-  answer_is numbers given result answers = is_again tables checked (Some numbers) can.allowed can.of can.formed given result answers
+  answer_is numbers given result answers = is_again tables checked (Some numbers) can.allowed can.of held given result answers
 
   abbrev written : Statement
   written = spelled_statement tables checked
@@ -218,22 +220,59 @@ pub again_told : (tables : List TableDef) (checked : Checked) (s : Statement) (n
     → AnswersText tables numbers (statement_text s) result → AnswersText tables numbers (text_of tables checked) result
 again_told tables checked s numbers result is told = subst (λ (t : Statement). AnswersText tables numbers (statement_text t) result) is told
 
-module _ (tables : List TableDef) (checked : Checked) (s : Statement) (result : Result Checked AgainFault) (is : s ≡ spelled_statement tables checked)
-    (answers : IsStatement s → Fits s → IsChecked s → IsAnswer tables s (map oid_number checked.kinds) result) (can : CanBeRead tables checked) where
+module _ (tables : List TableDef) (checked : Checked) (s : Statement) (is : s ≡ spelled_statement tables checked) (held : is_held_statement checked ≡ true) (can : CanBeRead tables checked)
+    (result : Result Checked AgainFault) (answers : IsStatement s → Fits s → IsChecked s → IsAnswer tables s (map oid_number checked.kinds) result) where
   abbrev numbers : List ℕ
   numbers = map oid_number checked.kinds
 
-  answer_as : IsAnswer tables (spelled_statement tables checked) numbers result
-  answer_as =
+  answer_as : Fits s → IsAnswer tables (spelled_statement tables checked) numbers result
+  answer_as fits =
       subst (λ (t : Statement). IsAnswer tables t numbers result) is
-      (answers (subst IsStatement (sym is) (statement_tree tables checked can.allowed can.of can.formed)) (subst Fits (sym is) can.fits)
+      (answers (subst IsStatement (sym is) (statement_tree tables checked can.allowed can.of held)) fits
       (subst IsChecked (sym is) (is_checked tables checked.columns checked.body)))
 
-  pub again_same : IfOk result (IsSame tables checked)
-  again_same = same_of tables checked can numbers refl result answer_as
+  -- where the text is one of statements, a text can have its tokens
+  fits_by : (all : List Statement) → IsTextOf (statement_text s) all → Fits s
+  fits_by all text = text_fits tables checked can.allowed can.of held s is all text
 
-  pub again_limits : IfErr result IsLimit
-  again_limits = limit_of tables checked can numbers refl result answer_as
+  again_limits : Fits s → IfErr result IsLimit
+  again_limits fits = limit_of tables checked can held numbers refl result (answer_as fits)
 
   pub again_within : IsWithinLimits (text_of tables checked) → IfErr result IsMemory
-  again_within within = memory_of tables checked can within numbers result answer_as again_limits
+  again_within within =
+      let fits = fits_by within.statements (subst (λ (t : Statement). IsTextOf (statement_text t) within.statements) (sym is) within.of) in
+      memory_of tables checked can held within numbers result (answer_as fits) (again_limits fits)
+
+module _ (tables : List TableDef) (checked : Checked) (s : Statement) (is : s ≡ spelled_statement tables checked) (held : is_held_statement checked ≡ true) (can : CanBeRead tables checked) where
+  abbrev Answers : Result Checked AgainFault → Type 0
+  Answers result = IsStatement s → Fits s → IsChecked s → IsAnswer tables s (map oid_number checked.kinds) result
+
+  abbrev Told : Result Checked AgainFault → Type 0
+  Told result = AnswersText tables (map oid_number checked.kinds) (statement_text s) result
+
+  -- what is given was one statement of the text
+  pub again_same : (result : Result Checked AgainFault) → Told result → Answers result → IfOk result (IsSame tables checked)
+  again_same (Ok again) told answers =
+      same_of tables checked can held (map oid_number checked.kinds) refl (Ok again)
+      (answer_as tables checked s is held can (Ok again) answers (fits_by tables checked s is held can (Ok again) answers (told.statement ∷ []) told.of))
+  again_same (Err e) told answers = tt
+
+  text_limit : (e : SqlFault) → (e ≡ text.NoMemory) ⊎ (e ≡ text.TooLong) → IsLimit (fault_of.Text e)
+  text_limit e (inl is) = subst (λ (x : SqlFault). IsLimit (fault_of.Text x)) (sym is) tt
+  text_limit e (inr is) = subst (λ (x : SqlFault). IsLimit (fault_of.Text x)) (sym is) tt
+
+  short_limit : (result : Result Checked AgainFault) → Told result → Answers result → length (statement_text s) < 2 ^ 32 → IfErr result IsLimit
+  short_limit (Ok again) told answers short = tt
+  short_limit (Err fault_of.Other) told answers short =
+      again_limits tables checked s is held can (Err fault_of.Other) answers (fits_by tables checked s is held can (Err fault_of.Other) answers told.0 told.1)
+  short_limit (Err (fault_of.Text e)) told answers short =
+      text_limit e (long s e (subst IsStatement (sym is) (statement_tree tables checked can.allowed can.of held)) (are_low tables checked can.allowed can.of held s is)
+      (of_no_backend tables checked can.allowed can.of held s is) (are_writable tables checked can.allowed can.of held s is) (told short))
+  short_limit (Err (fault_of.Check e)) told answers short =
+      again_limits tables checked s is held can (Err (fault_of.Check e)) answers (fits_by tables checked s is held can (Err (fault_of.Check e)) answers (told.statement ∷ []) told.of)
+  short_limit (Err fault_of.NoMemory) told answers short = tt
+
+  -- a refused text passes a limit
+  pub again_limit : (result : Result Checked AgainFault) → Told result → Answers result → IsShort tables checked → IfErr result IsLimit
+  again_limit result told answers (inl short) = short_limit result told answers (subst (λ (t : Statement). length (statement_text t) < 2 ^ 32) (sym is) short)
+  again_limit result told answers (inr fits) = again_limits tables checked s is held can result answers (subst Fits (sym is) fits)

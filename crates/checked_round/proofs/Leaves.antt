@@ -33,7 +33,7 @@ use Rattle.checked_sql.specs.Sound.{is_moment}
 use Rattle.checked_print.specs.Moments.{moment_text}
 use Rattle.checked_print.specs.Spelled.{fits_int4, number}
 use Rattle.checked_print.proofs.Dates.{text_printed}
-use Rattle.checked_round.specs.Ranges.{fits_int8}
+use Rattle.checked_print.specs.Ranges.{fits_int8}
 use Rattle.checked_round.proofs.Claims.{Again, Said, SameValue, formed, leaf_formed, number_place, said_as}
 use Rattle.checked_round.proofs.Alike.{alike_refl, wholes_alike}
 use Rattle.checked_round.proofs.Nodes.{IsNegated, minus_said}

@@ -15,4 +15,7 @@ mod Writes
 mod Trees
 mod Grammar
 mod GrammarStatements
+mod Written
+mod WrittenParts
+mod WrittenStatements
 mod Law

@@ -25,7 +25,7 @@ use Rattle.sql_values.specs.Outcome.{Outcome, of_both}
 use Rattle.checked_sql.specs.Sound.{has_no_zero, is_moment, is_value}
 use Rattle.checked_print.specs.Spelled.{Spelling, fits_int4, int8_part, is_least_int4 as is_least, number, spelled, spelled_summand, spelled_value, summand, widened}
 use Rattle.checked_print.proofs.Forms.{literal_is}
-use Rattle.checked_round.specs.Ranges.{fits_int8, is_held}
+use Rattle.checked_print.specs.Ranges.{fits_int8, is_held}
 use Rattle.checked_round.proofs.Claims.{Again, Said, SameValue, like_place, number_place, place, said_as}
 use Rattle.checked_round.proofs.Alike.{alike_trans, same_is}
 use Rattle.checked_round.proofs.Leaves.{bool_said, int4_said, int8_said, int_negated, minus_not_least, moment_said, negated_by, null_said, text_said}

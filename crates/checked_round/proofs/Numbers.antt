@@ -12,7 +12,7 @@ use Rattle.typed_sql.specs.Places.{number_kind}
 use Rattle.sql_values.specs.Arithmetic.{as_int4, as_int8, is_between}
 use Rattle.sql_values.specs.Outcome.{out_of_range}
 use Rattle.checked_print.specs.Spelled.{fits_int4, is_plain, number}
-use Rattle.checked_round.specs.Ranges.{fits_int8}
+use Rattle.checked_print.specs.Ranges.{fits_int8}
 
 pub both_of : (a b : Truth) → (a && b) ≡ true → (a ≡ true) × (b ≡ true)
 both_of true b is = (refl, is)

@@ -30,7 +30,7 @@ use Rattle.sql_eval.specs.Walks.{Coded, made as made_of}
 use Rattle.checked_print.specs.Spelled.{column_name, name_at, spelled, spelled_whole}
 use Rattle.checked_print.specs.Statements.{columns_of, name_of, spelled_item, spelled_items, spelled_key, spelled_list, spelled_read, spelled_select}
 use Rattle.checked_round.specs.Again.{SameEffect}
-use Rattle.checked_round.specs.Ranges.{is_formed, is_formed_body, is_formed_option}
+use Rattle.checked_print.specs.Ranges.{are_held, is_held_expr, is_held_list, is_held_option, is_held_read}
 use Rattle.checked_round.proofs.Claims.{Again, SameValue, free_place, like_place}
 use Rattle.checked_round.proofs.Effects.{EndsWith, SameFilter, SameKey, SameLimit, SameOrder, SameRead, key_again, read_same, same_keys}
 use Rattle.checked_round.proofs.Exprs.{Means, Round, known_of, round}
@@ -97,13 +97,13 @@ module _ (scope : Scope) (columns : List ColumnDef) (kinds : List ColType) (mean
   unpaired (e ∷ es) (d ∷ descs) [] is same = absurd same
   unpaired (e ∷ es) (d ∷ descs) (y ∷ ys) is same = (same.0, unpaired es descs ys (both_of (is_result e d) (are_results es descs) is).1 same.1)
 
-  paired_all : (es : List TypedExpr) (descs : List ColumnDesc) → list_all (is_sound names) es ≡ true → list_all is_formed es ≡ true
+  paired_all : (es : List TypedExpr) (descs : List ColumnDesc) → list_all (is_sound names) es ≡ true → are_held es descs ≡ true
       → All (λ p. Round scope columns kinds p.0) (pairs_of es descs)
   paired_all [] descs sound well = tt
   paired_all (e ∷ es) [] sound well = tt
   paired_all (e ∷ es) (d ∷ descs) sound well =
       let is = both_of (is_sound names e) (list_all (is_sound names) es) sound in
-      let all = both_of (is_formed e) (list_all is_formed es) well in
+      let all = both_of (is_held_expr e) (are_held es descs) well in
       (round scope columns kinds means e all.0 is.0, paired_all es descs is.1 all.1)
 
   paired_few : (es : List TypedExpr) (descs : List ColumnDesc) → length (pairs_of es descs) ≤ length es
@@ -111,7 +111,7 @@ module _ (scope : Scope) (columns : List ColumnDef) (kinds : List ColType) (mean
   paired_few (e ∷ es) [] = omega arith
   paired_few (e ∷ es) (d ∷ descs) = let rest = paired_few es descs in omega (arith, rest)
 
-  pub items_sure : (table : List ColumnDef) (es : List TypedExpr) (descs : List ColumnDesc) → is_list names es ≡ true → are_results es descs ≡ true → list_all is_formed es ≡ true
+  pub items_sure : (table : List ColumnDef) (es : List TypedExpr) (descs : List ColumnDesc) → is_list names es ≡ true → are_results es descs ≡ true → are_held es descs ≡ true
       → Sure (λ ys. Pairs SameValue es ys) known (ListOf scope table (list.Items (spelled_items columns es descs)))
   items_sure table es descs is results well =
       let some = both_of (not (is_empty es)) (nat_lt (length es) 1665 && list_all (is_sound names) es) is in
@@ -132,7 +132,7 @@ module _ (scope : Scope) (columns : List ColumnDef) (kinds : List ColType) (mean
   filter_from (Some e) None same = absurd same
   filter_from (Some e) (Some y) same = same
 
-  pub filter_sure : (f : Option TypedExpr) → is_filter names f ≡ true → is_formed_option f ≡ true → Sure (SameFilter f) known (FilterOf scope (option_map (spelled columns) f))
+  pub filter_sure : (f : Option TypedExpr) → is_filter names f ≡ true → is_held_option f ≡ true → Sure (SameFilter f) known (FilterOf scope (option_map (spelled columns) f))
   filter_sure None is well =
       along (Both SameValue (spelled columns) (λ e. Typed scope e asks_bool) known None) (SameFilter None) known (FilterOf scope None)
       (maybe SameValue (spelled columns) (λ e. Typed scope e asks_bool) known None tt) (filter_from None)
@@ -150,7 +150,7 @@ module _ (scope : Scope) (columns : List ColumnDef) (kinds : List ColType) (mean
   limit_from (Some e) None same = absurd same
   limit_from (Some e) (Some y) same = same
 
-  pub limit_sure : (f : Option TypedExpr) → is_limit names f ≡ true → is_formed_option f ≡ true
+  pub limit_sure : (f : Option TypedExpr) → is_limit names f ≡ true → is_held_option f ≡ true
       → Sure (SameLimit f) known (Maybe (λ e. Typed scope e asks_limit) (option_map (spelled_whole columns) f))
   limit_sure None is well =
       along (Both NearValue (spelled_whole columns) (λ e. Typed scope e asks_limit) known None) (SameLimit None) known (Maybe (λ e. Typed scope e asks_limit) None)
@@ -242,15 +242,15 @@ read_effect tables read again same view_around view next =
     ap reads (read_same view_around view read again same)
 
 module _ (tables : List TableDef) (allowed : AreAllowed tables) (parameters : Truth) (kinds : List ColType) (may : MayHave parameters kinds) (read : CheckedRead) (descs : List ColumnDesc)
-    (well : is_formed_body (body.Read read) ≡ true) where
+    (well : is_held_read read descs ≡ true) where
   abbrev IsRead : Body → Type 0
   IsRead b = SameEffect tables b.0 (body.Read read)
 
-  well_list : list_all is_formed read.list ≡ true
-  well_list = (both_of (list_all is_formed read.list) (is_formed_option read.filter && is_formed_option read.limit) well).0
+  well_list : (count : Truth) → read.count ≡ count → is_held_list count read.list descs ≡ true
+  well_list count is = ap (λ (c : Truth). is_held_list c read.list descs) (sym is) ∙ (both_of (is_held_list read.count read.list descs) (is_held_option read.filter && is_held_option read.limit) well).0
 
-  well_rest : (is_formed_option read.filter ≡ true) × (is_formed_option read.limit ≡ true)
-  well_rest = both_of (is_formed_option read.filter) (is_formed_option read.limit) (both_of (list_all is_formed read.list) (is_formed_option read.filter && is_formed_option read.limit) well).1
+  well_rest : (is_held_option read.filter ≡ true) × (is_held_option read.limit ≡ true)
+  well_rest = both_of (is_held_option read.filter) (is_held_option read.limit) (both_of (is_held_list read.count read.list descs) (is_held_option read.filter && is_held_option read.limit) well).1
 
   -- without a table
   bare_same : read.table ≡ None → read.count ≡ false → is_none read.filter ≡ true → is_plain read ≡ true → (s : Select) (ys : List TypedExpr) → Pairs SameValue read.list ys → IsRead (bare_read s ys)
@@ -279,7 +279,7 @@ module _ (tables : List TableDef) (allowed : AreAllowed tables) (parameters : Tr
       let s = spelled_select None [] [] read descs in
       made (λ ys. Pairs SameValue read.list ys) IsRead (known_of kinds) (ListOf (alone parameters) [] s.list) (bare_read s)
       (subst (λ (c : Truth). Sure (λ ys. Pairs SameValue read.list ys) (known_of kinds) (ListOf (alone parameters) [] (spelled_list c [] read.list descs))) (sym count)
-      (items_sure (alone parameters) [] kinds (alone_means parameters kinds may) [] read.list descs first.0 second.0 well_list))
+      (items_sure (alone parameters) [] kinds (alone_means parameters kinds may) [] read.list descs first.0 second.0 (well_list false count)))
       (bare_same table count third.0 third.1 s)
 
   -- from a table
@@ -348,7 +348,7 @@ module _ (tables : List TableDef) (allowed : AreAllowed tables) (parameters : Tr
         let third = both_of (is_filter names read.filter) (is_order t read.order && is_limit names read.limit) second.1 in
         let fourth = both_of (is_order t read.order) (is_limit names read.limit) third.1 in
         let order = both_of (list_all (λ o. nat_lt o.column (length t.columns)) read.order) (is_key t (slice_get read.order (length read.order - 1))) fourth.0 in
-        whole false is refl (items_sure scope t.columns kinds means t.columns read.list descs first.0 second.0 well_list) third.0
+        whole false is refl (items_sure scope t.columns kinds means t.columns read.list descs first.0 second.0 (well_list false is)) third.0
         (ends_sure (known_of kinds) scope t read (select false) false refl refl refl
         (order_sure parameters kinds t are read.order order.0)
         (limit_sure scope t.columns kinds means read.limit fourth.1 well_rest.1)

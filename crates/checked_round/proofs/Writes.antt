@@ -39,7 +39,7 @@ use Rattle.sql_values.specs.Meaning.{value_in}
 use Rattle.checked_print.specs.Spelled.{column_name, name_at, spelled, spelled_whole}
 use Rattle.checked_print.specs.Statements.{column_names, columns_of, name_of, spelled_cell, spelled_change, spelled_insert, spelled_remove, spelled_set}
 use Rattle.checked_round.specs.Again.{SameEffect}
-use Rattle.checked_round.specs.Ranges.{is_formed, is_formed_body, is_formed_cell, is_formed_option}
+use Rattle.checked_print.specs.Ranges.{is_held_cell, is_held_change, is_held_expr, is_held_insert, is_held_option, is_held_remove}
 use Rattle.checked_round.proofs.Effects.{SameCell, SameCells, SameFilter, SameSet, change_same, insert_draws_same, insert_same, remove_same, stored}
 use Rattle.checked_round.proofs.Exprs.{Means, known_of, round}
 use Rattle.checked_round.proofs.Literals.{NearValue}
@@ -150,7 +150,7 @@ module _ (parameters : Truth) (kinds : List ColType) (t : TableDef) (may : MayHa
   given = numbered_from 0 t.columns
 
   -- a cell of a column
-  cell_sure : (column : ColumnDef) (c : TypedCell) → is_cell kinds column c ≡ true → is_formed_cell c ≡ true → Sure (SameCell column.kind c) (known_of kinds) (CellIn scope_in column (spelled_cell c))
+  cell_sure : (column : ColumnDef) (c : TypedCell) → is_cell kinds column c ≡ true → is_held_cell c ≡ true → Sure (SameCell column.kind c) (known_of kinds) (CellIn scope_in column (spelled_cell c))
   cell_sure column cell.Serial is well =
       gives (SameCell column.kind cell.Serial) (known_of kinds) (default_cell column) (subst (SameCell column.kind cell.Serial) (sym (serial_is column column.fill is)) tt)
   cell_sure column cell.Now is well =
@@ -164,7 +164,7 @@ module _ (parameters : Truth) (kinds : List ColType) (t : TableDef) (may : MayHa
   abbrev step : ℕ → Cell → Step TypedCell
   step at c = CellAt scope_in (column_at (slice_get given at)) c
 
-  cells_sure : (columns : List ColumnDef) (cs : List TypedCell) (at : ℕ) → are_cells kinds columns cs ≡ true → list_all is_formed_cell cs ≡ true
+  cells_sure : (columns : List ColumnDef) (cs : List TypedCell) (at : ℕ) → are_cells kinds columns cs ≡ true → list_all is_held_cell cs ≡ true
       → ((i : ℕ) (c : ColumnDef) → slice_get columns i ≡ Some c → slice_get given (at + i) ≡ Some (at + i, c))
       → Sure (λ ds. SameCells columns cs ds × (length ds ≡ length columns)) (known_of kinds) (Walk step (λ at c. suc at) at (map spelled_cell cs))
   cells_sure [] [] at is well there = gives (λ ds. SameCells [] [] ds × (length ds ≡ 0)) (known_of kinds) [] (tt, refl)
@@ -172,7 +172,7 @@ module _ (parameters : Truth) (kinds : List ColType) (t : TableDef) (may : MayHa
   cells_sure (column ∷ columns) [] at is well there = absurd (let f : false ≡ true = is in cc)
   cells_sure (column ∷ columns) (c ∷ cs) at is well there =
       let both = both_of (is_cell kinds column c) (are_cells kinds columns cs) is in
-      let all = both_of (is_formed_cell c) (list_all is_formed_cell cs) well in
+      let all = both_of (is_held_cell c) (list_all is_held_cell cs) well in
       let here : slice_get given at ≡ Some (at + 0, column) = ap (slice_get given) (plus_zero at) ∙ there 0 column refl in
       followed (SameCell column.kind c) (λ ds. SameCells (column ∷ columns) (c ∷ cs) ds × (length ds ≡ suc (length columns))) (known_of kinds) (step at (spelled_cell c))
       (λ d. Made (λ ds. d ∷ ds) (Walk step (λ at c. suc at) (suc at) (map spelled_cell cs)))
@@ -208,22 +208,22 @@ module _ (parameters : Truth) (kinds : List ColType) (t : TableDef) (may : MayHa
       (eq-eqb (length ds) (length given) (is ∙ sym (numbered_length 0 t.columns)))
       ∙ ap (λ (row : List TypedCell). Ok row) (put_all t.columns [] ds (map default_cell t.columns) is (defaults_length t.columns))
 
-  row_sure : (cs : List TypedCell) → are_cells kinds t.columns cs ≡ true → list_all is_formed_cell cs ≡ true
+  row_sure : (cs : List TypedCell) → are_cells kinds t.columns cs ≡ true → list_all is_held_cell cs ≡ true
       → Sure (SameCells t.columns cs) (known_of kinds) (RowOf scope_in t.columns given (map spelled_cell cs))
   row_sure cs is well =
       followed (λ ds. SameCells t.columns cs ds × (length ds ≡ length t.columns)) (SameCells t.columns cs) (known_of kinds) (Walk step (λ at c. suc at) 0 (map spelled_cell cs))
       (λ ds. Told (whole_row t.columns given ds)) (cells_sure t.columns cs 0 is well (λ i c there. ap (slice_get given) (from_zero i) ∙ numbered_at t.columns 0 i c there))
       (λ ds same. told (SameCells t.columns cs) (known_of kinds) (whole_row t.columns given ds) ds (row_whole ds same.1) same.0)
 
-  rows_all : (rows : List (List TypedCell)) → list_all (are_cells kinds t.columns) rows ≡ true → list_all (list_all is_formed_cell) rows ≡ true
+  rows_all : (rows : List (List TypedCell)) → list_all (are_cells kinds t.columns) rows ≡ true → list_all (list_all is_held_cell) rows ≡ true
       → All (λ cs. Sure (SameCells t.columns cs) (known_of kinds) (RowOf scope_in t.columns given (map spelled_cell cs))) rows
   rows_all [] is well = tt
   rows_all (cs ∷ rows) is well =
       let both = both_of (are_cells kinds t.columns cs) (list_all (are_cells kinds t.columns) rows) is in
-      let all = both_of (list_all is_formed_cell cs) (list_all (list_all is_formed_cell) rows) well in
+      let all = both_of (list_all is_held_cell cs) (list_all (list_all is_held_cell) rows) well in
       (row_sure cs both.0 all.0, rows_all rows both.1 all.1)
 
-  pub rows_sure : (rows : List (List TypedCell)) → list_all (are_cells kinds t.columns) rows ≡ true → list_all (list_all is_formed_cell) rows ≡ true
+  pub rows_sure : (rows : List (List TypedCell)) → list_all (are_cells kinds t.columns) rows ≡ true → list_all (list_all is_held_cell) rows ≡ true
       → Sure (λ made. Pairs (SameCells t.columns) rows made) (known_of kinds) (Each (RowOf scope_in t.columns given) (map (map spelled_cell) rows))
   rows_sure rows is well = each (SameCells t.columns) (map spelled_cell) (RowOf scope_in t.columns given) (known_of kinds) rows (rows_all rows is well)
 
@@ -270,7 +270,7 @@ module _ (parameters : Truth) (kinds : List ColType) (t : TableDef) (may : MayHa
   means = over_means parameters kinds t may are
 
   set_by : (s : TypedSet) (before : List ℕ) (o : Option ColumnDef) → slice_get t.columns s.column ≡ o → (s.column == t.key) ≡ false → is_value_of names o s.expr ≡ true
-      → is_formed s.expr ≡ true → list_any (λ n. n == s.column) before ≡ false → Sure (SameSet t.columns s) (known_of kinds) (SetOf rows_of t.key before (spelled_set t.columns s))
+      → is_held_expr s.expr ≡ true → list_any (λ n. n == s.column) before ≡ false → Sure (SameSet t.columns s) (known_of kinds) (SetOf rows_of t.key before (spelled_set t.columns s))
   set_by s before None there key is well apart = absurd (let f : false ≡ true = is in cc)
   set_by s before (Some c) there key is well apart =
       let both = both_of (are_alike c.kind s.expr.kind) (is_sound names s.expr) is in
@@ -296,14 +296,14 @@ module _ (parameters : Truth) (kinds : List ColType) (t : TableDef) (may : MayHa
   abbrev after_set : List ℕ → TypedSet → List ℕ
   after_set before s = before ++ s.column ∷ []
 
-  sets_sure : (sets : List TypedSet) (before : List ℕ) → list_all (is_set names t) sets ≡ true → are_apart sets ≡ true → list_all (λ s. is_formed s.expr) sets ≡ true → Apart before sets
+  sets_sure : (sets : List TypedSet) (before : List ℕ) → list_all (is_set names t) sets ≡ true → are_apart sets ≡ true → list_all (λ s. is_held_expr s.expr) sets ≡ true → Apart before sets
       → Sure (λ ts. Pairs (SameSet t.columns) sets ts) (known_of kinds) (Walk (SetOf rows_of t.key) after_set before (map (spelled_set t.columns) sets))
   sets_sure [] before is apart well free = gives (λ ts. Pairs (SameSet t.columns) [] ts) (known_of kinds) [] tt
   sets_sure (s ∷ sets) before is apart well free =
       let both = both_of (is_set names t s) (list_all (is_set names t) sets) is in
       let one = both_of (not (s.column == t.key)) (is_value_of names (slice_get t.columns s.column) s.expr) both.0 in
       let others = both_of (not (list_any (λ r. r.column == s.column) sets)) (are_apart sets) apart in
-      let all = both_of (is_formed s.expr) (list_all (λ r. is_formed r.expr) sets) well in
+      let all = both_of (is_held_expr s.expr) (list_all (λ r. is_held_expr r.expr) sets) well in
       followed (SameSet t.columns s) (λ ts. Pairs (SameSet t.columns) (s ∷ sets) ts) (known_of kinds) (SetOf rows_of t.key before (spelled_set t.columns s))
       (λ r. Made (λ ts. r ∷ ts) (Walk (SetOf rows_of t.key) after_set (after_set before r) (map (spelled_set t.columns) sets)))
       (set_by s before (slice_get t.columns s.column) refl (not_is (s.column == t.key) one.0) one.1 all.0 free.0)
@@ -320,7 +320,7 @@ module _ (tables : List TableDef) (allowed : AreAllowed tables) (parameters : Tr
   abbrev writes : ℕ → Coded (List Changed) → Effect
   writes draws given = record { draws = draws; given = made_of Writes given }
 
-  module _ (insert : CheckedInsert) (well : is_formed_body (body.Insert insert) ≡ true) where
+  module _ (insert : CheckedInsert) (well : is_held_insert insert ≡ true) where
     abbrev IsInsert : Body → Type 0
     IsInsert b = SameEffect tables b.0 (body.Insert insert)
 
@@ -352,7 +352,7 @@ module _ (tables : List TableDef) (allowed : AreAllowed tables) (parameters : Tr
     pub insert_sure : of_table (is_insert kinds) (slice_get tables insert.table) insert ≡ true → Sure IsInsert (known_of kinds) (BodyOf tables parameters (statement.Insert (spelled_insert tables insert)))
     insert_sure is = insert_by (slice_get tables insert.table) refl is
 
-  module _ (change : CheckedChange) (well : is_formed_body (body.Change change) ≡ true) where
+  module _ (change : CheckedChange) (well : is_held_change change ≡ true) where
     abbrev IsChange : Body → Type 0
     IsChange b = SameEffect tables b.0 (body.Change change)
 
@@ -377,7 +377,7 @@ module _ (tables : List TableDef) (allowed : AreAllowed tables) (parameters : Tr
         let first = both_of (not (is_empty change.sets)) (are_apart change.sets && (list_all (is_set names t) change.sets && is_filter names change.filter)) is in
         let second = both_of (are_apart change.sets) (list_all (is_set names t) change.sets && is_filter names change.filter) first.1 in
         let third = both_of (list_all (is_set names t) change.sets) (is_filter names change.filter) second.1 in
-        let formed = both_of (list_all (λ (s : TypedSet). is_formed s.expr) change.sets) (is_formed_option change.filter) well in
+        let formed = both_of (list_all (λ (s : TypedSet). is_held_expr s.expr) change.sets) (is_held_option change.filter) well in
         let s : Update = record { table = t.name; sets = map (spelled_set t.columns) change.sets; filter = option_map (spelled t.columns) change.filter } in
         told_then IsChange (known_of kinds) (table_named tables t.name) (change.table, t) (Change parameters s) (named tables change.table t allowed there)
         (followed (λ sets. Pairs (SameSet t.columns) change.sets sets) IsChange (known_of kinds)
@@ -391,7 +391,7 @@ module _ (tables : List TableDef) (allowed : AreAllowed tables) (parameters : Tr
     pub change_sure : of_table (is_change kinds) (slice_get tables change.table) change ≡ true → Sure IsChange (known_of kinds) (BodyOf tables parameters (statement.Update (spelled_change tables change)))
     change_sure is = change_by (slice_get tables change.table) refl is
 
-  module _ (remove : CheckedRemove) (well : is_formed_body (body.Remove remove) ≡ true) where
+  module _ (remove : CheckedRemove) (well : is_held_remove remove ≡ true) where
     abbrev IsRemove : Body → Type 0
     IsRemove b = SameEffect tables b.0 (body.Remove remove)
 

@@ -1,3 +1,2 @@
-pub mod Ranges
 pub mod Again
 pub mod Reread

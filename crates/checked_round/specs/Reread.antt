@@ -1,5 +1,5 @@
 -- A checked statement whose text is read and checked again.
-use Rattle.std.specs.Prelude.{◌≡◌, ◌<◌, ◌^◌, ℕ, true, List, [], ◌∷◌, length, Some, Result, Ok, Err}
+use Rattle.std.specs.Prelude.{◌≡◌, ◌<◌, ◌^◌, ◌⊎◌, ℕ, true, List, [], ◌∷◌, length, Some, Result, Ok, Err}
 use Rattle.schema.specs.declared.catalogue.TableDef.{TableDef}
 use Rattle.schema_print.specs.Allowed.{AreAllowed}
 use Rattle.sql_print.specs.Printed.{statement_text}
@@ -16,14 +16,11 @@ use Rattle.checked_print.specs.Statements.{spelled_statement}
 use Rattle.checked_round.specs.declared.again.AgainFault.{AgainFault}
 use Rattle.checked_round.specs.declared.again.AgainFault.TheVariants.{Other, Text, Check, NoMemory}
 use Rattle.checked_round.specs.Again.{SameEffect}
-use Rattle.checked_round.specs.Ranges.{is_formed_statement}
 
--- the statement is of tables that a schema can have, and a text can have the tokens of what it is spelled as
+-- the statement is of tables that a schema can have
 pub record CanBeRead (tables : List TableDef) (checked : Checked) : Type 0 where
   pub allowed : AreAllowed tables
   pub of : is_of tables checked ≡ true
-  pub formed : is_formed_statement checked ≡ true
-  pub fits : Fits (spelled_statement tables checked)
 
 -- it has the same effect, and its parameters have the same types
 abbrev pub IsSame : List TableDef → Checked → Checked → Type 0
@@ -38,6 +35,10 @@ pub record IsWithinLimits (text : List ℕ) : Type 0 where
   pub statements : List Statement
   pub of : IsTextOf text statements
   pub size : length text < 2 ^ 32
+
+-- the text has fewer than 2 ^ 32 bytes, or a text can have each of its tokens and has room for all
+abbrev pub IsShort : List TableDef → Checked → Type 0
+IsShort tables checked = (length (text_of tables checked) < 2 ^ 32) ⊎ Fits (spelled_statement tables checked)
 
 -- ---- what is answered to a text
 

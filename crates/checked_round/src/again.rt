@@ -7,7 +7,7 @@ ghost use Rattle.sql_tree.specs.declared.statement.Statement.{Statement};
 ghost use Rattle.sql_tree.specs.Trees.{IsStatement};
 ghost use Rattle.sql_round.specs.Fits.{Fits};
 ghost use Rattle.catalogue.specs.Checking.{IsChecked};
-ghost use Rattle.checked_round.specs.Reread.{AnswersOne, AnswersText, CanBeRead, IsAnswer, IsLimit, IsMemory, IsSame, IsWithinLimits, text_of};
+ghost use Rattle.checked_round.specs.Reread.{AnswersOne, AnswersText, CanBeRead, IsAnswer, IsLimit, IsMemory, IsSame, IsShort, IsWithinLimits, text_of};
 
 use catalogue::{Catalogue, CheckFault, Checked, check, is_checked};
 use checked_print::spelled_statement;
@@ -137,10 +137,15 @@ pub fn checked_again(
     // So it is wherever the text is within the limits, and it is refused only where one is passed.
     ensures within { CanBeRead tables.now checked.now
         → IsWithinLimits (text_of tables.now checked.now) → IfErr result IsMemory }
-    ensures limits { CanBeRead tables.now checked.now → IfErr result IsLimit }
+    ensures limits { CanBeRead tables.now checked.now → IsShort tables.now checked.now
+        → IfErr result IsLimit }
 {
     match spelled_statement(alloc, tables, checked) {
-        Ok(statement) => check_typed(alloc, tables, &statement, &checked.kinds),
+        Ok(statement) => {
+            let answer = check_typed(alloc, tables, &statement, &checked.kinds);
+            drop(statement);
+            answer
+        }
         Err(_) => Err(AgainFault::NoMemory),
     }
 }

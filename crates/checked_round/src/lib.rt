@@ -7,6 +7,3 @@ mod laws;
 
 pub use again::{AgainFault, checked_again};
 pub use laws::{spelled_has_the_effect, spelled_is_of_the_grammar};
-
-#[cfg(test)]
-mod tests;

@@ -16,7 +16,17 @@ use Rattle.typed_sql.specs.declared.typed.TypedForm.TheVariants as form
 use Rattle.typed_sql.specs.declared.typed.TypedSumPart.{TypedSumPart}
 use Rattle.typed_sql.specs.declared.typed.TypedProductPart.{TypedProductPart}
 use Rattle.typed_sql.specs.Places.{same_kind, takes as takes_kind}
-use Rattle.checked_sql.specs.Sound.{Names, Formed, Node, chain_kind, form_in, formed_of, is_column, is_parameter, is_some_test, is_sound, is_taken, is_value, node_in, stands, whole}
+use Rattle.checked_sql.specs.Sound.{Names, Formed, Node, chain_kind, form_in, formed_of, has_one, has_two, is_column, is_parameter, is_sound, is_taken, is_value, node_in, stands, whole}
+
+-- as many as there were
+pub one_map : {A B : Type 0} (f : A → B) (xs : List A) → has_one (map f xs) ≡ has_one xs
+one_map f [] = refl
+one_map f (x ∷ xs) = refl
+
+pub two_map : {A B : Type 0} (f : A → B) (xs : List A) → has_two (map f xs) ≡ has_two xs
+two_map f [] = refl
+two_map f (x ∷ []) = refl
+two_map f (x ∷ y ∷ xs) = refl
 
 module _ (names : Names) where
   abbrev pub summand_in : TypedSumPart → Node
@@ -43,16 +53,24 @@ module _ (names : Names) where
   both : (a b c d : Truth) → a ≡ c → b ≡ d → (a && b) ≡ (c && d)
   both a b c d first second = ap (λ (x : Truth). x && b) first ∙ ap (λ (x : Truth). c && x) second
 
+  joined_is : (takes : Takes) (es : List TypedExpr) → (has_two (map (node_in names) es) && list_all (is_taken takes) (map (node_in names) es))
+      ≡ (has_two es && list_all (stands names takes) es)
+  joined_is takes es = both _ _ _ _ (two_map (node_in names) es) (all_stand takes es)
+
+  further_is : (takes : Takes) (es : List TypedExpr) → (has_one (map (node_in names) es) && list_all (is_taken takes) (map (node_in names) es))
+      ≡ (has_one es && list_all (stands names takes) es)
+  further_is takes es = both _ _ _ _ (one_map (node_in names) es) (all_stand takes es)
+
   compared_is : (left right : TypedExpr) → (is_taken Any (node_in names left) && is_taken (Like (node_in names left).kind) (node_in names right))
       ≡ (stands names Any left && stands names (Like left.kind) right)
   compared_is left right = both _ _ _ _ (taken_is Any left)
       (ap (λ (k : ColType). is_taken (Like k) (node_in names right)) (node_kind left) ∙ taken_is (Like left.kind) right)
 
   among_is : (of : TypedExpr) (es : List TypedExpr)
-      → (is_taken Any (node_in names of) && list_all (is_taken (Like (node_in names of).kind)) (map (node_in names) es))
-      ≡ (stands names Any of && list_all (stands names (Like of.kind)) es)
+      → (is_taken Any (node_in names of) && (has_one (map (node_in names) es) && list_all (is_taken (Like (node_in names of).kind)) (map (node_in names) es)))
+      ≡ (stands names Any of && (has_one es && list_all (stands names (Like of.kind)) es))
   among_is of es = both _ _ _ _ (taken_is Any of)
-      (ap (λ (k : ColType). list_all (is_taken (Like k)) (map (node_in names) es)) (node_kind of) ∙ all_stand (Like of.kind) es)
+      (ap (λ (k : ColType). has_one (map (node_in names) es) && list_all (is_taken (Like k)) (map (node_in names) es)) (node_kind of) ∙ further_is (Like of.kind) es)
 
   summand_is : (s : TypedSumPart) → summand_in s ≡ node_in names s.part
   summand_is s = search (rules, the_lemmas)
@@ -68,13 +86,13 @@ module _ (names : Names) where
   factors_stand [] = refl
   factors_stand (f ∷ fs) = both _ _ _ _ (ap (is_taken Whole) (factor_is f) ∙ taken_is Whole f.part) (factors_stand fs)
 
-  sum_is : (first : TypedExpr) (ss : List TypedSumPart) → (is_taken Whole (node_in names first) && list_all (is_taken Whole) (map summand_in ss))
-      ≡ (stands names Whole first && list_all (λ s. stands names Whole s.part) ss)
-  sum_is first ss = both _ _ _ _ (taken_is Whole first) (summands_stand ss)
+  sum_is : (first : TypedExpr) (ss : List TypedSumPart) → (is_taken Whole (node_in names first) && (has_one (map summand_in ss) && list_all (is_taken Whole) (map summand_in ss)))
+      ≡ (stands names Whole first && (has_one ss && list_all (λ s. stands names Whole s.part) ss))
+  sum_is first ss = both _ _ _ _ (taken_is Whole first) (both _ _ _ _ (one_map summand_in ss) (summands_stand ss))
 
-  product_is : (first : TypedExpr) (fs : List TypedProductPart) → (is_taken Whole (node_in names first) && list_all (is_taken Whole) (map factor_in fs))
-      ≡ (stands names Whole first && list_all (λ f. stands names Whole f.part) fs)
-  product_is first fs = both _ _ _ _ (taken_is Whole first) (factors_stand fs)
+  product_is : (first : TypedExpr) (fs : List TypedProductPart) → (is_taken Whole (node_in names first) && (has_one (map factor_in fs) && list_all (is_taken Whole) (map factor_in fs)))
+      ≡ (stands names Whole first && (has_one fs && list_all (λ f. stands names Whole f.part) fs))
+  product_is first fs = both _ _ _ _ (taken_is Whole first) (both _ _ _ _ (one_map factor_in fs) (factors_stand fs))
 
   -- the types of the parts of a chain
   summand_kinds : (ss : List TypedSumPart) → map (λ (n : Node). n.kind) (map summand_in ss) ≡ map (λ s. s.part.kind) ss
@@ -95,8 +113,8 @@ module _ (names : Names) where
   pub gives_or : (f : TypedForm) (kind : ColType) (parts : List TypedExpr) → f ≡ form.Or parts → (form_in names f).gives kind ≡ same_kind Bool kind
   gives_or f kind parts is = ap (λ (r : Formed). r.gives kind) (at_or f parts is)
 
-  pub fits_or : (f : TypedForm) (parts : List TypedExpr) → f ≡ form.Or parts → (form_in names f).fits ≡ list_all (stands names (Like Bool)) parts
-  fits_or f parts is = ap (λ (r : Formed). r.fits) (at_or f parts is) ∙ all_stand (Like Bool) parts
+  pub fits_or : (f : TypedForm) (parts : List TypedExpr) → f ≡ form.Or parts → (form_in names f).fits ≡ (has_two parts && list_all (stands names (Like Bool)) parts)
+  fits_or f parts is = ap (λ (r : Formed). r.fits) (at_or f parts is) ∙ joined_is (Like Bool) parts
 
   at_and : (f : TypedForm) (parts : List TypedExpr) → f ≡ form.And parts → form_in names f ≡ formed_of names (TypedForm-F.And (map (node_in names) parts))
   at_and f parts is = ap (form_in names) (is ∙ sym (form.rolls-And parts))
@@ -105,8 +123,8 @@ module _ (names : Names) where
   pub gives_and : (f : TypedForm) (kind : ColType) (parts : List TypedExpr) → f ≡ form.And parts → (form_in names f).gives kind ≡ same_kind Bool kind
   gives_and f kind parts is = ap (λ (r : Formed). r.gives kind) (at_and f parts is)
 
-  pub fits_and : (f : TypedForm) (parts : List TypedExpr) → f ≡ form.And parts → (form_in names f).fits ≡ list_all (stands names (Like Bool)) parts
-  fits_and f parts is = ap (λ (r : Formed). r.fits) (at_and f parts is) ∙ all_stand (Like Bool) parts
+  pub fits_and : (f : TypedForm) (parts : List TypedExpr) → f ≡ form.And parts → (form_in names f).fits ≡ (has_two parts && list_all (stands names (Like Bool)) parts)
+  fits_and f parts is = ap (λ (r : Formed). r.fits) (at_and f parts is) ∙ joined_is (Like Bool) parts
 
   at_not : (f : TypedForm) (of : TypedExpr) → f ≡ form.Not of → form_in names f ≡ formed_of names (TypedForm-F.Not (node_in names of))
   at_not f of is = ap (form_in names) (is ∙ sym (form.rolls-Not of))
@@ -125,8 +143,8 @@ module _ (names : Names) where
   pub gives_is_null : (f : TypedForm) (kind : ColType) (of : TypedExpr) (tests : List Truth) → f ≡ form.IsNull of tests → (form_in names f).gives kind ≡ same_kind Bool kind
   gives_is_null f kind of tests is = ap (λ (r : Formed). r.gives kind) (at_is_null f of tests is)
 
-  pub fits_is_null : (f : TypedForm) (of : TypedExpr) (tests : List Truth) → f ≡ form.IsNull of tests → (form_in names f).fits ≡ (is_some_test tests && stands names Any of)
-  fits_is_null f of tests is = ap (λ (r : Formed). r.fits) (at_is_null f of tests is) ∙ ap (λ (b : Truth). is_some_test tests && b) (taken_is Any of)
+  pub fits_is_null : (f : TypedForm) (of : TypedExpr) (tests : List Truth) → f ≡ form.IsNull of tests → (form_in names f).fits ≡ (has_one tests && stands names Any of)
+  fits_is_null f of tests is = ap (λ (r : Formed). r.fits) (at_is_null f of tests is) ∙ ap (λ (b : Truth). has_one tests && b) (taken_is Any of)
 
   at_compare : (f : TypedForm) (how : Comparison) (left : TypedExpr) (right : TypedExpr) → f ≡ form.Compare how left right → form_in names f ≡ formed_of names (TypedForm-F.Compare how (node_in names left) (node_in names right))
   at_compare f how left right is = ap (form_in names) (is ∙ sym (form.rolls-Compare how left right))
@@ -145,7 +163,7 @@ module _ (names : Names) where
   pub gives_member : (f : TypedForm) (kind : ColType) (of : TypedExpr) (negated : Truth) (entries : List TypedExpr) → f ≡ form.Member of negated entries → (form_in names f).gives kind ≡ same_kind Bool kind
   gives_member f kind of negated entries is = ap (λ (r : Formed). r.gives kind) (at_member f of negated entries is)
 
-  pub fits_member : (f : TypedForm) (of : TypedExpr) (negated : Truth) (entries : List TypedExpr) → f ≡ form.Member of negated entries → (form_in names f).fits ≡ (stands names Any of && list_all (stands names (Like of.kind)) entries)
+  pub fits_member : (f : TypedForm) (of : TypedExpr) (negated : Truth) (entries : List TypedExpr) → f ≡ form.Member of negated entries → (form_in names f).fits ≡ (stands names Any of && (has_one entries && list_all (stands names (Like of.kind)) entries))
   fits_member f of negated entries is = ap (λ (r : Formed). r.fits) (at_member f of negated entries is) ∙ among_is of entries
 
   at_concat : (f : TypedForm) (parts : List TypedExpr) → f ≡ form.Concat parts → form_in names f ≡ formed_of names (TypedForm-F.Concat (map (node_in names) parts))
@@ -155,8 +173,8 @@ module _ (names : Names) where
   pub gives_concat : (f : TypedForm) (kind : ColType) (parts : List TypedExpr) → f ≡ form.Concat parts → (form_in names f).gives kind ≡ same_kind Text kind
   gives_concat f kind parts is = ap (λ (r : Formed). r.gives kind) (at_concat f parts is)
 
-  pub fits_concat : (f : TypedForm) (parts : List TypedExpr) → f ≡ form.Concat parts → (form_in names f).fits ≡ list_all (stands names (Like Text)) parts
-  fits_concat f parts is = ap (λ (r : Formed). r.fits) (at_concat f parts is) ∙ all_stand (Like Text) parts
+  pub fits_concat : (f : TypedForm) (parts : List TypedExpr) → f ≡ form.Concat parts → (form_in names f).fits ≡ (has_two parts && list_all (stands names (Like Text)) parts)
+  fits_concat f parts is = ap (λ (r : Formed). r.fits) (at_concat f parts is) ∙ joined_is (Like Text) parts
 
   at_sum : (f : TypedForm) (first : TypedExpr) (parts : List TypedSumPart) → f ≡ form.Sum first parts → form_in names f ≡ formed_of names (TypedForm-F.Sum (node_in names first) (map summand_in parts))
   at_sum f first parts is = ap (form_in names) (is ∙ sym (form.rolls-Sum first parts))
@@ -167,7 +185,7 @@ module _ (names : Names) where
       ∙ (ap (λ (k : ColType). same_kind (chain_kind k (map (λ (n : Node). n.kind) (map summand_in parts))) kind) (node_kind first)
       ∙ ap (λ (ks : List ColType). same_kind (chain_kind first.kind ks) kind) (summand_kinds parts))
 
-  pub fits_sum : (f : TypedForm) (first : TypedExpr) (parts : List TypedSumPart) → f ≡ form.Sum first parts → (form_in names f).fits ≡ (stands names Whole first && list_all (λ s. stands names Whole s.part) parts)
+  pub fits_sum : (f : TypedForm) (first : TypedExpr) (parts : List TypedSumPart) → f ≡ form.Sum first parts → (form_in names f).fits ≡ (stands names Whole first && (has_one parts && list_all (λ s. stands names Whole s.part) parts))
   fits_sum f first parts is = ap (λ (r : Formed). r.fits) (at_sum f first parts is) ∙ sum_is first parts
 
   at_product : (f : TypedForm) (first : TypedExpr) (parts : List TypedProductPart) → f ≡ form.Product first parts → form_in names f ≡ formed_of names (TypedForm-F.Product (node_in names first) (map factor_in parts))
@@ -179,7 +197,7 @@ module _ (names : Names) where
       ∙ (ap (λ (k : ColType). same_kind (chain_kind k (map (λ (n : Node). n.kind) (map factor_in parts))) kind) (node_kind first)
       ∙ ap (λ (ks : List ColType). same_kind (chain_kind first.kind ks) kind) (factor_kinds parts))
 
-  pub fits_product : (f : TypedForm) (first : TypedExpr) (parts : List TypedProductPart) → f ≡ form.Product first parts → (form_in names f).fits ≡ (stands names Whole first && list_all (λ f. stands names Whole f.part) parts)
+  pub fits_product : (f : TypedForm) (first : TypedExpr) (parts : List TypedProductPart) → f ≡ form.Product first parts → (form_in names f).fits ≡ (stands names Whole first && (has_one parts && list_all (λ f. stands names Whole f.part) parts))
   fits_product f first parts is = ap (λ (r : Formed). r.fits) (at_product f first parts is) ∙ product_is first parts
 
   at_minus : (f : TypedForm) (of : TypedExpr) → f ≡ form.Minus of → form_in names f ≡ formed_of names (TypedForm-F.Minus (node_in names of))

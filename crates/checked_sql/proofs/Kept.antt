@@ -16,10 +16,10 @@ use Rattle.typed_sql.specs.declared.typed.TypedForm.TheVariants as form
 use Rattle.typed_sql.specs.declared.typed.TypedSumPart.{TypedSumPart}
 use Rattle.typed_sql.specs.declared.typed.TypedProductPart.{TypedProductPart}
 use Rattle.typed_sql.specs.Places.{same_kind, takes as takes_kind}
-use Rattle.checked_sql.specs.Sound.{Names, are_fit, chain_kind, form_in, has_this, is_parameter, is_some_test, is_sound, is_value, stands}
+use Rattle.checked_sql.specs.Sound.{Names, are_fit, chain_kind, form_in, has_one, has_this, has_two, is_parameter, is_sound, is_value, stands}
 use Rattle.checked_sql.specs.OfCatalogue.{around}
 use Rattle.checked_sql.specs.Binding.{bound, bound_factor, bound_form, bound_summand, value_or}
-use Rattle.checked_sql.proofs.Forms.{fits_and, fits_column, fits_compare, fits_concat, fits_current, fits_is_null, fits_literal, fits_member, fits_minus, fits_not, fits_now, fits_or, fits_param, fits_product, fits_sum, fits_transaction, gives_and, gives_column, gives_compare, gives_concat, gives_current, gives_is_null, gives_literal, gives_member, gives_minus, gives_not, gives_now, gives_or, gives_param, gives_product, gives_sum, gives_transaction, sound_by_form}
+use Rattle.checked_sql.proofs.Forms.{fits_and, fits_column, fits_compare, fits_concat, fits_current, fits_is_null, fits_literal, fits_member, fits_minus, fits_not, fits_now, fits_or, fits_param, fits_product, fits_sum, fits_transaction, gives_and, gives_column, gives_compare, gives_concat, gives_current, gives_is_null, gives_literal, gives_member, gives_minus, gives_not, gives_now, gives_or, gives_param, gives_product, gives_sum, gives_transaction, one_map, sound_by_form, two_map}
 use Rattle.checked_sql.proofs.Bound.{bound_and, bound_by_form, bound_column, bound_compare, bound_concat, bound_current, bound_is_null, bound_literal, bound_member, bound_minus, bound_not, bound_now, bound_or, bound_param, bound_product, bound_sum, bound_transaction}
 
 -- ---- truths
@@ -101,6 +101,18 @@ module _ (columns : List ColumnDef) (kinds : List ColType) (values : List Value)
       let both = and_true (stands before t e) (list_all (stands before t) es) is in
       both_true (stands after t (bound values e)) (list_all (stands after t) (map (bound values) es)) (stands_kept t e each.0 both.0) (all_kept t es each.1 both.1)
 
+  joined_kept : (t : Takes) (es : List TypedExpr) → Each Kept es → (has_two es && list_all (stands before t) es) ≡ true
+      → (has_two (map (bound values) es) && list_all (stands after t) (map (bound values) es)) ≡ true
+  joined_kept t es each is =
+      let both = and_true (has_two es) (list_all (stands before t) es) is in
+      both_true (has_two (map (bound values) es)) (list_all (stands after t) (map (bound values) es)) (two_map (bound values) es ∙ both.0) (all_kept t es each both.1)
+
+  further_kept : (t : Takes) (es : List TypedExpr) → Each Kept es → (has_one es && list_all (stands before t) es) ≡ true
+      → (has_one (map (bound values) es) && list_all (stands after t) (map (bound values) es)) ≡ true
+  further_kept t es each is =
+      let both = and_true (has_one es) (list_all (stands before t) es) is in
+      both_true (has_one (map (bound values) es)) (list_all (stands after t) (map (bound values) es)) (one_map (bound values) es ∙ both.0) (all_kept t es each both.1)
+
   summands_kept : (ss : List TypedSumPart) → Each (λ s. Kept s.part) ss → list_all (λ s. stands before Whole s.part) ss ≡ true
       → list_all (λ s. stands after Whole s.part) (map (bound_summand values) ss) ≡ true
   summands_kept [] each is = refl
@@ -125,26 +137,30 @@ module _ (columns : List ColumnDef) (kinds : List ColType) (values : List Value)
       both_true (stands after Any (bound values a)) (stands after (Like (bound values a).kind) (bound values b)) (stands_kept Any a ka both.0)
       (ap (λ (k : ColType). stands after (Like k) (bound values b)) (kind_stays values a) ∙ stands_kept (Like a.kind) b kb both.1)
 
-  among_kept : (a : TypedExpr) (es : List TypedExpr) → Kept a → Each Kept es → (stands before Any a && list_all (stands before (Like a.kind)) es) ≡ true
-      → (stands after Any (bound values a) && list_all (stands after (Like (bound values a).kind)) (map (bound values) es)) ≡ true
+  among_kept : (a : TypedExpr) (es : List TypedExpr) → Kept a → Each Kept es → (stands before Any a && (has_one es && list_all (stands before (Like a.kind)) es)) ≡ true
+      → (stands after Any (bound values a) && (has_one (map (bound values) es) && list_all (stands after (Like (bound values a).kind)) (map (bound values) es))) ≡ true
   among_kept a es ka kes is =
-      let both = and_true (stands before Any a) (list_all (stands before (Like a.kind)) es) is in
-      both_true (stands after Any (bound values a)) (list_all (stands after (Like (bound values a).kind)) (map (bound values) es)) (stands_kept Any a ka both.0)
-      (ap (λ (k : ColType). list_all (stands after (Like k)) (map (bound values) es)) (kind_stays values a) ∙ all_kept (Like a.kind) es kes both.1)
+      let both = and_true (stands before Any a) (has_one es && list_all (stands before (Like a.kind)) es) is in
+      both_true (stands after Any (bound values a)) (has_one (map (bound values) es) && list_all (stands after (Like (bound values a).kind)) (map (bound values) es)) (stands_kept Any a ka both.0)
+      (ap (λ (k : ColType). has_one (map (bound values) es) && list_all (stands after (Like k)) (map (bound values) es)) (kind_stays values a) ∙ further_kept (Like a.kind) es kes both.1)
 
-  sum_kept : (a : TypedExpr) (ss : List TypedSumPart) → Kept a → Each (λ s. Kept s.part) ss → (stands before Whole a && list_all (λ s. stands before Whole s.part) ss) ≡ true
-      → (stands after Whole (bound values a) && list_all (λ s. stands after Whole s.part) (map (bound_summand values) ss)) ≡ true
+  sum_kept : (a : TypedExpr) (ss : List TypedSumPart) → Kept a → Each (λ s. Kept s.part) ss → (stands before Whole a && (has_one ss && list_all (λ s. stands before Whole s.part) ss)) ≡ true
+      → (stands after Whole (bound values a) && (has_one (map (bound_summand values) ss) && list_all (λ s. stands after Whole s.part) (map (bound_summand values) ss))) ≡ true
   sum_kept a ss ka kss is =
-      let both = and_true (stands before Whole a) (list_all (λ s. stands before Whole s.part) ss) is in
-      both_true (stands after Whole (bound values a)) (list_all (λ s. stands after Whole s.part) (map (bound_summand values) ss))
-      (stands_kept Whole a ka both.0) (summands_kept ss kss both.1)
+      let both = and_true (stands before Whole a) (has_one ss && list_all (λ s. stands before Whole s.part) ss) is in
+      let more = and_true (has_one ss) (list_all (λ s. stands before Whole s.part) ss) both.1 in
+      both_true (stands after Whole (bound values a)) (has_one (map (bound_summand values) ss) && list_all (λ s. stands after Whole s.part) (map (bound_summand values) ss))
+      (stands_kept Whole a ka both.0)
+      (both_true (has_one (map (bound_summand values) ss)) (list_all (λ s. stands after Whole s.part) (map (bound_summand values) ss)) (one_map (bound_summand values) ss ∙ more.0) (summands_kept ss kss more.1))
 
-  product_kept : (a : TypedExpr) (fs : List TypedProductPart) → Kept a → Each (λ f. Kept f.part) fs → (stands before Whole a && list_all (λ f. stands before Whole f.part) fs) ≡ true
-      → (stands after Whole (bound values a) && list_all (λ f. stands after Whole f.part) (map (bound_factor values) fs)) ≡ true
+  product_kept : (a : TypedExpr) (fs : List TypedProductPart) → Kept a → Each (λ f. Kept f.part) fs → (stands before Whole a && (has_one fs && list_all (λ f. stands before Whole f.part) fs)) ≡ true
+      → (stands after Whole (bound values a) && (has_one (map (bound_factor values) fs) && list_all (λ f. stands after Whole f.part) (map (bound_factor values) fs))) ≡ true
   product_kept a fs ka kfs is =
-      let both = and_true (stands before Whole a) (list_all (λ f. stands before Whole f.part) fs) is in
-      both_true (stands after Whole (bound values a)) (list_all (λ f. stands after Whole f.part) (map (bound_factor values) fs))
-      (stands_kept Whole a ka both.0) (factors_kept fs kfs both.1)
+      let both = and_true (stands before Whole a) (has_one fs && list_all (λ f. stands before Whole f.part) fs) is in
+      let more = and_true (has_one fs) (list_all (λ f. stands before Whole f.part) fs) both.1 in
+      both_true (stands after Whole (bound values a)) (has_one (map (bound_factor values) fs) && list_all (λ f. stands after Whole f.part) (map (bound_factor values) fs))
+      (stands_kept Whole a ka both.0)
+      (both_true (has_one (map (bound_factor values) fs)) (list_all (λ f. stands after Whole f.part) (map (bound_factor values) fs)) (one_map (bound_factor values) fs ∙ more.0) (factors_kept fs kfs more.1))
 
   -- the type of a chain
   sum_type : (a : TypedExpr) (ss : List TypedSumPart) (kind : ColType)
@@ -189,7 +205,7 @@ module _ (columns : List ColumnDef) (kinds : List ColType) (values : List Value)
         let is = form.rolls-Or es in
         let to = bound_or values f es is in (
           λ kind at. gives_or after (bound_form values f) kind (map (bound values) es) to ∙ (sym (gives_or before f kind es is) ∙ at),
-          λ fits. fits_or after (bound_form values f) (map (bound values) es) to ∙ all_kept (Like Bool) es (each_of e_of Kept ex parts) (sym (fits_or before f es is) ∙ fits),
+          λ fits. fits_or after (bound_form values f) (map (bound values) es) to ∙ joined_kept (Like Bool) es (each_of e_of Kept ex parts) (sym (fits_or before f es is) ∙ fits),
         )
     layer (TypedForm-F.And parts) =
         let es = map e_of parts in
@@ -197,7 +213,7 @@ module _ (columns : List ColumnDef) (kinds : List ColType) (values : List Value)
         let is = form.rolls-And es in
         let to = bound_and values f es is in (
           λ kind at. gives_and after (bound_form values f) kind (map (bound values) es) to ∙ (sym (gives_and before f kind es is) ∙ at),
-          λ fits. fits_and after (bound_form values f) (map (bound values) es) to ∙ all_kept (Like Bool) es (each_of e_of Kept ex parts) (sym (fits_and before f es is) ∙ fits),
+          λ fits. fits_and after (bound_form values f) (map (bound values) es) to ∙ joined_kept (Like Bool) es (each_of e_of Kept ex parts) (sym (fits_and before f es is) ∙ fits),
         )
     layer (TypedForm-F.Not x) =
         let e = e_of x in
@@ -213,9 +229,9 @@ module _ (columns : List ColumnDef) (kinds : List ColType) (values : List Value)
         let is = form.rolls-IsNull e tests in
         let to = bound_is_null values f e tests is in (
           λ kind at. gives_is_null after (bound_form values f) kind (bound values e) tests to ∙ (sym (gives_is_null before f kind e tests is) ∙ at),
-          λ fits. let both = and_true (is_some_test tests) (stands before Any e) (sym (fits_is_null before f e tests is) ∙ fits) in
+          λ fits. let both = and_true (has_one tests) (stands before Any e) (sym (fits_is_null before f e tests is) ∙ fits) in
               fits_is_null after (bound_form values f) (bound values e) tests to
-              ∙ both_true (is_some_test tests) (stands after Any (bound values e)) both.0 (stands_kept Any e (ex x) both.1),
+              ∙ both_true (has_one tests) (stands after Any (bound values e)) both.0 (stands_kept Any e (ex x) both.1),
         )
     layer (TypedForm-F.Compare how x y) =
         let a = e_of x in
@@ -242,7 +258,7 @@ module _ (columns : List ColumnDef) (kinds : List ColType) (values : List Value)
         let is = form.rolls-Concat es in
         let to = bound_concat values f es is in (
           λ kind at. gives_concat after (bound_form values f) kind (map (bound values) es) to ∙ (sym (gives_concat before f kind es is) ∙ at),
-          λ fits. fits_concat after (bound_form values f) (map (bound values) es) to ∙ all_kept (Like Text) es (each_of e_of Kept ex parts) (sym (fits_concat before f es is) ∙ fits),
+          λ fits. fits_concat after (bound_form values f) (map (bound values) es) to ∙ joined_kept (Like Text) es (each_of e_of Kept ex parts) (sym (fits_concat before f es is) ∙ fits),
         )
     layer (TypedForm-F.Sum x parts) =
         let a = e_of x in

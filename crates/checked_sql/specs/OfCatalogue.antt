@@ -204,7 +204,7 @@ is_body tables kinds (body.Change change) columns =
 is_body tables kinds (body.Remove remove) columns =
     is_empty columns && of_table (is_remove kinds) (slice_get tables remove.table) remove
 
--- the statement is of the tables: its numbers are there, each node has the type that the rules give it, and its parts
--- stand where they may
+-- the statement is of the tables: its numbers are there, each node has the type that the rules give it and as many parts
+-- as its form has, and its parts stand where they may
 abbrev pub is_of : List TableDef → Checked → Truth
 is_of tables checked = is_body tables checked.kinds checked.body checked.columns

@@ -1,4 +1,5 @@
--- Whether each node of an expression has the type that the rules give it, and each value, parameter and column is one of its type.
+-- Whether each node of an expression has the type that the rules give it and as many parts as its form has, and each value,
+-- parameter and column is one of its type.
 use Rattle.std.specs.Prelude.{◌&&◌, ◌==◌, not, ℕ, zero, suc, ℤ, pos, neg_ℤ, Bool as Truth, true, false, List, [], ◌∷◌, fold, map, Option, Some, None, slice_get}
 use Rattle.std.specs.List.{list_all}
 use Rattle.std.specs.Int.Signed.{le_z}
@@ -76,7 +77,7 @@ pub record Formed : Type 0 where
   pub gives : ColType → Truth
   pub fits : Truth
 
--- an expression: its type, and whether each node in it has the type that the rules give it
+-- an expression: its type, and whether each node in it has the type that the rules give it, and the parts of its form
 pub record Node : Type 0 where
   pub kind : ColType
   pub sound : Truth
@@ -100,23 +101,35 @@ leaf gives = formed gives true
 abbrev pub chain_kind : ColType → List ColType → ColType
 chain_kind kind kinds = fold sum_kind kind kinds
 
-abbrev pub chain : Node → List Node → Formed
-chain first nodes =
-    giving (chain_kind first.kind (map (λ n. n.kind) nodes)) (is_taken Whole first && list_all (is_taken Whole) nodes)
+-- one or more
+abbrev pub has_one : {A : Type 0} → List A → Truth
+has_one [] = false
+has_one (x ∷ xs) = true
 
--- IS NULL and IS NOT NULL: one test or more
-abbrev pub is_some_test : List Truth → Truth
-is_some_test [] = false
-is_some_test (test ∷ tests) = true
+-- two or more
+abbrev pub has_two : {A : Type 0} → List A → Truth
+has_two (x ∷ y ∷ xs) = true
+has_two xs = false
+
+-- one operator between the parts, of which there are two or more
+abbrev pub joined : Takes → List Node → Truth
+joined takes nodes = has_two nodes && list_all (is_taken takes) nodes
+
+-- one further part or more
+abbrev pub further : Takes → List Node → Truth
+further takes nodes = has_one nodes && list_all (is_taken takes) nodes
+
+abbrev pub chain : Node → List Node → Formed
+chain first nodes = giving (chain_kind first.kind (map (λ n. n.kind) nodes)) (is_taken Whole first && further Whole nodes)
 
 abbrev pub formed_of : Names → TypedForm-F Formed Node Node Node → Formed
-formed_of names (TypedForm-F.Or nodes) = giving Bool (list_all (is_taken (Like Bool)) nodes)
-formed_of names (TypedForm-F.And nodes) = giving Bool (list_all (is_taken (Like Bool)) nodes)
+formed_of names (TypedForm-F.Or nodes) = giving Bool (joined (Like Bool) nodes)
+formed_of names (TypedForm-F.And nodes) = giving Bool (joined (Like Bool) nodes)
 formed_of names (TypedForm-F.Not node) = giving Bool (is_taken (Like Bool) node)
-formed_of names (TypedForm-F.IsNull node tests) = giving Bool (is_some_test tests && is_taken Any node)
+formed_of names (TypedForm-F.IsNull node tests) = giving Bool (has_one tests && is_taken Any node)
 formed_of names (TypedForm-F.Compare how left right) = giving Bool (is_taken Any left && is_taken (Like left.kind) right)
-formed_of names (TypedForm-F.Member node negated nodes) = giving Bool (is_taken Any node && list_all (is_taken (Like node.kind)) nodes)
-formed_of names (TypedForm-F.Concat nodes) = giving Text (list_all (is_taken (Like Text)) nodes)
+formed_of names (TypedForm-F.Member node negated nodes) = giving Bool (is_taken Any node && further (Like node.kind) nodes)
+formed_of names (TypedForm-F.Concat nodes) = giving Text (joined (Like Text) nodes)
 formed_of names (TypedForm-F.Sum first nodes) = chain first nodes
 formed_of names (TypedForm-F.Product first nodes) = chain first nodes
 formed_of names (TypedForm-F.Minus node) = giving node.kind (is_taken Whole node)
@@ -136,7 +149,7 @@ form_in names = fold-TypedForm Formed Node Node Node (formed_of names) whole (λ
 abbrev pub node_in : Names → TypedExpr → Node
 node_in names = fold-TypedExpr Formed Node Node Node (formed_of names) whole (λ f. f.part) (λ s. s.part)
 
--- whether each node of an expression has the type that the rules give it
+-- whether each node of an expression has the type that the rules give it, and the parts of its form
 abbrev pub is_sound : Names → TypedExpr → Truth
 is_sound names e = (node_in names e).sound
 

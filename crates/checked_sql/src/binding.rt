@@ -84,15 +84,24 @@ fn copied_columns(columns: &List<ColumnDesc>) -> Result<List<ColumnDesc>, Full>
 fn bound_read(values: &[Value], read: &CheckedRead) -> Result<CheckedRead, Full>
     ensures { IfOk result (λ r. r ≡ bound_read values.now read.now) }
 {
-    Ok(CheckedRead {
-        table: read.table,
-        count: read.count,
-        list: bound_all(values, &read.list)?,
-        filter: bound_maybe(values, &read.filter)?,
-        order: copied_order(&read.order)?,
-        limit: bound_maybe(values, &read.limit)?,
-        for_update: read.for_update,
-    })
+    let list = bound_all(values, &read.list)?;
+    let order = copied_order(&read.order)?;
+    let filter = bound_maybe(values, &read.filter)?;
+    match bound_maybe(values, &read.limit) {
+        Ok(limit) => Ok(CheckedRead {
+            table: read.table,
+            count: read.count,
+            list,
+            filter,
+            order,
+            limit,
+            for_update: read.for_update,
+        }),
+        Err(full) => {
+            drop(filter);
+            Err(full)
+        }
+    }
 }
 
 fn bound_body(values: &[Value], body: &CheckedBody) -> Result<CheckedBody, Full>

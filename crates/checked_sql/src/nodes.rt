@@ -1,8 +1,8 @@
-//! Whether each node of an expression has the type that the rules give it.
+//! Whether each node of an expression has the type that the rules give it, and parts enough.
 ghost use Rattle.std.specs.Prelude.{◌≡◌, ◌&&◌};
 ghost use Rattle.std.specs.List.{list_all};
 ghost use Rattle.typed_sql.specs.declared.asks.Takes.TheVariants.{Any, Whole};
-ghost use Rattle.checked_sql.specs.Sound.{form_in, is_column, is_parameter, is_some_test, is_sound, names_of, stands};
+ghost use Rattle.checked_sql.specs.Sound.{form_in, has_one, has_two, is_column, is_parameter, is_sound, names_of, stands};
 
 use crate::kinds::{kind_of_product, kind_of_sum, same_kind, takes};
 use crate::names::Names;
@@ -64,7 +64,7 @@ fn gives(names: &Names<'_>, expr: &TypedExpr) -> bool
     }
 }
 
-/// Whether each node of an expression has the type that the rules give it.
+/// Whether each node of an expression has the type that the rules give it, and parts enough.
 #[cycle(nodes)]
 #[tactic(auto, using(crate::proofs::Forms::sound_by_form))]
 pub(crate) fn is_sound(names: &Names<'_>, expr: &TypedExpr) -> bool
@@ -73,15 +73,15 @@ pub(crate) fn is_sound(names: &Names<'_>, expr: &TypedExpr) -> bool
     gives(names, expr) && fits(names, &expr.form)
 }
 
-/// Whether the parts of a form may stand where they stand.
+/// Whether the parts of a form may stand where they stand, and there are as many as it has.
 #[cycle(nodes)]
 #[tactic(auto, using(crate::proofs::Forms::fitting))]
 fn fits(names: &Names<'_>, form: &TypedForm) -> bool
     ensures { result ≡ (form_in (names_of names.now) form.now).fits }
 {
     match form {
-        TypedForm::Or(parts) => all_stand(names, Takes::Like(ColType::Bool), parts.as_slice()),
-        TypedForm::And(parts) => all_stand(names, Takes::Like(ColType::Bool), parts.as_slice()),
+        TypedForm::Or(parts) => are_joined(names, Takes::Like(ColType::Bool), parts),
+        TypedForm::And(parts) => are_joined(names, Takes::Like(ColType::Bool), parts),
         TypedForm::Not(of) => stands(names, Takes::Like(ColType::Bool), of.get()),
         TypedForm::IsNull { of, tests } => is_tested(names, of, tests),
         TypedForm::Compare(_, left, right) => {
@@ -90,14 +90,14 @@ fn fits(names: &Names<'_>, form: &TypedForm) -> bool
         }
         TypedForm::Member { of, list, .. } => {
             let like = Takes::Like(of.get().kind);
-            stands(names, Takes::Any, of.get()) && all_stand(names, like, list.as_slice())
+            stands(names, Takes::Any, of.get()) && are_listed(names, like, list)
         }
-        TypedForm::Concat(parts) => all_stand(names, Takes::Like(ColType::Text), parts.as_slice()),
+        TypedForm::Concat(parts) => are_joined(names, Takes::Like(ColType::Text), parts),
         TypedForm::Sum(first, parts) => {
-            stands(names, Takes::Whole, first.get()) && summands_stand(names, parts)
+            stands(names, Takes::Whole, first.get()) && are_summands(names, parts)
         }
         TypedForm::Product(first, parts) => {
-            stands(names, Takes::Whole, first.get()) && factors_stand(names, parts)
+            stands(names, Takes::Whole, first.get()) && are_factors(names, parts)
         }
         TypedForm::Minus(of) => stands(names, Takes::Whole, of.get()),
         TypedForm::Literal(_)
@@ -112,11 +112,60 @@ fn fits(names: &Names<'_>, form: &TypedForm) -> bool
 /// The operand of IS NULL, with one test or more behind it.
 #[cycle(nodes)]
 fn is_tested(names: &Names<'_>, of: &Boxed<TypedExpr>, tests: &List<bool>) -> bool
-    ensures { result ≡ (is_some_test tests.now && stands (names_of names.now) Any of.now) }
+    ensures { result ≡ (has_one tests.now && stands (names_of names.now) Any of.now) }
 {
     match tests.as_slice() {
         [] => false,
         [_, ..] => stands(names, Takes::Any, of.get()),
+    }
+}
+
+/// Parts with one operator between them: two or more, where such types may stand.
+#[cycle(nodes)]
+fn are_joined(names: &Names<'_>, which: Takes, parts: &List<TypedExpr>) -> bool
+    ensures { result
+        ≡ (has_two parts.now && list_all (stands (names_of names.now) which) parts.now) }
+{
+    match parts.as_slice() {
+        [] => false,
+        [_] => false,
+        [_, _, ..] => all_stand(names, which, parts.as_slice()),
+    }
+}
+
+/// The entries of a list: one or more, where such types may stand.
+#[cycle(nodes)]
+fn are_listed(names: &Names<'_>, which: Takes, list: &List<TypedExpr>) -> bool
+    ensures { result
+        ≡ (has_one list.now && list_all (stands (names_of names.now) which) list.now) }
+{
+    match list.as_slice() {
+        [] => false,
+        [_, ..] => all_stand(names, which, list.as_slice()),
+    }
+}
+
+/// Further summands: one or more.
+#[cycle(nodes)]
+fn are_summands(names: &Names<'_>, parts: &List<TypedSumPart>) -> bool
+    ensures { result ≡ (has_one parts.now
+        && list_all (λ s. stands (names_of names.now) Whole s.part) parts.now) }
+{
+    match parts.as_slice() {
+        [] => false,
+        [_, ..] => summands_stand(names, parts.as_slice()),
+    }
+}
+
+/// Further factors: one or more.
+#[cycle(nodes)]
+fn are_factors(names: &Names<'_>, parts: &List<TypedProductPart>) -> bool
+    ensures { result ≡ (has_one parts.now
+        && list_all (λ f. stands (names_of names.now) Whole f.part) parts.now) }
+{
+    match parts.as_slice() {
+        [] => false,
+        [_, ..] => factors_stand(names, parts.as_slice()),
     }
 }
 
@@ -142,10 +191,10 @@ fn all_stand(names: &Names<'_>, which: Takes, parts: &[TypedExpr]) -> bool
 }
 
 #[cycle(nodes)]
-fn summands_stand(names: &Names<'_>, parts: &List<TypedSumPart>) -> bool
+fn summands_stand(names: &Names<'_>, parts: &[TypedSumPart]) -> bool
     ensures { result ≡ list_all (λ s. stands (names_of names.now) Whole s.part) parts.now }
 {
-    for part in parts.as_slice() {
+    for part in parts {
         if !stands(names, Takes::Whole, &part.part) {
             return false;
         }
@@ -154,10 +203,10 @@ fn summands_stand(names: &Names<'_>, parts: &List<TypedSumPart>) -> bool
 }
 
 #[cycle(nodes)]
-fn factors_stand(names: &Names<'_>, parts: &List<TypedProductPart>) -> bool
+fn factors_stand(names: &Names<'_>, parts: &[TypedProductPart]) -> bool
     ensures { result ≡ list_all (λ f. stands (names_of names.now) Whole f.part) parts.now }
 {
-    for part in parts.as_slice() {
+    for part in parts {
         if !stands(names, Takes::Whole, &part.part) {
             return false;
         }

@@ -41,7 +41,7 @@ fn is_remove_at(tables: &Catalogue, kinds: &[ColType], remove: &CheckedRemove) -
 }
 
 /// Whether a checked statement is of a catalogue: its numbers are there, each node has the type
-/// that the rules give it, and its parts stand where they may.
+/// that the rules give it and as many parts as its form has, and its parts stand where they may.
 pub fn is_of(tables: &Catalogue, checked: &Checked) -> bool
     ensures { result ≡ is_of tables.now checked.now }
 {

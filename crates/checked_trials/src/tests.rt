@@ -1,3 +1,4 @@
 mod binding;
 mod numbers;
+mod printing;
 mod texts;

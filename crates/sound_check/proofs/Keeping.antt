@@ -1,5 +1,5 @@
 -- What holds of all that a step gives, whatever more becomes known behind it.
-use Rattle.std.proofs.Common.{◌≡◌, List, [], ◌∷◌, refl, ap, sym, subst}
+use Rattle.std.proofs.Common.{◌≡◌, suc, List, [], ◌∷◌, length, refl, ap, sym, subst}
 use Rattle.std.specs.Prelude.{Bool as Truth, true, false, Option, Some, None, Result, Ok, Err}
 use Rattle.typed_sql.specs.Steps.{Known, Fault, Answer, Step, Gives, Fails, Behind, Then, Made, Walk, Each, Maybe, Told}
 use Rattle.sound_check.proofs.KnownTypes.{Extends, stays, further}
@@ -57,20 +57,27 @@ All Is [] = Unit {0}
 All Is (x ∷ xs) = Is x × All Is xs
 
 module _ {S A B : Type 0} (Is : Meant B) (step : S → A → Step B) (next : S → B → S) where
-  -- a walk along a list, each step of which keeps it
-  pub walk : (xs : List A) → All (λ x. (s : S) → Keeps Is (step s x)) xs → (s : S) → Keeps (λ final ys. All (Is final) ys) (Walk step next s xs)
-  walk [] each s = gives (λ final ys. All (Is final) ys) [] (λ final. tt)
-  walk (x ∷ xs) each s =
-      followed Is (λ final ys. All (Is final) ys) (step s x) (λ y. Made (λ ys. y ∷ ys) (Walk step next (next s y) xs)) (each.0 s)
-      (λ y. made (λ final ys. All (Is final) ys) (λ final ys. Is final y → All (Is final) ys) (λ ys. y ∷ ys) (Walk step next (next s y) xs)
-      (walk xs each.1 (next s y)) (λ ys final all is. (is, all)))
+  -- a walk along a list, each step of which keeps it, gives as many as there are
+  pub walk_long : (xs : List A) → All (λ x. (s : S) → Keeps Is (step s x)) xs → (s : S) → Keeps (λ final ys. All (Is final) ys × (length ys ≡ length xs)) (Walk step next s xs)
+  walk_long [] each s = gives (λ final ys. All (Is final) ys × (length ys ≡ 0)) [] (λ final. (tt, refl))
+  walk_long (x ∷ xs) each s =
+      followed Is (λ final ys. All (Is final) ys × (length ys ≡ suc (length xs))) (step s x) (λ y. Made (λ ys. y ∷ ys) (Walk step next (next s y) xs)) (each.0 s)
+      (λ y. made (λ final ys. All (Is final) ys × (length ys ≡ length xs)) (λ final ys. Is final y → All (Is final) ys × (length ys ≡ suc (length xs))) (λ ys. y ∷ ys) (Walk step next (next s y) xs)
+      (walk_long xs each.1 (next s y)) (λ ys final all is. ((is, all.0), ap suc all.1)))
 
-pub each_step : {A B : Type 0} (Is : Meant B) (step : A → Step B) (xs : List A) → All (λ x. Keeps Is (step x)) xs → Keeps (λ final ys. All (Is final) ys) (Each step xs)
-each_step {A = A} Is step xs each = walk {S = Unit {0}} Is (λ s x. step x) (λ s y. s) xs (always xs each) tt
+  pub walk : (xs : List A) → All (λ x. (s : S) → Keeps Is (step s x)) xs → (s : S) → Keeps (λ final ys. All (Is final) ys) (Walk step next s xs)
+  walk xs each s = along (λ final ys. All (Is final) ys × (length ys ≡ length xs)) (λ final ys. All (Is final) ys) (Walk step next s xs) (walk_long xs each s) (λ ys final all. all.0)
+
+pub each_long : {A B : Type 0} (Is : Meant B) (step : A → Step B) (xs : List A) → All (λ x. Keeps Is (step x)) xs
+    → Keeps (λ final ys. All (Is final) ys × (length ys ≡ length xs)) (Each step xs)
+each_long {A = A} Is step xs each = walk_long {S = Unit {0}} Is (λ s x. step x) (λ s y. s) xs (always xs each) tt
   where
     always : (xs : List A) → All (λ x. Keeps Is (step x)) xs → All (λ x. (s : Unit {0}) → Keeps Is (step x)) xs
     always [] each = tt
     always (x ∷ xs) each = (λ s. each.0, always xs each.1)
+
+pub each_step : {A B : Type 0} (Is : Meant B) (step : A → Step B) (xs : List A) → All (λ x. Keeps Is (step x)) xs → Keeps (λ final ys. All (Is final) ys) (Each step xs)
+each_step Is step xs each = along (λ final ys. All (Is final) ys × (length ys ≡ length xs)) (λ final ys. All (Is final) ys) (Each step xs) (each_long Is step xs each) (λ ys final all. all.0)
 
 abbrev pub IfThere : {A : Type 0} → (A → Type 0) → Option A → Type 0
 IfThere Is None = Unit {0}

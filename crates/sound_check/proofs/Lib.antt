@@ -1,9 +1,9 @@
-mod Answered
+pub mod Answered
 mod Keeping
 mod KnownTypes
-mod Leaves
+pub mod Leaves
 mod Limits
-mod Nodes
+pub mod Nodes
 mod Selects
 mod Tables
 mod Trees

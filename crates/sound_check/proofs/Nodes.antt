@@ -1,6 +1,6 @@
 -- Each node of what an expression is at its place has the type that the rules give it.
 use Rattle.std.proofs.Common.{◌≡◌, ◌∙◌, ℕ, ◌≤◌, ℤ, List, [], ◌∷◌, length, map, arith, refl, ap, sym, subst, inl, inr}
-use Rattle.std.specs.Prelude.{◌⊎◌, Bool as Truth, true, false, Option, Some, None, Ok, Err, codes, pos, neg_ℤ}
+use Rattle.std.specs.Prelude.{◌⊎◌, ◌&&◌, Bool as Truth, true, false, Option, Some, None, Ok, Err, codes, pos, neg_ℤ}
 use Rattle.std.specs.List.{AllByRecursion, list_all}
 use Rattle.pg_values.specs.declared.col_type.ColType.{ColType}
 use Rattle.pg_values.specs.declared.col_type.ColType.TheVariants as kind
@@ -29,12 +29,12 @@ use Rattle.typed_sql.specs.Typing.{Place, Typed, Layer, Form, Fits, fitting, Com
 use Rattle.typed_sql.specs.Meaning.{under}
 use Rattle.sound_check.proofs.Trees.{tree_layer}
 use Rattle.typed_sql.proofs.Forms.{typed_is}
-use Rattle.checked_sql.specs.Sound.{Names, chain_kind, form_in, is_column, is_parameter, is_some_test, is_sound, is_value, stands}
+use Rattle.checked_sql.specs.Sound.{Names, chain_kind, form_in, has_one, has_two, is_column, is_parameter, is_sound, is_value, stands}
 use Rattle.checked_sql.specs.OfCatalogue.{around}
 use Rattle.checked_sql.proofs.Forms.{fits_and, fits_column, fits_compare, fits_concat, fits_current, fits_is_null, fits_literal, fits_member, fits_minus, fits_not, fits_now, fits_or, fits_param, fits_product, fits_sum, fits_transaction, gives_and, gives_column, gives_compare, gives_concat, gives_current, gives_is_null, gives_literal, gives_member, gives_minus, gives_not, gives_now, gives_or, gives_param, gives_product, gives_sum, gives_transaction, sound_by_form}
 use Rattle.checked_sql.proofs.Kept.{and_true, both_true}
 use Rattle.sound_check.proofs.KnownTypes.{stays, grows, told_now, parameter_there, same_refl}
-use Rattle.sound_check.proofs.Keeping.{Meant, Holds, Keeps, All, along, gives, fails, followed, made, walk, each_step, told}
+use Rattle.sound_check.proofs.Keeping.{Meant, Holds, Keeps, All, along, gives, fails, followed, made, walk_long, each_long, told}
 use Rattle.sound_check.proofs.Leaves.{columns_in, column_is, no_zero, plain, value_read}
 
 -- ---- made of sound parts
@@ -47,59 +47,72 @@ module _ (names : Names) where
   all_true test [] all = refl
   all_true test (x ∷ xs) all = both_true (test x) (list_all test xs) all.0 (all_true test xs all.1)
 
-  or_sound : (es : List TypedExpr) → All (λ e. stands names (Like kind.Bool) e ≡ true) es → is_sound names (truth (form.Or es)) ≡ true
-  or_sound es all = sound_if (truth (form.Or es)) (gives_or names (form.Or es) kind.Bool es refl) (fits_or names (form.Or es) es refl ∙ all_true (stands names (Like kind.Bool)) es all)
+  one_true : {A : Type 0} (xs : List A) → 1 ≤ length xs → has_one xs ≡ true
+  one_true [] some = absurd (omega arith)
+  one_true (x ∷ xs) some = refl
 
-  and_sound : (es : List TypedExpr) → All (λ e. stands names (Like kind.Bool) e ≡ true) es → is_sound names (truth (form.And es)) ≡ true
-  and_sound es all = sound_if (truth (form.And es)) (gives_and names (form.And es) kind.Bool es refl) (fits_and names (form.And es) es refl ∙ all_true (stands names (Like kind.Bool)) es all)
+  two_true : {A : Type 0} (xs : List A) → 2 ≤ length xs → has_two xs ≡ true
+  two_true [] two = absurd (omega arith)
+  two_true (x ∷ []) two = absurd (omega arith)
+  two_true (x ∷ y ∷ xs) two = refl
+
+  joined_true : (t : Takes) (es : List TypedExpr) → 2 ≤ length es → All (λ e. stands names t e ≡ true) es → (has_two es && list_all (stands names t) es) ≡ true
+  joined_true t es two all = both_true (has_two es) (list_all (stands names t) es) (two_true es two) (all_true (stands names t) es all)
+
+  further_true : {A : Type 0} (test : A → Truth) (xs : List A) → 1 ≤ length xs → All (λ x. test x ≡ true) xs → (has_one xs && list_all test xs) ≡ true
+  further_true test xs some all = both_true (has_one xs) (list_all test xs) (one_true xs some) (all_true test xs all)
+
+  or_sound : (es : List TypedExpr) → 2 ≤ length es → All (λ e. stands names (Like kind.Bool) e ≡ true) es → is_sound names (truth (form.Or es)) ≡ true
+  or_sound es two all =
+      sound_if (truth (form.Or es)) (gives_or names (form.Or es) kind.Bool es refl) (fits_or names (form.Or es) es refl ∙ joined_true (Like kind.Bool) es two all)
+
+  and_sound : (es : List TypedExpr) → 2 ≤ length es → All (λ e. stands names (Like kind.Bool) e ≡ true) es → is_sound names (truth (form.And es)) ≡ true
+  and_sound es two all =
+      sound_if (truth (form.And es)) (gives_and names (form.And es) kind.Bool es refl) (fits_and names (form.And es) es refl ∙ joined_true (Like kind.Bool) es two all)
 
   not_sound : (e : TypedExpr) → stands names (Like kind.Bool) e ≡ true → is_sound names (truth (form.Not e)) ≡ true
   not_sound e is = sound_if (truth (form.Not e)) (gives_not names (form.Not e) kind.Bool e refl) (fits_not names (form.Not e) e refl ∙ is)
 
-  some_test : (tests : List Truth) → 1 ≤ length tests → is_some_test tests ≡ true
-  some_test [] some = absurd (omega arith)
-  some_test (test ∷ tests) some = refl
-
   null_sound : (e : TypedExpr) (tests : List Truth) → 1 ≤ length tests → stands names Any e ≡ true → is_sound names (truth (form.IsNull e tests)) ≡ true
   null_sound e tests some is =
       sound_if (truth (form.IsNull e tests)) (gives_is_null names (form.IsNull e tests) kind.Bool e tests refl)
-      (fits_is_null names (form.IsNull e tests) e tests refl ∙ both_true (is_some_test tests) (stands names Any e) (some_test tests some) is)
+      (fits_is_null names (form.IsNull e tests) e tests refl ∙ both_true (has_one tests) (stands names Any e) (one_true tests some) is)
 
   compare_sound : (how : Comparison) (a b : TypedExpr) → stands names Any a ≡ true → stands names (Like a.kind) b ≡ true → is_sound names (truth (form.Compare how a b)) ≡ true
   compare_sound how a b first second =
       sound_if (truth (form.Compare how a b)) (gives_compare names (form.Compare how a b) kind.Bool how a b refl)
       (fits_compare names (form.Compare how a b) how a b refl ∙ both_true (stands names Any a) (stands names (Like a.kind) b) first second)
 
-  member_sound : (a : TypedExpr) (negated : Truth) (es : List TypedExpr) → stands names Any a ≡ true → All (λ e. stands names (Like a.kind) e ≡ true) es
+  member_sound : (a : TypedExpr) (negated : Truth) (es : List TypedExpr) → stands names Any a ≡ true → 1 ≤ length es → All (λ e. stands names (Like a.kind) e ≡ true) es
       → is_sound names (truth (form.Member a negated es)) ≡ true
-  member_sound a negated es first others =
+  member_sound a negated es first some others =
       sound_if (truth (form.Member a negated es)) (gives_member names (form.Member a negated es) kind.Bool a negated es refl)
-      (fits_member names (form.Member a negated es) a negated es refl ∙ both_true (stands names Any a) (list_all (stands names (Like a.kind)) es) first (all_true (stands names (Like a.kind)) es others))
+      (fits_member names (form.Member a negated es) a negated es refl ∙ both_true (stands names Any a) (has_one es && list_all (stands names (Like a.kind)) es) first (further_true (stands names (Like a.kind)) es some others))
 
-  concat_sound : (es : List TypedExpr) → All (λ e. stands names (Like kind.Text) e ≡ true) es → is_sound names (typed kind.Text (form.Concat es)) ≡ true
-  concat_sound es all = sound_if (typed kind.Text (form.Concat es)) (gives_concat names (form.Concat es) kind.Text es refl)
-      (fits_concat names (form.Concat es) es refl ∙ all_true (stands names (Like kind.Text)) es all)
+  concat_sound : (es : List TypedExpr) → 2 ≤ length es → All (λ e. stands names (Like kind.Text) e ≡ true) es → is_sound names (typed kind.Text (form.Concat es)) ≡ true
+  concat_sound es two all = sound_if (typed kind.Text (form.Concat es)) (gives_concat names (form.Concat es) kind.Text es refl)
+      (fits_concat names (form.Concat es) es refl ∙ joined_true (Like kind.Text) es two all)
 
   -- the type of a chain is that of its parts from the left
   reached_chain : {Q : Type 0} (kind_of : Q → ColType) (qs : List Q) (kind : ColType) → chain_kind kind (map kind_of qs) ≡ reached (behind_part kind_of) kind qs
   reached_chain kind_of [] kind = refl
   reached_chain kind_of (q ∷ qs) kind = reached_chain kind_of qs (sum_kind kind (kind_of q))
 
-  sum_sound : (a : TypedExpr) (qs : List TypedSumPart) → stands names Whole a ≡ true → All (λ q. stands names Whole q.part ≡ true) qs
+  sum_sound : (a : TypedExpr) (qs : List TypedSumPart) → stands names Whole a ≡ true → 1 ≤ length qs → All (λ q. stands names Whole q.part ≡ true) qs
       → is_sound names (typed (reached (behind_part (λ q. q.part.kind)) a.kind qs) (form.Sum a qs)) ≡ true
-  sum_sound a qs first others =
+  sum_sound a qs first some others =
       let of = reached (behind_part (λ (q : TypedSumPart). q.part.kind)) a.kind qs in
       sound_if (typed of (form.Sum a qs))
       (gives_sum names (form.Sum a qs) of a qs refl ∙ (ap (λ (k : ColType). same_kind k of) (reached_chain (λ q. q.part.kind) qs a.kind) ∙ same_refl of))
-      (fits_sum names (form.Sum a qs) a qs refl ∙ both_true (stands names Whole a) (list_all (λ q. stands names Whole q.part) qs) first (all_true (λ (q : TypedSumPart). stands names Whole q.part) qs others))
+      (fits_sum names (form.Sum a qs) a qs refl ∙ both_true (stands names Whole a) (has_one qs && list_all (λ q. stands names Whole q.part) qs) first (further_true (λ (q : TypedSumPart). stands names Whole q.part) qs some others))
 
-  product_sound : (a : TypedExpr) (qs : List TypedProductPart) → stands names Whole a ≡ true → All (λ q. stands names Whole q.part ≡ true) qs
+  product_sound : (a : TypedExpr) (qs : List TypedProductPart) → stands names Whole a ≡ true → 1 ≤ length qs → All (λ q. stands names Whole q.part ≡ true) qs
       → is_sound names (typed (reached (behind_part (λ q. q.part.kind)) a.kind qs) (form.Product a qs)) ≡ true
-  product_sound a qs first others =
+  product_sound a qs first some others =
       let of = reached (behind_part (λ (q : TypedProductPart). q.part.kind)) a.kind qs in
       sound_if (typed of (form.Product a qs))
       (gives_product names (form.Product a qs) of a qs refl ∙ (ap (λ (k : ColType). same_kind k of) (reached_chain (λ q. q.part.kind) qs a.kind) ∙ same_refl of))
-      (fits_product names (form.Product a qs) a qs refl ∙ both_true (stands names Whole a) (list_all (λ q. stands names Whole q.part) qs) first (all_true (λ (q : TypedProductPart). stands names Whole q.part) qs others))
+      (fits_product names (form.Product a qs) a qs refl ∙ both_true (stands names Whole a) (has_one qs && list_all (λ q. stands names Whole q.part) qs) first (further_true (λ (q : TypedProductPart). stands names Whole q.part) qs some others))
 
   negated_kind : (k : ColType) → is_whole k ≡ true → same_kind k (joined_kind (Some k) None) ≡ true
   negated_kind kind.Int4 is = refl
@@ -217,8 +230,8 @@ module _ (scope : Scope) where
 
   module _ {P Q : Type 0} (part_of : Q → TypedExpr) (at : P → Place) (make : P → TypedExpr → Q) (same : (p : P) (e : TypedExpr) → part_of (make p e) ≡ e) where
     -- the type and the parts of a chain behind a first operand
-    abbrev IsChain : ColType → Meant (ColType × List Q)
-    IsChain kind final x = (x.0 ≡ reached (behind_part (λ q. (part_of q).kind)) kind x.1) × All (λ q. Stood Whole final (part_of q)) x.1
+    abbrev IsChain : List P → ColType → Meant (ColType × List Q)
+    IsChain ps kind final x = (x.0 ≡ reached (behind_part (λ q. (part_of q).kind)) kind x.1) × All (λ q. Stood Whole final (part_of q)) x.1 × (length x.1 ≡ length ps)
 
     part_keeps : (p : P) → ((asks : Asks) → Keeps (Stood asks.takes) (at p asks)) → (kind : ColType) → Keeps (λ final q. Stood Whole final (part_of q)) (PartOf at make kind p)
     part_keeps p keeps kind =
@@ -230,12 +243,12 @@ module _ (scope : Scope) where
     parts_keep [] all = tt
     parts_keep (p ∷ ps) all = (part_keeps p all.0, parts_keep ps all.1)
 
-    others_keep : (ps : List P) → All (λ p. (asks : Asks) → Keeps (Stood asks.takes) (at p asks)) ps → (kind : ColType) → Keeps (IsChain kind) (Others at make (λ q. (part_of q).kind) kind ps)
+    others_keep : (ps : List P) → All (λ p. (asks : Asks) → Keeps (Stood asks.takes) (at p asks)) ps → (kind : ColType) → Keeps (IsChain ps kind) (Others at make (λ q. (part_of q).kind) kind ps)
     others_keep ps all kind =
-        made (λ final qs. All (λ q. Stood Whole final (part_of q)) qs) (IsChain kind) (λ qs. (reached (behind_part (λ q. (part_of q).kind)) kind qs, qs))
+        made (λ final qs. All (λ q. Stood Whole final (part_of q)) qs × (length qs ≡ length ps)) (IsChain ps kind) (λ qs. (reached (behind_part (λ q. (part_of q).kind)) kind qs, qs))
         (Walk (PartOf at make) (behind_part (λ q. (part_of q).kind)) kind ps)
-        (walk (λ final q. Stood Whole final (part_of q)) (PartOf at make) (behind_part (λ q. (part_of q).kind)) ps (parts_keep ps all) kind)
-        (λ qs final all. (refl, all))
+        (walk_long (λ final q. Stood Whole final (part_of q)) (PartOf at make) (behind_part (λ q. (part_of q).kind)) ps (parts_keep ps all) kind)
+        (λ qs final all. (refl, all.0, all.1))
 
   -- ---- forms
 
@@ -251,31 +264,31 @@ module _ (scope : Scope) where
       (λ x. made (Stood (Like x.kind)) (λ final t. Stood Any final x → Sound final t) (λ y. truth (form.Compare how x y)) (Typed scope b (asks_like x.kind)) (right (asks_like x.kind))
       (λ y final second first. compare_sound (names_at final) how x y first second)) known
 
-  among_keeps : (negated : Truth) (a : Expr) (es : List Expr) → ((asks : Asks) → Keeps (Stood asks.takes) (Typed scope a asks)) → ((asks : Asks) → All (λ e. Keeps (Stood asks.takes) (Typed scope e asks)) es)
+  among_keeps : (negated : Truth) (a : Expr) (es : List Expr) → ((asks : Asks) → Keeps (Stood asks.takes) (Typed scope a asks)) → 1 ≤ length es → ((asks : Asks) → All (λ e. Keeps (Stood asks.takes) (Typed scope e asks)) es)
       → (first : Option ColType) → Keeps Sound (AmongBeside (Typed scope) negated a es first)
-  among_keeps negated a es left others first =
+  among_keeps negated a es left some others first =
       followed (Stood Any) Sound (Typed scope a (asks_beside first)) (EntriesOf (Typed scope) negated first es) (left (asks_beside first))
-      (λ x. made (λ final ts. All (Stood (Like x.kind) final) ts) (λ final t. Stood Any final x → Sound final t) (λ ts. truth (form.Member x negated ts)) (Each (λ entry. Typed scope entry (asks_entry first x.kind)) es)
-      (each_step (Stood (Like x.kind)) (λ entry. Typed scope entry (asks_entry first x.kind)) es (others (asks_entry first x.kind)))
-      (λ ts final all is. member_sound (names_at final) x negated ts is all))
+      (λ x. made (λ final ts. All (Stood (Like x.kind) final) ts × (length ts ≡ length es)) (λ final t. Stood Any final x → Sound final t) (λ ts. truth (form.Member x negated ts)) (Each (λ entry. Typed scope entry (asks_entry first x.kind)) es)
+      (each_long (Stood (Like x.kind)) (λ entry. Typed scope entry (asks_entry first x.kind)) es (others (asks_entry first x.kind)))
+      (λ ts final all is. member_sound (names_at final) x negated ts is (subst (λ (n : ℕ). 1 ≤ n) (sym all.1) some) all.0))
 
-  sum_keeps : (a : Expr) (ss : List SumPart) → ((asks : Asks) → Keeps (Stood asks.takes) (Typed scope a asks)) → All (λ s. (asks : Asks) → Keeps (Stood asks.takes) (Typed scope s.part asks)) ss
+  sum_keeps : (a : Expr) (ss : List SumPart) → ((asks : Asks) → Keeps (Stood asks.takes) (Typed scope a asks)) → 1 ≤ length ss → All (λ s. (asks : Asks) → Keeps (Stood asks.takes) (Typed scope s.part asks)) ss
       → (beside : Option ColType) → Keeps Sound (ChainBeside (Typed scope) (λ s. Typed scope s.part) summand_of (λ q. q.part.kind) (λ e qs. form.Sum e qs) a ss beside)
-  sum_keeps a ss left others beside =
+  sum_keeps a ss left some others beside =
       followed (Stood Whole) Sound (Typed scope a (asks_number beside)) (Parts (λ s. Typed scope s.part) summand_of (λ q. q.part.kind) (λ e qs. form.Sum e qs) ss) (left (asks_number beside))
-      (λ x. made (IsChain (λ (q : TypedSumPart). q.part) (λ (s : SumPart). Typed scope s.part) summand_of (λ s e. refl) x.kind) (λ final t. Stood Whole final x → Sound final t)
+      (λ x. made (IsChain (λ (q : TypedSumPart). q.part) (λ (s : SumPart). Typed scope s.part) summand_of (λ s e. refl) ss x.kind) (λ final t. Stood Whole final x → Sound final t)
       (λ (y : ColType × List TypedSumPart). typed y.0 (form.Sum x y.1)) (Others (λ s. Typed scope s.part) summand_of (λ q. q.part.kind) x.kind ss)
       (others_keep (λ (q : TypedSumPart). q.part) (λ (s : SumPart). Typed scope s.part) summand_of (λ s e. refl) ss others x.kind)
-      (λ y final chain first. ap (λ (k : ColType). is_sound (names_at final) (typed k (form.Sum x y.1))) chain.0 ∙ sum_sound (names_at final) x y.1 first chain.1))
+      (λ y final chain first. ap (λ (k : ColType). is_sound (names_at final) (typed k (form.Sum x y.1))) chain.0 ∙ sum_sound (names_at final) x y.1 first (subst (λ (n : ℕ). 1 ≤ n) (sym chain.2) some) chain.1))
 
-  product_keeps : (a : Expr) (ps : List ProductPart) → ((asks : Asks) → Keeps (Stood asks.takes) (Typed scope a asks)) → All (λ p. (asks : Asks) → Keeps (Stood asks.takes) (Typed scope p.part asks)) ps
+  product_keeps : (a : Expr) (ps : List ProductPart) → ((asks : Asks) → Keeps (Stood asks.takes) (Typed scope a asks)) → 1 ≤ length ps → All (λ p. (asks : Asks) → Keeps (Stood asks.takes) (Typed scope p.part asks)) ps
       → (beside : Option ColType) → Keeps Sound (ChainBeside (Typed scope) (λ p. Typed scope p.part) factor_of (λ q. q.part.kind) (λ e qs. form.Product e qs) a ps beside)
-  product_keeps a ps left others beside =
+  product_keeps a ps left some others beside =
       followed (Stood Whole) Sound (Typed scope a (asks_number beside)) (Parts (λ p. Typed scope p.part) factor_of (λ q. q.part.kind) (λ e qs. form.Product e qs) ps) (left (asks_number beside))
-      (λ x. made (IsChain (λ (q : TypedProductPart). q.part) (λ (p : ProductPart). Typed scope p.part) factor_of (λ p e. refl) x.kind) (λ final t. Stood Whole final x → Sound final t)
+      (λ x. made (IsChain (λ (q : TypedProductPart). q.part) (λ (p : ProductPart). Typed scope p.part) factor_of (λ p e. refl) ps x.kind) (λ final t. Stood Whole final x → Sound final t)
       (λ (y : ColType × List TypedProductPart). typed y.0 (form.Product x y.1)) (Others (λ p. Typed scope p.part) factor_of (λ q. q.part.kind) x.kind ps)
       (others_keep (λ (q : TypedProductPart). q.part) (λ (p : ProductPart). Typed scope p.part) factor_of (λ p e. refl) ps others x.kind)
-      (λ y final chain first. ap (λ (k : ColType). is_sound (names_at final) (typed k (form.Product x y.1))) chain.0 ∙ product_sound (names_at final) x y.1 first chain.1))
+      (λ y final chain first. ap (λ (k : ColType). is_sound (names_at final) (typed k (form.Product x y.1))) chain.0 ∙ product_sound (names_at final) x y.1 first (subst (λ (n : ℕ). 1 ≤ n) (sym chain.2) some) chain.1))
 
   module _ {X P S : Type 0} (e_of : X → Expr) (p_of : P → ProductPart) (s_of : S → SumPart) (ex : (x : X) → Good (e_of x)) (py : (p : P) → Good (p_of p).part) (sz : (s : S) → Good (s_of s).part) where
     goods : (xs : List X) → AllByRecursion IsTree (map e_of xs) → (asks : Asks) → All (λ e. Keeps (Stood asks.takes) (Typed scope e asks)) (map e_of xs)
@@ -293,26 +306,29 @@ module _ (scope : Scope) where
     form_keeps : (y : Expr-F X P S) → IsLayer IsTree (λ p. IsTree p.part) (λ s. IsTree s.part) (map-Expr X P S Expr ProductPart SumPart e_of p_of s_of y)
         → (leaf : ColType) → Keeps Sound (Form scope (under scope) (map-Expr X P S Expr ProductPart SumPart e_of p_of s_of y) leaf)
     form_keeps (Expr-F.Or parts) tree leaf =
-        made (λ final ts. All (Stood (Like kind.Bool) final) ts) Sound (λ ts. truth (form.Or ts)) (Each (λ part. Typed scope part asks_bool) (map e_of parts))
-        (each_step (Stood (Like kind.Bool)) (λ part. Typed scope part asks_bool) (map e_of parts) (goods parts tree.1 asks_bool)) (λ ts final all. or_sound (names_at final) ts all)
+        made (λ final ts. All (Stood (Like kind.Bool) final) ts × (length ts ≡ length (map e_of parts))) Sound (λ ts. truth (form.Or ts)) (Each (λ part. Typed scope part asks_bool) (map e_of parts))
+        (each_long (Stood (Like kind.Bool)) (λ part. Typed scope part asks_bool) (map e_of parts) (goods parts tree.1 asks_bool))
+        (λ ts final all. or_sound (names_at final) ts (subst (λ (n : ℕ). 2 ≤ n) (sym all.1) tree.0) all.0)
     form_keeps (Expr-F.And parts) tree leaf =
-        made (λ final ts. All (Stood (Like kind.Bool) final) ts) Sound (λ ts. truth (form.And ts)) (Each (λ part. Typed scope part asks_bool) (map e_of parts))
-        (each_step (Stood (Like kind.Bool)) (λ part. Typed scope part asks_bool) (map e_of parts) (goods parts tree.1 asks_bool)) (λ ts final all. and_sound (names_at final) ts all)
+        made (λ final ts. All (Stood (Like kind.Bool) final) ts × (length ts ≡ length (map e_of parts))) Sound (λ ts. truth (form.And ts)) (Each (λ part. Typed scope part asks_bool) (map e_of parts))
+        (each_long (Stood (Like kind.Bool)) (λ part. Typed scope part asks_bool) (map e_of parts) (goods parts tree.1 asks_bool))
+        (λ ts final all. and_sound (names_at final) ts (subst (λ (n : ℕ). 2 ≤ n) (sym all.1) tree.0) all.0)
     form_keeps (Expr-F.Not x) tree leaf =
         made (Stood (Like kind.Bool)) Sound (λ t. truth (form.Not t)) (Typed scope (e_of x) asks_bool) (ex x tree asks_bool) (λ t final is. not_sound (names_at final) t is)
     form_keeps (Expr-F.IsNull x tests) tree leaf =
         made (Stood Any) Sound (λ t. truth (form.IsNull t tests)) (Typed scope (e_of x) asks_nothing) (ex x tree.0 asks_nothing) (λ t final is. null_sound (names_at final) t tests tree.1 is)
     form_keeps (Expr-F.Compare how x y) tree leaf = compared_keeps how (e_of x) (e_of y) (ex x tree.0) (ex y tree.1)
     form_keeps (Expr-F.Member x negated parts) tree leaf = λ known.
-        among_keeps negated (e_of x) (map e_of parts) (ex x tree.0) (goods parts tree.1.1)
+        among_keeps negated (e_of x) (map e_of parts) (ex x tree.0) tree.1.0 (goods parts tree.1.1)
         (first_kind (own_kind scope known (e_of x) ∷ map (own_kind scope known) (map e_of parts))) known
     form_keeps (Expr-F.Concat parts) tree leaf =
-        made (λ final ts. All (Stood (Like kind.Text) final) ts) Sound (λ ts. typed kind.Text (form.Concat ts)) (Each (λ part. Typed scope part asks_text) (map e_of parts))
-        (each_step (Stood (Like kind.Text)) (λ part. Typed scope part asks_text) (map e_of parts) (goods parts tree.1 asks_text)) (λ ts final all. concat_sound (names_at final) ts all)
+        made (λ final ts. All (Stood (Like kind.Text) final) ts × (length ts ≡ length (map e_of parts))) Sound (λ ts. typed kind.Text (form.Concat ts)) (Each (λ part. Typed scope part asks_text) (map e_of parts))
+        (each_long (Stood (Like kind.Text)) (λ part. Typed scope part asks_text) (map e_of parts) (goods parts tree.1 asks_text))
+        (λ ts final all. concat_sound (names_at final) ts (subst (λ (n : ℕ). 2 ≤ n) (sym all.1) tree.0) all.0)
     form_keeps (Expr-F.Sum x parts) tree leaf = λ known.
-        sum_keeps (e_of x) (map s_of parts) (ex x tree.0) (good_summands parts tree.1.1) (own_of_first (λ s. own_kind scope known s.part) (map s_of parts)) known
+        sum_keeps (e_of x) (map s_of parts) (ex x tree.0) tree.1.0 (good_summands parts tree.1.1) (own_of_first (λ s. own_kind scope known s.part) (map s_of parts)) known
     form_keeps (Expr-F.Product x parts) tree leaf = λ known.
-        product_keeps (e_of x) (map p_of parts) (ex x tree.0) (good_factors parts tree.1.1) (own_of_first (λ p. own_kind scope known p.part) (map p_of parts)) known
+        product_keeps (e_of x) (map p_of parts) (ex x tree.0) tree.1.0 (good_factors parts tree.1.1) (own_of_first (λ p. own_kind scope known p.part) (map p_of parts)) known
     form_keeps (Expr-F.Minus x) tree leaf = negative_keeps (own scope [] (e_of x)).least_int4 (e_of x) (ex x tree)
     form_keeps (Expr-F.Int n) tree leaf = gives Sound (number_of (number_kind n) n) (λ final. number_sound (names_at final) (number_kind n) n)
     form_keeps (Expr-F.Str text) tree leaf = string_keeps leaf text tree

@@ -140,7 +140,11 @@ fn is_of_text(alloc: Global, tables: &Catalogue, made: &Checked, text: &str) -> 
     requires within { IsWithin tables.now }
 {
     match checked(alloc, tables, text) {
-        Some(wanted) => *made == wanted,
+        Some(wanted) => {
+            let holds = *made == wanted;
+            drop(wanted);
+            holds
+        }
         None => false,
     }
 }
@@ -150,7 +154,11 @@ fn is_same(alloc: Global, tables: &Catalogue, made: &Checked, given: &[Given], w
     requires within { IsWithin tables.now }
 {
     match bound(alloc, made, given) {
-        Some(bound) => is_of_text(alloc, tables, &bound, wanted),
+        Some(bound) => {
+            let holds = is_of_text(alloc, tables, &bound, wanted);
+            drop(bound);
+            holds
+        }
         None => false,
     }
 }
@@ -170,7 +178,11 @@ fn is_known_bound(
     given: &[Given],
 ) -> bool {
     match bound(alloc, made, given) {
-        Some(bound) => is_known(tables, others, bare, &bound),
+        Some(bound) => {
+            let holds = is_known(tables, others, bare, &bound);
+            drop(bound);
+            holds
+        }
         None => false,
     }
 }
@@ -196,7 +208,11 @@ fn is_right(alloc: Global, tables: &Catalogue, others: &Catalogue, bare: bool, r
     requires within { IsWithin tables.now }
 {
     match checked(alloc, tables, row.0) {
-        Some(made) => is_told(alloc, tables, others, bare, &made, row),
+        Some(made) => {
+            let holds = is_told(alloc, tables, others, bare, &made, row);
+            drop(made);
+            holds
+        }
         None => false,
     }
 }
@@ -257,7 +273,11 @@ const MISFITS: [(&str, &[Given]); 6] = [
 /// Whether a statement is of the tables, and is not with the values.
 fn is_misfit(alloc: Global, tables: &Catalogue, made: &Checked, given: &[Given]) -> bool {
     match bound(alloc, made, given) {
-        Some(bound) => is_of(tables, made) && !is_of(tables, &bound),
+        Some(bound) => {
+            let holds = is_of(tables, made) && !is_of(tables, &bound);
+            drop(bound);
+            holds
+        }
         None => false,
     }
 }
@@ -267,7 +287,11 @@ fn is_text_of_misfit(alloc: Global, tables: &Catalogue, text: &str, given: &[Giv
     requires within { IsWithin tables.now }
 {
     match checked(alloc, tables, text) {
-        Some(made) => is_misfit(alloc, tables, &made, given),
+        Some(made) => {
+            let holds = is_misfit(alloc, tables, &made, given);
+            drop(made);
+            holds
+        }
         None => false,
     }
 }

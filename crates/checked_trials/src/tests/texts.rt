@@ -20,18 +20,29 @@ pub(crate) fn tables(alloc: Global, schema: &str) -> Option<Catalogue>
     read_schema(alloc, schema.as_bytes()).ok()
 }
 
-/// What a statement is over the tables, where parameters may stand.
-fn checked_of(alloc: Global, tables: &Catalogue, statement: &Statement) -> Option<Checked>
+/// What a statement is over the tables, with these types of parameters; without them none stands.
+fn checked_of(
+    alloc: Global,
+    tables: &Catalogue,
+    statement: &Statement,
+    kinds: Option<&[u32]>,
+) -> Option<Checked>
     requires within { IsWithin tables.now }
 {
     if !is_checked(statement) {
         return None;
     }
-    check(alloc, tables, statement, Some(&[])).ok()
+    check(alloc, tables, statement, kinds).ok()
 }
 
-/// What the one statement of a text is over the tables, where parameters may stand.
-pub(crate) fn checked(alloc: Global, tables: &Catalogue, text: &str) -> Option<Checked>
+/// What the one statement of a text is over the tables, with these types of parameters; without
+/// them none stands.
+pub(crate) fn checked_with(
+    alloc: Global,
+    tables: &Catalogue,
+    text: &str,
+    kinds: Option<&[u32]>,
+) -> Option<Checked>
     requires within { IsWithin tables.now }
 {
     if text.len() > MOST_BYTES {
@@ -39,7 +50,14 @@ pub(crate) fn checked(alloc: Global, tables: &Catalogue, text: &str) -> Option<C
     }
     let statements = read_statements(alloc, text).ok()?;
     match statements.as_slice() {
-        [statement] => checked_of(alloc, tables, statement),
+        [statement] => checked_of(alloc, tables, statement, kinds),
         _ => None,
     }
+}
+
+/// What the one statement of a text is over the tables, where parameters may stand.
+pub(crate) fn checked(alloc: Global, tables: &Catalogue, text: &str) -> Option<Checked>
+    requires within { IsWithin tables.now }
+{
+    checked_with(alloc, tables, text, Some(&[]))
 }

@@ -9,7 +9,7 @@ abbrev pub invariant-all_stand-loop-part : goal.invariant-all_stand-loop-part
 invariant-all_stand-loop-part l = list_all (stands (names_of l.names) l.which) (take l.part-index l.parts) ≡ true
 
 abbrev pub invariant-summands_stand-loop-part : goal.invariant-summands_stand-loop-part
-invariant-summands_stand-loop-part l = list_all (λ s. stands (names_of l.names) Whole s.part) (take l.part-index l.part-items) ≡ true
+invariant-summands_stand-loop-part l = list_all (λ s. stands (names_of l.names) Whole s.part) (take l.part-index l.parts) ≡ true
 
 abbrev pub invariant-factors_stand-loop-part : goal.invariant-factors_stand-loop-part
-invariant-factors_stand-loop-part l = list_all (λ f. stands (names_of l.names) Whole f.part) (take l.part-index l.part-items) ≡ true
+invariant-factors_stand-loop-part l = list_all (λ f. stands (names_of l.names) Whole f.part) (take l.part-index l.parts) ≡ true

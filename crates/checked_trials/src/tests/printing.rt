@@ -1,51 +1,16 @@
 //! Statements checked and written, worked out by hand from the rules.
-ghost use Rattle.std.specs.Prelude.{IfSome};
 ghost use Rattle.schema.specs.Grammar.{IsWithin};
 
-use crate::{AgainFault, checked_again};
-use catalogue::{Catalogue, Checked, check, is_checked, read_schema};
+use crate::tests::texts::{checked_with, tables};
+use catalogue::{Catalogue, Checked};
 use checked_print::print_checked;
-use sql_reader::{SqlFault, read_statements};
-use sql_tree::Statement;
+use checked_round::{AgainFault, checked_again};
+use sql_reader::SqlFault;
 use std::alloc::Global;
 
 const SCHEMA: &str = "CREATE TABLE t (id int4 PRIMARY KEY, v int8, name text, b bool, \
  made timestamptz DEFAULT now());
 CREATE TABLE q (id serial PRIMARY KEY, \"Key\" text NOT NULL DEFAULT 'x');";
-
-/// How many bytes a text may have.
-const MOST_BYTES: usize = 65_536;
-
-/// A statement, checked.
-fn checked_one(
-    alloc: Global,
-    tables: &Catalogue,
-    statement: &Statement,
-    kinds: Option<&[u32]>,
-) -> Option<Checked>
-    requires within { IsWithin tables.now }
-{
-    if !is_checked(statement) {
-        return None;
-    }
-    check(alloc, tables, statement, kinds).ok()
-}
-
-/// The one statement of a text, checked.
-fn checked(alloc: Global, tables: &Catalogue, text: &str, kinds: Option<&[u32]>) -> Option<Checked>
-    requires within { IsWithin tables.now }
-{
-    if text.len() > MOST_BYTES {
-        return None;
-    }
-    let Ok(all) = read_statements(alloc, text) else {
-        return None;
-    };
-    match all.as_slice() {
-        [statement] => checked_one(alloc, tables, statement, kinds),
-        _ => None,
-    }
-}
 
 /// Whether a checked statement is written so.
 fn is_written(alloc: Global, tables: &Catalogue, made: &Checked, wanted: &str) -> bool {
@@ -60,7 +25,11 @@ fn is_read_again(alloc: Global, tables: &Catalogue, made: &Checked, wanted: &str
     requires within { IsWithin tables.now }
 {
     match checked_again(alloc, tables, made) {
-        Ok(again) => is_written(alloc, tables, &again, wanted),
+        Ok(again) => {
+            let is_so = is_written(alloc, tables, &again, wanted);
+            drop(again);
+            is_so
+        }
         Err(_) => false,
     }
 }
@@ -76,24 +45,24 @@ fn is_printed(
 ) -> bool
     requires within { IsWithin tables.now }
 {
-    let Some(made) = checked(alloc, tables, text, kinds) else {
+    let Some(made) = checked_with(alloc, tables, text, kinds) else {
         return false;
     };
-    is_written(alloc, tables, &made, first) && is_read_again(alloc, tables, &made, again)
-}
-
-/// The tables of the schema.
-fn tables(alloc: Global) -> Option<Catalogue>
-    ensures { IfSome result (λ tables. IsWithin tables) }
-{
-    read_schema(alloc, SCHEMA.as_bytes()).ok()
+    let is_so = is_written(alloc, tables, &made, first)
+        && is_read_again(alloc, tables, &made, again);
+    drop(made);
+    is_so
 }
 
 /// The first text over these tables that is not written as it is wanted, and nothing where all are.
-fn wrong_over(alloc: Global, tables: &Catalogue) -> &'static str
+fn wrong_over(
+    alloc: Global,
+    tables: &Catalogue,
+    rows: &[(&'static str, &'static str, &'static str)],
+) -> &'static str
     requires within { IsWithin tables.now }
 {
-    for (text, first, again) in PRINTED {
+    for (text, first, again) in rows {
         if !is_printed(alloc, tables, text, None, first, again) {
             return text;
         }
@@ -103,8 +72,8 @@ fn wrong_over(alloc: Global, tables: &Catalogue) -> &'static str
 
 /// The first text that is not written as it is wanted, and nothing where all are.
 fn first_wrong(alloc: Global) -> &'static str {
-    match tables(alloc) {
-        Some(tables) => wrong_over(alloc, &tables),
+    match tables(alloc, SCHEMA) {
+        Some(tables) => wrong_over(alloc, &tables, &PRINTED),
         None => "the schema is not read",
     }
 }
@@ -112,7 +81,7 @@ fn first_wrong(alloc: Global) -> &'static str {
 /// Whether a text with two parameters, an int4 and an int8, is written so, and so where it is read
 /// again.
 fn is_printed_with_two(alloc: Global, text: &str, first: &str, again: &str) -> bool {
-    match tables(alloc) {
+    match tables(alloc, SCHEMA) {
         Some(tables) => is_printed(alloc, &tables, text, Some(&[23, 20]), first, again),
         None => false,
     }
@@ -222,16 +191,19 @@ const DEEP: &str = "SELECT NOT NOT NOT NOT NOT NOT NOT NOT NOT NOT NOT NOT NOT N
 fn is_too_long(alloc: Global, tables: &Catalogue, text: &str) -> bool
     requires within { IsWithin tables.now }
 {
-    let Some(made) = checked(alloc, tables, text, None) else {
+    let Some(made) = checked_with(alloc, tables, text, None) else {
         return false;
     };
     let again = checked_again(alloc, tables, &made);
-    matches!(again, Err(AgainFault::Text(SqlFault::TooLong)))
+    drop(made);
+    let is_so = matches!(again, Err(AgainFault::Text(SqlFault::TooLong)));
+    drop(again);
+    is_so
 }
 
 /// Whether the text of what DEEP is checked as passes a limit.
 fn deep_is_too_long(alloc: Global) -> bool {
-    match tables(alloc) {
+    match tables(alloc, SCHEMA) {
         Some(tables) => is_too_long(alloc, &tables, DEEP),
         None => false,
     }

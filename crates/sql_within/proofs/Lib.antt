@@ -1,0 +1,5 @@
+pub mod Clean
+mod Names
+pub mod Pieces
+pub mod Stopped
+pub mod Told
