@@ -221,7 +221,13 @@ fn large(alloc: Global, tables: u32, columns: u32) -> Result<String, Fail> {
 }
 
 /// Numbers of tables and of their columns, and the lines of the first faults.
-const LARGE: [(u32, u32, u32); 3] = [(64, 32, 0), (65, 1, 65), (1, 33, 33)];
+const LARGE: [(u32, u32, u32); 5] = [
+    (64, 32, 0),
+    (65, 1, 65),
+    (66, 1, 65),
+    (1, 33, 33),
+    (1, 34, 33),
+];
 
 #[test]
 fn a_schema_has_64_tables_of_32_columns_and_no_more(rt: HostRuntime) -> Result<(), Fail> {
