@@ -1,11 +1,11 @@
 -- The laws of rows and of changes laid over them.
-use Rattle.std.proofs.Common.{◌≡◌, ℕ, Bool, true, false, List, [], ◌∷◌, refl, sym, ap, ◌∙◌}
+use Rattle.std.proofs.Common.{◌≡◌, Bool, true, false, List, [], ◌∷◌, refl, sym, ap, ◌∙◌}
 use Rattle.std.specs.Prelude.{Option, Some, None, cond}
 use Rattle.std.specs.FinMap as fin
 use Rattle.std.specs.FinMap.{find}
-use Rattle.backend_trait.specs.declared.row.Row.{Row}
+use Rattle.sql_eval.specs.declared.row.Row.{Row}
 use Rattle.backend_trait.specs.Keys.{Place, place_order, is_place}
-use Rattle.backend_trait.specs.Rows.{Rows, Changes, no_rows, no_changes, changed_at, all_changed, laid_over, all_joined, joined_changes}
+use Rattle.backend_trait.specs.Rows.{Rows, Changes, no_changes, changed_at, all_changed, laid_over, all_joined, joined_changes}
 use Rattle.backend_trait.proofs.KeyLaws.{place_total, place_antisymmetric}
 
 -- the changed row where there is a change, else the row below

@@ -1,11 +1,7 @@
 -- The table of answers: which a store may give to which request, and where.
 use Rattle.std.specs.Prelude.{◌≡◌, ◌≢◌, ◌⊎◌, ℕ, ℤ, pos, ◌<◌, ◌≤◌, ◌≤ℤ◌, Bool, true, false, List, [], ◌∷◌, Option, Some, None, codes}
 use Rattle.pool_base.specs.declared.code.Code.{Code}
-use Rattle.pg_values.specs.declared.value.Value.{Value}
-use Rattle.pg_values.specs.declared.value.Value.TheVariants as values
-use Rattle.backend_trait.specs.declared.row.Row.{Row}
-use Rattle.backend_trait.specs.declared.checked.Checked.{Checked}
-use Rattle.backend_trait.specs.declared.checked.Checked.TheVariants.{Insert, Select}
+use Rattle.catalogue.specs.declared.checked.Checked.{Checked}
 use Rattle.backend_trait.specs.declared.request.Request.{Request}
 use Rattle.backend_trait.specs.declared.request.Request.TheVariants as requests
 use Rattle.backend_trait.specs.declared.answer.Answer.{Answer}
@@ -14,8 +10,9 @@ use Rattle.backend_trait.specs.declared.answer.Polled.{Polled}
 use Rattle.backend_trait.specs.declared.answer.Polled.TheVariants as polls
 use Rattle.backend_trait.specs.Keys.{Place}
 use Rattle.backend_trait.specs.Rows.{with_at}
-use Rattle.backend_trait.specs.Effect.{Wants, nothing, both_wants, Conflicts, Given, Fails, Gives, effect_of, table_in}
-use Rattle.backend_trait.specs.Store.{Live, Transaction, Absent, Alive, Dead, Pending, Store, WhereLive, view_of, held_by, table_lock, acted, lost_by, line_of, line_acted}
+use Rattle.backend_trait.specs.Effect.{Wants, nothing, both_wants, these_places, has_place, has_lock_of, Conflicts, Given, Fails, Gives, effect_of, table_in}
+use Rattle.backend_trait.specs.Runnable.{is_of_run}
+use Rattle.backend_trait.specs.Store.{Live, Transaction, Absent, Alive, Dead, Pending, Store, WhereLive, view_of, next_for, held_by, table_lock, acted, lost_by, line_of, line_acted}
 
 -- a count rose, or stands where it can rise no more
 abbrev pub Rose : ℕ → ℕ → Type 0
@@ -30,10 +27,10 @@ IsTaken st s wants = (o : ℕ) × (o ≢ s) × Conflicts wants (held_by (st.tran
 
 -- no wanted place is stale, and: one is
 abbrev pub IsFresh : Wants → Live → Type 0
-IsFresh wants t = (p : Place) → wants.places p ≡ true → t.stale p ≡ false
+IsFresh wants t = (p : Place) → has_place wants p ≡ true → t.stale p ≡ false
 
 abbrev pub IsStale : Wants → Live → Type 0
-IsStale wants t = (p : Place) × (wants.places p ≡ true) × (t.stale p ≡ true)
+IsStale wants t = (p : Place) × (has_place wants p ≡ true) × (t.stale p ≡ true)
 
 -- the store's own want of memory
 abbrev pub IsOutOfMemory : Code → Type 0
@@ -42,22 +39,22 @@ IsOutOfMemory code = code.bytes ≡ codes "53200"
 -- a result comes where there is no code, nothing wanted is stale, and nobody else holds it
 abbrev pub MayGive : Store → ℕ → Live → Answer → Given → Type 0
 MayGive st s t answer (Fails code) = ⊥
-MayGive st s t answer (Gives result changes wants) = (answer ≡ result) × IsFresh wants t × IsFree st s wants
+MayGive st s t answer (Gives result changes places) = (answer ≡ result) × IsFresh (these_places places) t × IsFree st s (these_places places)
 
 -- a refusal: the effect's code, a stale place, a deadlock where another has crossed, or want of memory
-abbrev pub MayRefuse : Type 0 → Live → ℕ → Code → Given → Type 0
+abbrev pub MayRefuse : Type 0 → Live → Option ℕ → Code → Given → Type 0
 MayRefuse crossed t table code (Fails bytes) = (code.bytes ≡ bytes) ⊎ IsOutOfMemory code
-MayRefuse crossed t table code (Gives result changes wants) =
-    ((code.bytes ≡ codes "40001") × IsStale wants t)
-    ⊎ (((code.bytes ≡ codes "40P01") × crossed × (t.held.tables table ≡ false)) ⊎ IsOutOfMemory code)
+MayRefuse crossed t table code (Gives result changes places) =
+    ((code.bytes ≡ codes "40001") × IsStale (these_places places) t)
+    ⊎ (((code.bytes ≡ codes "40P01") × crossed × (has_lock_of t.held table ≡ false)) ⊎ IsOutOfMemory code)
 
 abbrev pub given_of : Store → Checked → Live → Given
-given_of st checked t = (effect_of checked (view_of t) (st.next (table_in checked))).given
+given_of st checked t = (effect_of st.tables checked (view_of t) (next_for st.next (table_in checked))).given
 
 -- what a session's request asks for: what its result wants, or the lock of its table
 abbrev pub wants_in : Given → Wants
 wants_in (Fails code) = nothing
-wants_in (Gives result changes wants) = wants
+wants_in (Gives result changes places) = these_places places
 
 abbrev pub wants_of_run : Store → Checked → Transaction → Wants
 wants_of_run st checked Absent = nothing
@@ -76,7 +73,7 @@ asked_by st s (requests.SetSerial table n) = nothing
 -- whether the session has the lock of the table that its request is for
 abbrev pub has_lock : Store → ℕ → Request → Bool
 has_lock st s requests.TakeSnapshot = false
-has_lock st s (requests.Run checked) = (held_by (st.transaction s)).tables (table_in checked)
+has_lock st s (requests.Run checked) = has_lock_of (held_by (st.transaction s)) (table_in checked)
 has_lock st s (requests.Lock table) = (held_by (st.transaction s)).tables table
 has_lock st s requests.Commit = false
 has_lock st s requests.Rollback = false
@@ -168,7 +165,7 @@ Acts old s polls.NoMemory new = new ≡ old
 -- a run or a lock has to wait: it has no code, nothing that it wants is stale, and another holds it
 abbrev pub MustWaitRun : Store → ℕ → Live → Given → Type 0
 MustWaitRun st s t (Fails code) = ⊥
-MustWaitRun st s t (Gives result changes wants) = IsFresh wants t × IsTaken st s wants
+MustWaitRun st s t (Gives result changes places) = IsFresh (these_places places) t × IsTaken st s (these_places places)
 
 abbrev pub MustWait : Store → ℕ → Request → Type 0
 MustWait st s requests.TakeSnapshot = ⊥
@@ -187,7 +184,7 @@ WhereSome (Some x) P = P x
 -- stale, and the other holds what conflicts
 abbrev pub WaitsInRun : Wants → Live → Given → Type 0
 WaitsInRun held t (Fails code) = ⊥
-WaitsInRun held t (Gives result changes wants) = IsFresh wants t × Conflicts wants held
+WaitsInRun held t (Gives result changes places) = IsFresh (these_places places) t × Conflicts (these_places places) held
 
 abbrev pub WaitsIn : Store → ℕ → Wants → Request → Type 0
 WaitsIn st s held requests.TakeSnapshot = ⊥
@@ -240,28 +237,10 @@ IsPromptly st s polls.NotYet = (st.lost ≡ false) × WhereSome (st.pending s) (
 IsPromptly st s polls.Lost = Unit {0}
 IsPromptly st s polls.NoMemory = ⊥
 
--- a row of table 0: an int4 and an int8, or Null
-abbrev pub IsInt4 : Value → Type 0
-IsInt4 value = (value ≡ values.Null) ⊎ ((n : ℤ) × (value ≡ values.Int4 n))
-
-abbrev pub IsInt8 : Value → Type 0
-IsInt8 value = (value ≡ values.Null) ⊎ ((n : ℤ) × (value ≡ values.Int8 n))
-
-abbrev pub HasColumns : Row → Type 0
-HasColumns row = (id : Value) × (v : Value) × (row.cells ≡ id ∷ v ∷ []) × IsInt4 id × IsInt8 v
-
-abbrev pub HaveColumns : List Row → Type 0
-HaveColumns [] = Unit {0}
-HaveColumns (row ∷ rows) = HasColumns row × HaveColumns rows
-
 -- the form of an answer to a request
-abbrev pub IsOfRun : Checked → Answer → Type 0
-IsOfRun (Insert key value) answer = ((n : ℕ) × (answer ≡ answers.Count n)) ⊎ ((code : Code) × (answer ≡ answers.Refused code))
-IsOfRun (Select key) answer = ((rows : List Row) × HaveColumns rows × (answer ≡ answers.Rows rows)) ⊎ ((code : Code) × (answer ≡ answers.Refused code))
-
 abbrev pub IsOf : Request → Answer → Type 0
 IsOf requests.TakeSnapshot answer = (answer ≡ answers.Began) ⊎ ((code : Code) × (answer ≡ answers.Refused code))
-IsOf (requests.Run checked) answer = IsOfRun checked answer
+IsOf (requests.Run checked) answer = is_of_run checked answer ≡ true
 IsOf (requests.Lock table) answer = (answer ≡ answers.Locked) ⊎ ((code : Code) × (answer ≡ answers.Refused code))
 IsOf requests.Commit answer = IsDone answer
 IsOf requests.Rollback answer = IsDone answer
@@ -274,12 +253,18 @@ pub record InFormAnswer (old : Store) (s : ℕ) (answer : Answer) (new : Store) 
   pub pending : Pending
   pub was : old.pending s ≡ Some pending
   pub form : IsOf pending.request answer
+  pub tables : new.tables ≡ old.tables
   pub lines : (o : ℕ) → line_of new o ≡ with_at (line_of old) s (line_acted (line_of old s) pending.request answer) o
   pub not_lost : old.lost ≡ false
   pub stays : new.lost ≡ false
 
+-- no answer: the tables and the lines are the same
+pub record IsUnanswered (old new : Store) : Type 0 where
+  pub tables : new.tables ≡ old.tables
+  pub lines : (o : ℕ) → line_of new o ≡ line_of old o
+
 abbrev pub InForm : Store → ℕ → Polled → ℕ → ℕ → Store → Type 0
 InForm old s (polls.Answered answer) before after new = InFormAnswer old s answer new
-InForm old s polls.NotYet before after new = ((o : ℕ) → line_of new o ≡ line_of old o) × (new.lost ≡ old.lost)
-InForm old s polls.Lost before after new = ((o : ℕ) → line_of new o ≡ line_of old o) × (new.lost ≡ true) × Rose before after
-InForm old s polls.NoMemory before after new = ((o : ℕ) → line_of new o ≡ line_of old o) × (new.lost ≡ old.lost)
+InForm old s polls.NotYet before after new = IsUnanswered old new × (new.lost ≡ old.lost)
+InForm old s polls.Lost before after new = IsUnanswered old new × (new.lost ≡ true) × Rose before after
+InForm old s polls.NoMemory before after new = IsUnanswered old new × (new.lost ≡ old.lost)

@@ -1,7 +1,7 @@
 -- Committed rows, and changes laid over them.
 use Rattle.std.specs.Prelude.{ℕ, ◌==◌, if◌then◌else◌, List, [], ◌∷◌, Option, Some, None, filter, map}
 use Rattle.std.specs.FinMap as fin
-use Rattle.backend_trait.specs.declared.row.Row.{Row}
+use Rattle.sql_eval.specs.declared.row.Row.{Row}
 use Rattle.backend_trait.specs.Keys.{Place, place_order}
 
 -- f, but with value x at i

@@ -1,12 +1,12 @@
 //! What a backend answers.
 ghost use Rattle.std.specs.Prelude.{◌≡◌};
 
-use crate::row::Row;
 use pool_base::{Code, List};
+use sql_eval::Row;
 use std::alloc::AllocError;
 
 /// What a backend answers to a request.
-#[derive(Debug, PartialEq, Eq, Drop)]
+#[derive(PartialEq, Eq, Drop)]
 pub enum Answer {
     /// A transaction has begun.
     Began,
@@ -38,7 +38,7 @@ impl Clone for Answer {
 }
 
 /// What a look for the answer finds.
-#[derive(Debug, PartialEq, Eq, Drop)]
+#[derive(PartialEq, Eq, Drop)]
 pub enum Polled {
     Answered(Answer),
     /// The request waits.

@@ -1,13 +1,16 @@
 //! The trait of backends.
-ghost use Rattle.std.specs.Prelude.{◌≡◌, ◌≤◌, ℕ, ℤ, Bool, true, None, IfOk, IsSome};
-ghost use Rattle.backend_trait.specs.Store.{Store, posted_by, lost_by, MayPost, line_of};
+ghost use Rattle.std.specs.Prelude.{◌≡◌, ◌≤◌, ℕ, ℤ, Bool, true, None, IfOk, OnOk, OnErr, IsSome};
+ghost use Rattle.schema_print.specs.Allowed.{AreAllowed};
+ghost use Rattle.schema_print.specs.Printed.{AreInRange};
+ghost use Rattle.backend_trait.specs.Store.{Store, blank, prepared, posted_by, lost_by, MayPost, line_of};
 ghost use Rattle.backend_trait.specs.Acts.{InForm, Acts, IsPromptly};
 ghost use Rattle.backend_trait.specs.Rows.{rows_in};
 
 use crate::answer::Polled;
 use crate::request::{Posted, Request};
-use crate::row::Row;
+use catalogue::Catalogue;
 use pool_base::{List, NoMemory, SessionId};
+use sql_eval::Row;
 
 /// A database with all its sessions.
 ///
@@ -24,6 +27,18 @@ pub trait Backend: Drop {
     ghost is_prompt: { Self → Bool };
 
     ghost is_steady: { Self → Bool };
+
+    /// Gives a blank store the tables of a catalogue, without rows.
+    fn prepare(&mut self, catalogue: &Catalogue) -> Result<(), NoMemory>
+        requires blank { meaning self.old ≡ blank }
+        requires in_range { AreInRange catalogue.now }
+        requires allowed { AreAllowed catalogue.now }
+        ensures prepared { OnOk result (meaning self.new ≡ prepared catalogue.now) }
+        ensures unchanged { OnErr result (meaning self.new ≡ meaning self.old) }
+        ensures count { count self.old ≤ count self.new }
+        ensures honest { is_honest self.new ≡ is_honest self.old }
+        ensures prompt { is_prompt self.new ≡ is_prompt self.old }
+        ensures steady { is_steady self.new ≡ is_steady self.old };
 
     /// Puts a request of a session.
     fn post(&mut self, s: SessionId, request: Request) -> Posted
@@ -68,7 +83,8 @@ pub trait Backend: Drop {
     fn rows_of(&self, table: u8) -> Result<List<Row>, NoMemory>
         ensures { IfOk result (λ rows. rows ≡ rows_in (meaning self.now).rows table) };
 
-    /// The next number of a table's serial column. None: it has no such column.
+    /// The next number of a table's serial column. None: it has no such column, or keeps no number
+    /// of it.
     fn serial_of(&self, table: u8) -> Option<i64>
         ensures { result ≡ (meaning self.now).next table };
 
@@ -88,6 +104,10 @@ impl Backend for Box<dyn Backend> {
     ghost is_prompt = { λ b. (Backend-box b).is_prompt b.value };
 
     ghost is_steady = { λ b. (Backend-box b).is_steady b.value };
+
+    fn prepare(&mut self, catalogue: &Catalogue) -> Result<(), NoMemory> {
+        (**self).prepare(catalogue)
+    }
 
     fn post(&mut self, s: SessionId, request: Request) -> Posted {
         (**self).post(s, request)

@@ -4,15 +4,17 @@
 
 mod answer;
 mod backend;
-mod checked;
+mod draws;
+mod given;
 mod request;
-mod row;
+mod runnable;
+mod timeless;
 
 pub use answer::{Answer, Polled};
 pub use backend::Backend;
-pub use checked::Checked;
+pub use catalogue::{Catalogue, Checked};
+pub use draws::{draws_few, next_behind};
+pub use given::is_of_run;
 pub use request::{Posted, Request};
-pub use row::Row;
-
-#[cfg(test)]
-mod tests;
+pub use runnable::is_runnable;
+pub use sql_eval::Row;

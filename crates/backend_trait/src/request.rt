@@ -1,12 +1,13 @@
 //! What a session asks of a backend.
 
-use crate::checked::Checked;
+use catalogue::Checked;
 
 /// What a session asks of a backend.
-#[derive(Debug, PartialEq, Eq, Drop)]
+#[derive(PartialEq, Eq, Drop)]
 pub enum Request {
     /// Begin a transaction on the committed rows as they are at that moment.
     TakeSnapshot,
+    /// Run a statement that has neither parameters nor time functions.
     Run(Checked),
     /// Take the lock of a table.
     Lock(u8),
@@ -18,7 +19,7 @@ pub enum Request {
 }
 
 /// What became of a request at its post.
-#[derive(Debug, PartialEq, Eq, Drop)]
+#[derive(PartialEq, Eq, Drop)]
 pub enum Posted {
     /// It is pending until its answer.
     Accepted,

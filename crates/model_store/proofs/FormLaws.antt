@@ -1,15 +1,11 @@
 -- An answer that is granted leaves each session's standing, locks and request as its form says.
-use Rattle.std.proofs.Common.{◌≡◌, ◌≢◌, ℕ, ℤ, Bool, true, false, ◌||◌, ◌==◌, if◌then◌else◌, List, refl, sym, ap, ◌∙◌, subst, inl, inr}
-use Rattle.std.specs.Prelude.{Option, Some, None, option_to_list}
-use Rattle.std.specs.FinMap as fin
+use Rattle.std.proofs.Common.{◌≡◌, ◌≢◌, ℕ, true, ◌||◌, ◌==◌, if◌then◌else◌, refl, sym, ap, ◌∙◌, inl, inr}
+use Rattle.std.specs.Prelude.{None}
 use Rattle.std.proofs.lemmas.Bool.Decides.{eqb_tells}
-use Rattle.backend_trait.specs.declared.row.Row.{Row}
-use Rattle.backend_trait.specs.declared.request.Request.TheVariants as requests
-use Rattle.backend_trait.specs.declared.checked.Checked.TheVariants as checked
-use Rattle.backend_trait.specs.declared.answer.Answer.TheVariants as answers
-use Rattle.backend_trait.specs.Rows.{with_at, no_changes}
-use Rattle.backend_trait.specs.Effect.{Given, Fails, Gives, nothing, effect_of, insert_given, place_of}
-use Rattle.backend_trait.specs.Store.{Live, Transaction, Absent, Alive, Dead, Store, WhereLive, Line, HasNone, IsLive, IsDead, line_of, line_answered, idle_line, no_locks, standing_of, request_in, held_by, settled, begun, given_to, view_of, made_stale, where_live, committed_by, answered}
+use Rattle.backend_trait.specs.Rows.{with_at}
+use Rattle.backend_trait.specs.Effect.{Given, Fails, Gives}
+use Rattle.backend_trait.specs.Acts.{given_of}
+use Rattle.backend_trait.specs.Store.{Live, Transaction, Absent, Alive, Dead, Store, WhereLive, Line, HasNone, IsLive, line_of, line_answered, idle_line, no_locks, standing_of, request_in, held_by, settled, begun, given_to, made_stale, where_live, committed_by, answered}
 use Rattle.model_store.specs.declared.phase.Waiting.{Waiting}
 use Rattle.model_store.specs.declared.phase.Waiting.TheVariants as waits
 use Rattle.model_store.specs.Phases.{request_of, with_lock}
@@ -56,9 +52,9 @@ committed_lines st s t =
     let stay : line_by (with_at g s Absent o) ≡ line_by (st.transaction o) = ap line_by (with_at-other g s Absent o other) ∙ stale_line (made_stale t.changes) (λ u. refl) (st.transaction o) in
     λ i. record { standing = (stay i).standing; locks = (stay i).locks; waits = request_in (with_at-other st.pending s None o other i) })
 
-insert_tables : (key value : ℤ) (o : Option Row) (t : Live) → (given_to (insert_given key value o) t).held.tables ≡ t.held.tables
-insert_tables key value None t = refl
-insert_tables key value (Some row) t = refl
+given_tables : (given : Given) (t : Live) → (given_to given t).held.tables ≡ t.held.tables
+given_tables (Fails code) t = refl
+given_tables (Gives answer changes places) t = refl
 
 lock_line : (table : ℕ) (x : Transaction) (P : Live → Type 0) → WhereLive x P → line_by (where_live (with_lock table) x) ≡ idle_line (standing_of x) (λ n. (n == table) || (held_by x).tables n)
 lock_line table Absent P h = absurd h
@@ -72,17 +68,15 @@ live_is Dead P h = absurd h
 
 pub granted_lines : (st : Store) (s : ℕ) (waiting : Waiting) → (wants_live waiting ≡ true → WhereLive (st.transaction s) (λ t. Unit {0}))
     → (o : ℕ) → line_of (answered st s (request_of waiting)) o ≡ with_at (line_of st) s (line_answered (line_of st s) (request_of waiting)) o
-unfolding effect_of
 granted_lines st s waits.Snapshot live = settled_lines st s (Alive (begun st.rows)) (idle_line IsLive no_locks) refl
-granted_lines st s (waits.Insert change) live =
-    let f : Live → Live = λ t. given_to (insert_given change.key change.value (fin.get (view_of t) (place_of change.key))) t in
-    settled_lines st s (where_live f (st.transaction s)) (line_by (st.transaction s)) (stale_line f (λ t. insert_tables change.key change.value (fin.get (view_of t) (place_of change.key)) t) (st.transaction s))
-granted_lines st s (waits.Select key room) live =
-    let f : Live → Live = λ t. given_to (Gives (answers.Rows (option_to_list (fin.get (view_of t) (place_of key)))) no_changes nothing) t in
-    settled_lines st s (where_live f (st.transaction s)) (line_by (st.transaction s)) (stale_line f (λ t. refl) (st.transaction s))
+granted_lines st s (waits.Run run) live =
+    let f : Live → Live = λ t. given_to (given_of st run.statement t) t in
+    settled_lines st s (where_live f (st.transaction s)) (line_by (st.transaction s)) (stale_line f (λ t. given_tables (given_of st run.statement t) t) (st.transaction s))
 granted_lines st s (waits.Lock table) live =
     settled_lines st s (where_live (with_lock table) (st.transaction s)) (idle_line (standing_of (st.transaction s)) (λ n. (n == table) || (held_by (st.transaction s)).tables n)) (lock_line table (st.transaction s) (λ t. Unit {0}) (live refl))
 granted_lines st s waits.Commit live =
     let there = live_is (st.transaction s) (λ t. Unit {0}) (live refl) in
     λ o. ap (λ (x : Transaction). line_of (committed_by st s x) o) there.1 ∙ committed_lines st s there.0 o
 granted_lines st s waits.Rollback live = settled_lines st s Absent (idle_line HasNone no_locks) refl
+granted_lines st s (waits.ReadSerial table) live = settled_lines st s (st.transaction s) (line_by (st.transaction s)) refl
+granted_lines st s (waits.SetSerial table n) live = settled_lines st s (st.transaction s) (line_by (st.transaction s)) refl

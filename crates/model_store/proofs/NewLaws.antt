@@ -1,13 +1,27 @@
 -- Seats that nobody has taken.
-use Rattle.std.proofs.Common.{◌≡◌, ℕ, zero, suc, ◌≤◌, List, [], ◌∷◌, ◌++◌, length, refl, sym, ap, ◌∙◌, arith}
-use Rattle.std.specs.Prelude.{Option, Some, None, false, slice_get}
-use Rattle.backend_trait.specs.Store.{Absent, blank}
-use Rattle.model_store.specs.declared.change.ChangeSet.{ChangeSet}
+use Rattle.std.proofs.Common.{◌≡◌, ℕ, zero, suc, ◌≤◌, List, [], ◌∷◌, ◌++◌, refl, sym, ap, ◌∙◌, subst, arith}
+use Rattle.std.specs.Prelude.{ℤ, Option, None, false, slice_get}
+use Rattle.backend_trait.specs.Store.{Absent, blank, prepared}
+use Rattle.outcomes.specs.declared.change.ChangeSet.{ChangeSet}
+use Rattle.std.specs.Str.{IsUtf8}
+use Rattle.schema.specs.declared.catalogue.TableDef.{TableDef}
+use Rattle.schema.specs.Reading.{Says}
+use Rattle.schema_print.specs.Allowed.{AreAllowed}
+use Rattle.schema_print.proofs.Again.{says_again}
 use Rattle.model_store.specs.declared.phase.Phase.TheVariants as phases
+use Rattle.model_store.specs.declared.phase.Waiting.{Waiting}
 use Rattle.model_store.specs.declared.seat.Seat.{Seat}
-use Rattle.model_store.specs.Phases.{transaction_of, pending_of, mark_of, owed}
-use Rattle.model_store.specs.Log.{rows_of}
-use Rattle.model_store.specs.Seats.{transaction_in, pending_in, store_of, mark_in, all_owed}
+use Rattle.model_store.specs.Phases.{transaction_of, pending_of, mark_of, owed, IsGivenAt}
+use Rattle.model_store.specs.Stored.{AreStoredIn, AreStoredAt}
+use Rattle.outcomes.specs.Log.{rows_of}
+use Rattle.model_store.specs.Seats.{transaction_in, pending_in, store_of, mark_in, all_owed, AreGiven}
+
+-- no text says no tables, and a schema can have them
+pub none_allowed : AreAllowed []
+none_allowed = (omega arith, tt)
+
+pub says_none : IsUtf8 [] → Says [] []
+says_none valid = says_again [] [] valid refl none_allowed
 
 abbrev pub AreAbsent : List Seat → Type 0
 AreAbsent [] = Unit {0}
@@ -39,11 +53,24 @@ absent_pending (x ∷ xs) all zero = ap pending_of all.1
 absent_pending (x ∷ xs) all (suc s) = absent_pending xs all.2 s
 
 -- a new store is blank
-pub absent_blank : (log : List ChangeSet) (xs : List Seat) → log ≡ [] → AreAbsent xs → store_of log xs false ≡ blank
-absent_blank log xs none all = λ i. record {
+pub absent_blank : (numbers : ℕ → Option ℤ) (tables : List TableDef) (log : List ChangeSet) (xs : List Seat) → numbers ≡ (prepared tables).next → tables ≡ [] → log ≡ [] → AreAbsent xs → store_of numbers tables log xs false ≡ blank
+absent_blank numbers tables log xs first no_tables none all = λ i. record {
+  tables = no_tables i;
   rows = rows_of (none i);
-  next = λ t. None;
+  next = (first ∙ ap (λ (ts : List TableDef). (prepared ts).next) no_tables) i;
   transaction = λ s. absent_transaction log xs all s i;
   pending = λ s. absent_pending xs all s i;
   lost = false;
 }
+
+-- no transaction has anything of its own, and no statement waits
+pub absent_stored : (tables : List TableDef) (xs : List Seat) → AreAbsent xs → (s : ℕ) → AreStoredAt tables (slice_get xs s)
+absent_stored tables [] all s = tt
+absent_stored tables (x ∷ xs) all zero = subst (AreStoredIn tables) (sym all.0) tt
+absent_stored tables (x ∷ xs) all (suc s) = absent_stored tables xs all.2 s
+
+pub absent_given : (numbers : ℕ → Option ℤ) (tables : List TableDef) (log : List ChangeSet) (xs : List Seat) → AreAbsent xs → AreGiven numbers tables log xs
+absent_given numbers tables log [] all s = tt
+absent_given numbers tables log (x ∷ xs) all zero =
+    subst (λ (w : Option Waiting). IsGivenAt numbers tables log x.phase w) (sym all.1) tt
+absent_given numbers tables log (x ∷ xs) all (suc s) = absent_given numbers tables log xs all.2 s

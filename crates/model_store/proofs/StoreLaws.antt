@@ -1,24 +1,25 @@
 -- What granting and refusing leave of the store that a log and seats mean.
-use Rattle.std.proofs.Common.{◌≡◌, ◌≢◌, ℕ, ℤ, zero, suc, ◌+◌, ◌<◌, ◌≤◌, Bool, true, false, not, ◌||◌, ◌==◌, if◌then◌else◌, List, [], ◌∷◌, ◌++◌, length, take, drop, get_or, refl, sym, ap, ◌∙◌, subst, arith, inl, inr}
-use Rattle.std.specs.Prelude.{Option, Some, None, option_to_list, slice_get, slice_set}
-use Rattle.std.specs.FinMap as fin
+use Rattle.std.proofs.Common.{◌≡◌, ◌≢◌, ℕ, zero, suc, ◌+◌, ◌<◌, ◌≤◌, Bool, true, false, not, ◌||◌, if◌then◌else◌, List, [], ◌∷◌, ◌++◌, length, take, drop, refl, sym, ap, ◌∙◌, subst, arith, inl, inr}
+use Rattle.std.specs.Prelude.{ℤ, is_some, Option, Some, None, slice_get, slice_set}
 use Rattle.std.proofs.lemmas.Bool.Decides.{eqb_tells}
 use Rattle.std.proofs.lemmas.List.{take-append-le, drop-append-le}
-use Rattle.backend_trait.specs.declared.row.Row.{Row}
 use Rattle.backend_trait.specs.declared.request.Request.{Request}
 use Rattle.backend_trait.specs.declared.request.Request.TheVariants as requests
 use Rattle.backend_trait.specs.declared.request.Posted.{Posted}
 use Rattle.backend_trait.specs.declared.request.Posted.TheVariants as posts
 use Rattle.backend_trait.specs.declared.answer.Answer.{Answer}
 use Rattle.backend_trait.specs.declared.answer.Answer.TheVariants as answers
-use Rattle.backend_trait.specs.Keys.{Place, place_order}
-use Rattle.backend_trait.specs.Rows.{Changes, no_rows, no_changes, joined_changes, with_at}
-use Rattle.backend_trait.specs.Effect.{Given, Fails, Gives, nothing, effect_of, insert_given, place_of}
-use Rattle.backend_trait.specs.Store.{Live, Transaction, Absent, Alive, Dead, Pending, Store, WhereLive, is_refusal, settled, given_to, view_of, made_stale, where_live, committed_by, answered, acted, posted_by, request_in}
-use Rattle.backend_trait.specs.Acts.{MayAnswer, MayGive, Answers}
-use Rattle.backend_trait.proofs.RowLaws.{change_over, get-joined_changes, same_changes}
-use Rattle.model_store.specs.declared.change.Change.{Change}
-use Rattle.model_store.specs.declared.change.ChangeSet.{ChangeSet}
+use Rattle.catalogue.specs.declared.checked.Checked.{Checked}
+use Rattle.backend_trait.specs.Keys.{Place}
+use Rattle.backend_trait.specs.Rows.{no_rows, with_at}
+use Rattle.backend_trait.specs.Effect.{Given, changes_of}
+use Rattle.backend_trait.specs.Store.{Live, Transaction, Absent, Alive, Dead, Store, WhereLive, is_refusal, settled, drawn_by, given_to, made_stale, where_live, committed_by, answered, refused, acted, posted_by, request_in}
+use Rattle.backend_trait.specs.Acts.{MayAnswer, MayGive, Answers, IsCrossed, given_of}
+use Rattle.backend_trait.specs.Runnable.{is_of_run}
+use Rattle.outcomes.specs.declared.outcome.Outcome.{Outcome}
+use Rattle.outcomes.specs.declared.outcome.Outcome.TheVariants as outcomes
+use Rattle.schema.specs.declared.catalogue.TableDef.{TableDef}
+use Rattle.outcomes.specs.declared.change.ChangeSet.{ChangeSet}
 use Rattle.model_store.specs.declared.phase.Work.{Work}
 use Rattle.model_store.specs.declared.phase.Phase.{Phase}
 use Rattle.model_store.specs.declared.phase.Phase.TheVariants as phases
@@ -26,13 +27,16 @@ use Rattle.model_store.specs.declared.phase.Waiting.{Waiting}
 use Rattle.model_store.specs.declared.phase.Waiting.TheVariants as waits
 use Rattle.model_store.specs.declared.seat.Seat.{Seat}
 use Rattle.model_store.specs.declared.verdict.Verdict.TheVariants as verdicts
-use Rattle.model_store.specs.Log.{changes_of, rows_of, has_changed}
-use Rattle.model_store.specs.Phases.{live_of, transaction_of, request_of, pending_of, fits, mark_of, is_open, begins, owed, inserted, with_lock, granted, with_set, logged, rows_for, answer_to}
+use Rattle.outcomes.specs.Log.{rows_of, has_changed}
+use Rattle.outcomes.specs.Given.{given_in}
+use Rattle.model_store.specs.declared.phase.Run.{Run}
+use Rattle.model_store.specs.Phases.{live_of, transaction_of, request_of, pending_of, fits, mark_of, is_open, begins, owed, with_lock, granted, with_set, logged, numbered, number_told, answer_to, answer_of, is_result, has_room_for, has_room_in, IsGivenIn}
 use Rattle.model_store.specs.Seats.{transaction_in, pending_in, store_of, mark_in, all_owed}
 use Rattle.model_store.specs.Verdicts.{MayGo, Fits}
 use Rattle.model_store.specs.Acting.{WaitsFor}
-use Rattle.model_store.proofs.LogLaws.{rows_on-snoc, has_changed-snoc}
+use Rattle.outcomes.proofs.LogLaws.{rows_on-snoc, has_changed-snoc}
 use Rattle.model_store.proofs.VerdictLaws.{wants_live, live_there}
+use Rattle.model_store.proofs.GivenLaws.{IsFormed, may_answer_run}
 
 pub set_same : {A : Type 0} (xs : List A) (b : ℕ) (x : A) → b < length xs → slice_get (slice_set xs b x) b ≡ Some x
 set_same [] b x below = absurd (omega arith)
@@ -54,11 +58,12 @@ at_set f g seats at seat x below is same o = elim (eqb_tells o at) [
   | inr p ↦ ap f (set_other seats at o seat p.1) ∙ same o p.1 ∙ sym (ap (λ b. if b then x else g o) p.0)
 ]
 
-pub settled_as : (log : List ChangeSet) (seats : List Seat) (at : ℕ) (seat : Seat) (x : Transaction) → at < length seats → transaction_of log seat.phase ≡ x → seat.waiting ≡ None
-    → store_of log (slice_set seats at seat) false ≡ settled (store_of log seats false) at x
-settled_as log seats at seat x below is none = λ i. record {
+pub settled_as : (numbers : ℕ → Option ℤ) (tables : List TableDef) (log : List ChangeSet) (seats : List Seat) (at : ℕ) (seat : Seat) (x : Transaction) → at < length seats → transaction_of log seat.phase ≡ x → seat.waiting ≡ None
+    → store_of numbers tables log (slice_set seats at seat) false ≡ settled (store_of numbers tables log seats false) at x
+settled_as numbers tables log seats at seat x below is none = λ i. record {
+  tables = tables;
   rows = rows_of log;
-  next = λ t. None;
+  next = numbers;
   transaction = λ o. at_set (transaction_in log) (λ k. transaction_in log (slice_get seats k)) seats at seat x below is (λ k other. refl) o i;
   pending = λ o. at_set pending_in (λ k. pending_in (slice_get seats k)) seats at seat None below (ap pending_of none) (λ k other. refl) o i;
   lost = false;
@@ -86,11 +91,12 @@ absent_later log later phases.Absent is = refl
 absent_later log later (phases.Open work) is = absurd (cc)
 absent_later log later phases.Dead is = absurd (cc)
 
-committed_as : (log : List ChangeSet) (seats : List Seat) (at : ℕ) (seat : Seat) (work : Work) → at < length seats → ((o : ℕ) → mark_in (slice_get seats o) ≤ length log) → transaction_of log seat.phase ≡ Absent → seat.waiting ≡ None
-    → store_of (log ++ work.own ∷ []) (slice_set seats at seat) false ≡ committed_by (store_of log seats false) at (Alive (live_of log work))
-committed_as log seats at seat work below marked is none = λ i. record {
+committed_as : (numbers : ℕ → Option ℤ) (tables : List TableDef) (log : List ChangeSet) (seats : List Seat) (at : ℕ) (seat : Seat) (work : Work) → at < length seats → ((o : ℕ) → mark_in (slice_get seats o) ≤ length log) → transaction_of log seat.phase ≡ Absent → seat.waiting ≡ None
+    → store_of numbers tables (log ++ work.own ∷ []) (slice_set seats at seat) false ≡ committed_by (store_of numbers tables log seats false) at (Alive (live_of log work))
+committed_as numbers tables log seats at seat work below marked is none = λ i. record {
+  tables = tables;
   rows = rows_on-snoc no_rows log work.own i;
-  next = λ t. None;
+  next = numbers;
   transaction =
       λ o. at_set (transaction_in (log ++ work.own ∷ [])) (λ k. where_live (made_stale (changes_of work.own.changes.items)) (transaction_in log (slice_get seats k))) seats at seat Absent below
       (absent_later log (log ++ work.own ∷ []) seat.phase is) (λ k other. stale_in log work.own (slice_get seats k) (marked k)) o i;
@@ -98,94 +104,114 @@ committed_as log seats at seat work below marked is none = λ i. record {
   lost = false;
 }
 
-none_joined : (old : Changes) → old ≡ joined_changes no_changes old
-none_joined old = same_changes _ _ (λ q. sym (get-joined_changes no_changes old q ∙ ap (λ c. change_over c (fin.get old q)) (fin.get-empty place_order q)))
+-- of the request that waits: what it gives in a live transaction is its effect, and its answer is of its form and no refusal; a
+-- number that is read is there
+pub record IsFormedIn (numbers : ℕ → Option ℤ) (tables : List TableDef) (log : List ChangeSet) (phase : Phase) (waiting : Waiting) : Type 0 where
+  pub runs : (work : Work) (run : Run) → phase ≡ phases.Open work → waiting ≡ waits.Run run
+      → IsGivenIn numbers tables (live_of log work) run × (is_of_run run.statement (answer_of run.outcome) ≡ true) × (is_refusal (answer_of run.outcome) ≡ false)
+  pub reads : (table : ℕ) → waiting ≡ waits.ReadSerial table → is_some (numbers table) ≡ true
 
-insert_same : (st : Store) (s : ℕ) (c : Change) (x : Transaction) → WhereLive x (λ t. MayGo st s t (insert_given c.key c.value (fin.get (view_of t) (place_of c.key))))
-    → where_live (given_to (inserted c)) x ≡ where_live (λ t. given_to (insert_given c.key c.value (fin.get (view_of t) (place_of c.key))) t) x
-insert_same st s c Absent h = absurd h
-insert_same st s c Dead h = absurd h
-insert_same st s c (Alive t) h = ap Alive (go (fin.get (view_of t) (place_of c.key)) h)
-  where
-    go : (o : Option Row) → MayGo st s t (insert_given c.key c.value o) → given_to (inserted c) t ≡ given_to (insert_given c.key c.value o) t
-    go None may = refl
-    go (Some row) may = absurd may
+-- a statement gives its transaction what its effect gives
+run_same : (f g : Live → Live) (x : Transaction) (t : Live) → x ≡ Alive t → f t ≡ g t → where_live f x ≡ where_live g x
+run_same f g x t is same = ap (where_live f) is ∙ ap Alive same ∙ sym (ap (where_live g) is)
 
-select_same : (key : ℤ) (x : Transaction) → x ≡ where_live (λ t. given_to (Gives (answers.Rows (option_to_list (fin.get (view_of t) (place_of key)))) no_changes nothing) t) x
-select_same key Absent = refl
-select_same key Dead = refl
-select_same key (Alive t) = ap Alive (λ i. record { base = t.base; changes = none_joined t.changes i; held = t.held; stale = t.stale })
-
-pub granted_leaves : (log : List ChangeSet) (seats : List Seat) (at : ℕ) (seat new : Seat) (waiting : Waiting) → at < length seats → slice_get seats at ≡ Some seat → ((o : ℕ) → mark_in (slice_get seats o) ≤ length log)
+pub granted_leaves : (numbers : ℕ → Option ℤ) (tables : List TableDef) (log : List ChangeSet) (seats : List Seat) (at : ℕ) (seat new : Seat) (waiting : Waiting) → at < length seats → slice_get seats at ≡ Some seat → ((o : ℕ) → mark_in (slice_get seats o) ≤ length log)
     → (wants_live waiting ≡ true → (work : Work) × (seat.phase ≡ phases.Open work))
-    → Fits (store_of log seats false) at (request_of waiting) verdicts.Goes → transaction_of log new.phase ≡ granted log seat.phase waiting → new.waiting ≡ None
-    → store_of (logged log seat.phase waiting) (slice_set seats at new) false ≡ answered (store_of log seats false) at (request_of waiting)
-unfolding effect_of
-granted_leaves log seats at seat new waits.Snapshot below there marked live fit is none = settled_as log seats at new _ below is none
-granted_leaves log seats at seat new (waits.Insert c) below there marked live fit is none =
-    settled_as log seats at new _ below (is ∙ ap (where_live (given_to (inserted c))) (sym (ap (transaction_in log) there)) ∙ insert_same (store_of log seats false) at c (transaction_in log (slice_get seats at)) fit) none
-granted_leaves log seats at seat new (waits.Select key room) below there marked live fit is none =
-    settled_as log seats at new _ below (is ∙ sym (ap (transaction_in log) there) ∙ select_same key (transaction_in log (slice_get seats at))) none
-granted_leaves log seats at seat new (waits.Lock table) below there marked live fit is none =
-    settled_as log seats at new _ below (is ∙ ap (where_live (with_lock table)) (sym (ap (transaction_in log) there))) none
-granted_leaves log seats at seat new waits.Commit below there marked live fit is none =
+    → IsFormedIn numbers tables log seat.phase waiting
+    → Fits (store_of numbers tables log seats false) at (request_of waiting) verdicts.Goes → transaction_of log new.phase ≡ granted log seat.phase waiting → new.waiting ≡ None
+    → store_of (numbered tables numbers waiting) tables (logged log seat.phase waiting) (slice_set seats at new) false ≡ answered (store_of numbers tables log seats false) at (request_of waiting)
+granted_leaves numbers tables log seats at seat new waits.Snapshot below there marked live given fit is none = settled_as numbers tables log seats at new _ below is none
+granted_leaves numbers tables log seats at seat new (waits.Run run) below there marked live given fit is none =
     let (work, open_is) = live refl in
-    ap (λ (l : List ChangeSet). store_of l (slice_set seats at new) false) (ap (with_set log) open_is) ∙ committed_as log seats at new work below marked is none
-    ∙ sym (ap (committed_by (store_of log seats false) at) (ap (transaction_in log) there ∙ ap (transaction_of log) open_is))
-granted_leaves log seats at seat new waits.Rollback below there marked live fit is none = settled_as log seats at new Absent below is none
+    let own : transaction_in log (slice_get seats at) ≡ Alive (live_of log work) = ap (transaction_in log) there ∙ ap (transaction_of log) open_is in
+    settled_as (drawn_by tables run.statement numbers) tables log seats at new _ below (
+    is ∙ ap (where_live (given_to (given_in run.outcome))) (sym (ap (transaction_in log) there))
+    ∙ run_same (given_to (given_in run.outcome)) (λ t. given_to (given_of (store_of numbers tables log seats false) run.statement t) t) (transaction_in log (slice_get seats at)) (live_of log work) own
+    (ap (λ (g : Given). given_to g (live_of log work)) ((given.runs work run open_is refl).0.effect))
+    ) none
+granted_leaves numbers tables log seats at seat new (waits.Lock table) below there marked live given fit is none =
+    settled_as numbers tables log seats at new _ below (is ∙ ap (where_live (with_lock table)) (sym (ap (transaction_in log) there))) none
+granted_leaves numbers tables log seats at seat new waits.Commit below there marked live given fit is none =
+    let (work, open_is) = live refl in
+    ap (λ (l : List ChangeSet). store_of numbers tables l (slice_set seats at new) false) (ap (with_set log) open_is) ∙ committed_as numbers tables log seats at new work below marked is none
+    ∙ sym (ap (committed_by (store_of numbers tables log seats false) at) (ap (transaction_in log) there ∙ ap (transaction_of log) open_is))
+granted_leaves numbers tables log seats at seat new waits.Rollback below there marked live given fit is none = settled_as numbers tables log seats at new Absent below is none
+granted_leaves numbers tables log seats at seat new (waits.ReadSerial table) below there marked live given fit is none =
+    settled_as numbers tables log seats at new _ below (is ∙ sym (ap (transaction_in log) there)) none
+granted_leaves numbers tables log seats at seat new (waits.SetSerial table n) below there marked live given fit is none =
+    settled_as (with_at numbers table (Some n)) tables log seats at new _ below (is ∙ sym (ap (transaction_in log) there)) none
 
 pub where_map : (x : Transaction) (P Q : Live → Type 0) → ((t : Live) → P t → Q t) → WhereLive x P → WhereLive x Q
 where_map Absent P Q f h = h
 where_map (Alive t) P Q f h = f t h
 where_map Dead P Q f h = h
 
-insert_may : (st : Store) (s : ℕ) (t : Live) (key value : ℤ) (o : Option Row) → MayGo st s t (insert_given key value o) → MayGive st s t (answers.Count 1) (insert_given key value o)
-insert_may st s t key value None h = (refl, h.0, h.1)
-insert_may st s t key value (Some row) h = h
+given_may : (st : Store) (s : ℕ) (t : Live) (outcome : Outcome) (given : Given) → given_in outcome ≡ given → MayGo st s t given → MayGive st s t (answer_of outcome) given
+given_may st s t (outcomes.Fails code) given is may = absurd (subst (MayGo st s t) (sym is) may)
+given_may st s t (outcomes.Gives answer changes places) given is may =
+    subst (λ (g : Given). MayGive st s t answer g) is (let here = subst (MayGo st s t) (sym is) may in (refl, here.0, here.1))
 
-pub granted_may : (log : List ChangeSet) (seats : List Seat) (at : ℕ) (seat : Seat) (waiting : Waiting) → slice_get seats at ≡ Some seat → (wants_live waiting ≡ true → (work : Work) × (seat.phase ≡ phases.Open work))
-    → Fits (store_of log seats false) at (request_of waiting) verdicts.Goes → MayAnswer (store_of log seats false) at (record { request = request_of waiting; crossed = false }) (answer_to log seat.phase waiting)
-unfolding effect_of
-granted_may log seats at seat waits.Snapshot there live fit = tt
-granted_may log seats at seat (waits.Insert c) there live fit =
-    where_map (transaction_in log (slice_get seats at)) (λ t. MayGo (store_of log seats false) at t (insert_given c.key c.value (fin.get (view_of t) (place_of c.key))))
-    (λ t. MayGive (store_of log seats false) at t (answers.Count 1) (insert_given c.key c.value (fin.get (view_of t) (place_of c.key))))
-    (λ t h. insert_may (store_of log seats false) at t c.key c.value (fin.get (view_of t) (place_of c.key)) h) fit
-granted_may log seats at seat (waits.Select key room) there live fit =
+-- the answer of an outcome that gives one has the form of its statement
+pub outcome_formed : (statement : Checked) (outcome : Outcome) (given : Given) → given_in outcome ≡ given → IsFormed statement given → is_result outcome ≡ true
+    → (is_of_run statement (answer_of outcome) ≡ true) × (is_refusal (answer_of outcome) ≡ false)
+outcome_formed statement (outcomes.Fails code) given is formed result = absurd (let f : false ≡ true = result in cc)
+outcome_formed statement (outcomes.Gives answer changes places) given is formed result = subst (IsFormed statement) (sym is) formed
+
+-- a number that is there is told
+told_is : (x : Option ℤ) → is_some x ≡ true → (n : ℤ) × (x ≡ Some n) × (number_told x ≡ answers.Serial n)
+told_is None is = absurd (let f : false ≡ true = is in cc)
+told_is (Some n) is = (n, refl, refl)
+
+told_calm : (x : Option ℤ) → is_refusal (number_told x) ≡ false
+told_calm None = refl
+told_calm (Some n) = refl
+
+pub granted_may : (numbers : ℕ → Option ℤ) (tables : List TableDef) (log : List ChangeSet) (seats : List Seat) (at : ℕ) (seat : Seat) (waiting : Waiting) → slice_get seats at ≡ Some seat → (wants_live waiting ≡ true → (work : Work) × (seat.phase ≡ phases.Open work)) → IsFormedIn numbers tables log seat.phase waiting
+    → Fits (store_of numbers tables log seats false) at (request_of waiting) verdicts.Goes → MayAnswer (store_of numbers tables log seats false) at (record { request = request_of waiting; crossed = false }) (answer_to numbers waiting)
+granted_may numbers tables log seats at seat waits.Snapshot there live given fit = tt
+granted_may numbers tables log seats at seat (waits.Run run) there live given fit =
     let (work, open_is) = live refl in
+    let st = store_of numbers tables log seats false in
     let own : transaction_in log (slice_get seats at) ≡ Alive (live_of log work) = ap (transaction_in log) there ∙ ap (transaction_of log) open_is in
-    let here = subst (λ (x : Transaction). WhereLive x (λ t. MayGo (store_of log seats false) at t (Gives (answers.Rows (option_to_list (fin.get (view_of t) (place_of key)))) no_changes nothing))) own fit in
-    subst (λ (x : Transaction). WhereLive x (λ t. MayGive (store_of log seats false) at t (answers.Rows (rows_for log seat.phase key)) (Gives (answers.Rows (option_to_list (fin.get (view_of t) (place_of key)))) no_changes nothing))) (sym own)
-    (ap (λ (p : Phase). answers.Rows (rows_for log p key)) open_is, here.0, here.1)
-granted_may log seats at seat (waits.Lock table) there live fit = fit
-granted_may log seats at seat waits.Commit there live fit =
+    let own_given = given.runs work run open_is refl in
+    let same : given_in run.outcome ≡ given_of st run.statement (live_of log work) = own_given.0.effect in
+    let may = subst (λ (x : Transaction). WhereLive x (λ t. MayGo st at t (given_of st run.statement t))) own fit in
+    may_answer_run st at (IsCrossed st at (record { request = requests.Run run.statement; crossed = false })) run.statement (answer_of run.outcome) own_given.1 own_given.2
+    (subst (λ (x : Transaction). WhereLive x (λ t. MayGive st at t (answer_of run.outcome) (given_of st run.statement t))) (sym own) (given_may st at (live_of log work) run.outcome (given_of st run.statement (live_of log work)) same may))
+granted_may numbers tables log seats at seat (waits.Lock table) there live given fit = fit
+granted_may numbers tables log seats at seat waits.Commit there live given fit =
     let (work, open_is) = live refl in
     subst (λ (x : Transaction). WhereLive x (λ t. answers.Done ≡ answers.Done)) (sym (ap (transaction_in log) there ∙ ap (transaction_of log) open_is)) refl
-granted_may log seats at seat waits.Rollback there live fit = refl
+granted_may numbers tables log seats at seat waits.Rollback there live given fit = refl
+granted_may numbers tables log seats at seat (waits.ReadSerial table) there live given fit = told_is (numbers table) (given.reads table refl)
+granted_may numbers tables log seats at seat (waits.SetSerial table n) there live given fit = refl
 
-pub not_refused : (log : List ChangeSet) (phase : Phase) (waiting : Waiting) → is_refusal (answer_to log phase waiting) ≡ false
-not_refused log phase waits.Snapshot = refl
-not_refused log phase (waits.Insert c) = refl
-not_refused log phase (waits.Select key room) = refl
-not_refused log phase (waits.Lock table) = refl
-not_refused log phase waits.Commit = refl
-not_refused log phase waits.Rollback = refl
+pub not_refused : (numbers : ℕ → Option ℤ) (tables : List TableDef) (log : List ChangeSet) (phase : Phase) (waiting : Waiting) → (wants_live waiting ≡ true → (work : Work) × (phase ≡ phases.Open work)) → IsFormedIn numbers tables log phase waiting
+    → is_refusal (answer_to numbers waiting) ≡ false
+not_refused numbers tables log phase waits.Snapshot live given = refl
+not_refused numbers tables log phase (waits.Run run) live given = let (work, open_is) = live refl in (given.runs work run open_is refl).2
+not_refused numbers tables log phase (waits.Lock table) live given = refl
+not_refused numbers tables log phase waits.Commit live given = refl
+not_refused numbers tables log phase waits.Rollback live given = refl
+not_refused numbers tables log phase (waits.ReadSerial table) live given = told_calm (numbers table)
+not_refused numbers tables log phase (waits.SetSerial table n) live given = refl
 
 -- a request that is granted is answered as the table of answers says
-pub granted_answers : (log later : List ChangeSet) (seats : List Seat) (at : ℕ) (seat new : Seat) (waiting : Waiting) (answer : Answer) → later ≡ logged log seat.phase waiting → at < length seats → slice_get seats at ≡ Some seat → seat.waiting ≡ Some waiting
-    → ((o : ℕ) → mark_in (slice_get seats o) ≤ length log)
-    → Fits (store_of log seats false) at (request_of waiting) verdicts.Goes → transaction_of log new.phase ≡ granted log seat.phase waiting → new.waiting ≡ None → answer ≡ answer_to log seat.phase waiting
-    → Answers (store_of log seats false) at answer (store_of later (slice_set seats at new) false)
-granted_answers log later seats at seat new waiting answer log_is below there waits_is marked fit is none answer_is =
+pub granted_answers : (numbers : ℕ → Option ℤ) (tables : List TableDef) (log later : List ChangeSet) (seats : List Seat) (at : ℕ) (seat new : Seat) (waiting : Waiting) (answer : Answer) (moved : ℕ → Option ℤ) → moved ≡ numbered tables numbers waiting → later ≡ logged log seat.phase waiting → at < length seats → slice_get seats at ≡ Some seat → seat.waiting ≡ Some waiting
+    → ((o : ℕ) → mark_in (slice_get seats o) ≤ length log) → IsFormedIn numbers tables log seat.phase waiting
+    → Fits (store_of numbers tables log seats false) at (request_of waiting) verdicts.Goes → transaction_of log new.phase ≡ granted log seat.phase waiting → new.waiting ≡ None → answer ≡ answer_to numbers waiting
+    → Answers (store_of numbers tables log seats false) at answer (store_of moved tables later (slice_set seats at new) false)
+granted_answers numbers tables log later seats at seat new waiting answer moved moved_is log_is below there waits_is marked given fit is none answer_is =
     let live : wants_live waiting ≡ true → (work : Work) × (seat.phase ≡ phases.Open work) = λ w. live_there seat.phase waiting w (ap (fits seat.phase) (sym waits_is) ∙ seat.fitting) in
     record {
       pending = record { request = request_of waiting; crossed = false };
       was = ap pending_in there ∙ ap pending_of waits_is;
       not_lost = refl;
-      may = subst (λ (a : Answer). MayAnswer (store_of log seats false) at (record { request = request_of waiting; crossed = false }) a) (sym answer_is) (granted_may log seats at seat waiting there live fit);
-      leaves = ap (λ (l : List ChangeSet). store_of l (slice_set seats at new) false) log_is ∙ granted_leaves log seats at seat new waiting below there marked live fit is none
-          ∙ sym (ap (acted (store_of log seats false) at (request_of waiting)) answer_is
-          ∙ ap (λ b. if b then settled (store_of log seats false) at Dead else answered (store_of log seats false) at (request_of waiting)) (not_refused log seat.phase waiting));
+      may = subst (λ (a : Answer). MayAnswer (store_of numbers tables log seats false) at (record { request = request_of waiting; crossed = false }) a) (sym answer_is) (granted_may numbers tables log seats at seat waiting there live given fit);
+      leaves = ap (λ (l : List ChangeSet). store_of moved tables l (slice_set seats at new) false) log_is
+          ∙ ap (λ (m : ℕ → Option ℤ). store_of m tables (logged log seat.phase waiting) (slice_set seats at new) false) moved_is ∙ granted_leaves numbers tables log seats at seat new waiting below there marked live given fit is none
+          ∙ sym (ap (acted (store_of numbers tables log seats false) at (request_of waiting)) answer_is
+          ∙ ap (λ b. if b then refused (store_of numbers tables log seats false) at (request_of waiting) else answered (store_of numbers tables log seats false) at (request_of waiting)) (not_refused numbers tables log seat.phase waiting live given));
     }
 
 set_length : (seats : List Seat) (at : ℕ) (new : Seat) → length (slice_set seats at new) ≡ length seats
@@ -229,6 +255,17 @@ owed_part (x ∷ xs) zero seat there =
     omega (arith, e)
 owed_part (x ∷ xs) (suc at) seat there = omega (arith, owed_part xs at seat there)
 
+-- a live transaction once its statement has been granted
+pub granted_run : (log : List ChangeSet) (phase : Phase) (waiting : Waiting) (work after : Work) (run : Run) → phase ≡ phases.Open work → waiting ≡ waits.Run run → live_of log after ≡ given_to (given_in run.outcome) (live_of log work)
+    → transaction_of log (phases.Open after) ≡ granted log phase waiting
+granted_run log phase waiting work after run open_is run_is live =
+    ap Alive live ∙ (sym (ap (λ (p : Phase). granted log p (waits.Run run)) open_is) ∙ sym (ap (granted log phase) run_is))
+
+-- a live transaction has room for what its statement gives
+pub room_in_run : (phase : Phase) (waiting : Waiting) (work : Work) (run : Run) → phase ≡ phases.Open work → waiting ≡ waits.Run run → has_room_in phase (Some waiting) → has_room_for work run.outcome
+room_in_run phase waiting work run open_is run_is room =
+    subst (λ (p : Phase). has_room_in p (Some (waits.Run run))) open_is (subst (λ (w : Waiting). has_room_in phase (Some w)) run_is room)
+
 -- the log keeps room where a seat owes no more than before
 pub room_kept : (n m before after : ℕ) (seats : List Seat) (at : ℕ) (seat new : Seat) → slice_get seats at ≡ Some seat → m + owed new.phase new.waiting ≤ n + owed seat.phase seat.waiting → before ≤ after → n + all_owed seats ≤ before
     → m + all_owed (slice_set seats at new) ≤ after
@@ -241,20 +278,22 @@ same_set f seats at seat new below there is o = elim (eqb_tells o at) [
   | inr p ↦ ap f (set_other seats at o new p.1)
 ]
 
-pub posted_ok : (log : List ChangeSet) (later : List ChangeSet) (seats : List Seat) (lost : Bool) (at : ℕ) (seat new : Seat) (request : Request) (result : Posted) → later ≡ log → at < length seats → slice_get seats at ≡ Some seat
-    → transaction_of log new.phase ≡ transaction_of log seat.phase → seat.waiting ≡ None → WaitsFor request result new.waiting → posted_by (store_of log seats lost) at request result (store_of later (slice_set seats at new) lost)
-posted_ok log later seats lost at seat new request posts.Accepted log_is below there same idle waits_is = λ i. record {
+pub posted_ok : (numbers : ℕ → Option ℤ) (tables : List TableDef) (log : List ChangeSet) (later : List ChangeSet) (seats : List Seat) (lost : Bool) (at : ℕ) (seat new : Seat) (request : Request) (result : Posted) → later ≡ log → at < length seats → slice_get seats at ≡ Some seat
+    → transaction_of log new.phase ≡ transaction_of log seat.phase → seat.waiting ≡ None → WaitsFor request result new.waiting → posted_by (store_of numbers tables log seats lost) at request result (store_of numbers tables later (slice_set seats at new) lost)
+posted_ok numbers tables log later seats lost at seat new request posts.Accepted log_is below there same idle waits_is = λ i. record {
+  tables = tables;
   rows = rows_of (log_is i);
-  next = λ t. None;
+  next = numbers;
   transaction = λ o. (ap (λ (l : List ChangeSet). transaction_in l (slice_get (slice_set seats at new) o)) log_is ∙ same_set (transaction_in log) seats at seat new below there same o) i;
   pending = λ o. at_set pending_in (λ k. pending_in (slice_get seats k)) seats at new (Some (record { request = request; crossed = false })) below waits_is (λ k other. refl) o i;
   lost = lost;
 }
-posted_ok log later seats lost at seat new request (posts.NoMemory back) log_is below there same idle waits_is = (
+posted_ok numbers tables log later seats lost at seat new request (posts.NoMemory back) log_is below there same idle waits_is = (
   waits_is.0,
   λ i. record {
+    tables = tables;
     rows = rows_of (log_is i);
-    next = λ t. None;
+    next = numbers;
     transaction = λ o. (ap (λ (l : List ChangeSet). transaction_in l (slice_get (slice_set seats at new) o)) log_is ∙ same_set (transaction_in log) seats at seat new below there same o) i;
     pending = λ o. same_set pending_in seats at seat new below there (ap pending_of waits_is.1 ∙ sym (ap pending_of idle)) o i;
     lost = lost;
@@ -264,11 +303,12 @@ posted_ok log later seats lost at seat new request (posts.NoMemory back) log_is 
 begins_snapshot : (request : Request) (result : Posted) (w : Option Waiting) → WaitsFor request result w → begins w ≡ true → request ≡ requests.TakeSnapshot
 begins_snapshot request posts.Accepted None h b = absurd (cc)
 begins_snapshot request posts.Accepted (Some waits.Snapshot) h b = let e : Some requests.TakeSnapshot ≡ Some request = ap request_in h in cc
-begins_snapshot request posts.Accepted (Some (waits.Insert c)) h b = absurd (cc)
-begins_snapshot request posts.Accepted (Some (waits.Select key room)) h b = absurd (cc)
+begins_snapshot request posts.Accepted (Some (waits.Run run)) h b = absurd (cc)
 begins_snapshot request posts.Accepted (Some (waits.Lock table)) h b = absurd (cc)
 begins_snapshot request posts.Accepted (Some waits.Commit) h b = absurd (cc)
 begins_snapshot request posts.Accepted (Some waits.Rollback) h b = absurd (cc)
+begins_snapshot request posts.Accepted (Some (waits.ReadSerial table)) h b = absurd (cc)
+begins_snapshot request posts.Accepted (Some (waits.SetSerial table n)) h b = absurd (cc)
 begins_snapshot request (posts.NoMemory back) w h b = absurd (let e : false ≡ true = sym (ap begins h.1) ∙ b in cc)
 
 -- and the log keeps room after it

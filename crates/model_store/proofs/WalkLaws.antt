@@ -1,50 +1,58 @@
 -- The walk along waits, from one session on.
-use Rattle.std.proofs.Common.{◌≡◌, ◌≢◌, ◌⊎◌, ℕ, ℤ, zero, suc, ◌+◌, ◌<◌, ◌≤◌, Bool, true, false, not, List, [], ◌∷◌, ◌++◌, length, drop, get_or, set, refl, sym, ap, ◌∙◌, subst, arith, inl, inr}
-use Rattle.std.specs.Prelude.{Option, Some, None, is_some, option_map, slice_get, cond, ◌↔◌}
-use Rattle.std.specs.List.{count_by}
-use Rattle.std.specs.FinMap as fin
+use Rattle.std.proofs.Common.{◌≡◌, ◌≢◌, ◌⊎◌, ℕ, zero, suc, ◌+◌, ◌<◌, ◌≤◌, Bool, true, false, not, List, [], ◌∷◌, ◌++◌, length, drop, get_or, set, refl, sym, ap, ◌∙◌, subst, arith, inl, inr}
+use Rattle.std.specs.Prelude.{ℤ, Option, Some, None, slice_get, cond, ◌↔◌}
+use Rattle.std.specs.List.{count_by, list_any}
 use Rattle.std.proofs.lemmas.Bool.Decides.{eqb_tells, leb_tells}
 use Rattle.std.proofs.lemmas.Option.{slice_get_read, slice_get_past}
 use Rattle.std.proofs.lemmas.List.{get_or-set_same, get_or-set_other}
 use Rattle.std.proofs.lemmas.List.Sums.{sum_by-set}
-use Rattle.backend_trait.specs.declared.row.Row.{Row}
 use Rattle.backend_trait.specs.declared.request.Request.TheVariants as requests
-use Rattle.backend_trait.specs.declared.checked.Checked.TheVariants as checked
-use Rattle.backend_trait.specs.Effect.{Wants, nothing, one_place, place_of, row_of, Conflicts, effect_of, insert_given}
-use Rattle.backend_trait.specs.Store.{Store, Live, Transaction, Absent, Alive, Dead, Pending, WhereLive, held_by, table_lock, view_of}
+use Rattle.backend_trait.specs.declared.answer.Answer.{Answer}
+use Rattle.backend_trait.specs.Keys.{Place}
+use Rattle.backend_trait.specs.Rows.{Changes}
+use Rattle.backend_trait.specs.Effect.{Wants, these_places, Conflicts, Given, Gives}
+use Rattle.backend_trait.specs.Store.{Store, Transaction, Pending, WhereLive, held_by, table_lock}
 use Rattle.backend_trait.specs.Acts.{WhereSome, WaitsInRun, WaitsIn, WaitsFor, IsPath, Leads, IsInCycle, given_of}
-use Rattle.model_store.specs.declared.change.Change.{Change}
-use Rattle.model_store.specs.declared.change.ChangeSet.{ChangeSet}
+use Rattle.pool_base.specs.declared.code.Code.{Code}
+use Rattle.outcomes.specs.declared.change.ChangeSet.{ChangeSet}
+use Rattle.outcomes.specs.declared.outcome.Outcome.{Outcome}
+use Rattle.outcomes.specs.declared.outcome.Outcome.TheVariants as outcomes
+use Rattle.schema.specs.declared.catalogue.TableDef.{TableDef}
 use Rattle.model_store.specs.declared.phase.Work.{Work}
 use Rattle.model_store.specs.declared.phase.Phase.TheVariants as phases
 use Rattle.model_store.specs.declared.phase.Waiting.{Waiting}
 use Rattle.model_store.specs.declared.seat.Seat.{Seat}
 use Rattle.model_store.specs.declared.conflict.Wanted.{Wanted}
-use Rattle.model_store.specs.Log.{has_changed}
+use Rattle.outcomes.specs.Log.{has_changed}
+use Rattle.outcomes.specs.Given.{given_in}
+use Rattle.model_store.specs.declared.phase.Run.{Run}
+use Rattle.model_store.specs.declared.phase.Waiting.TheVariants as waits
 use Rattle.model_store.specs.Phases.{live_of, pending_of}
-use Rattle.model_store.specs.Seats.{transaction_in, pending_in, store_of}
+use Rattle.model_store.specs.Seats.{transaction_in, pending_in, store_of, AreGiven}
 use Rattle.model_store.specs.Conflicts.{wants_of, held_in}
-use Rattle.model_store.proofs.ConflictLaws.{is_itself, no_conflict}
-use Rattle.model_store.proofs.VerdictLaws.{held_same, nothing_conflicts, fresh, some_of, none_of, transaction_at}
+use Rattle.model_store.proofs.ConflictLaws.{no_conflict}
+use Rattle.model_store.proofs.VerdictLaws.{held_same, fresh, stale, given_at, transaction_at}
 
-module _ (log : List ChangeSet) (work : Work) (key value : ℤ) (held : Wants) where
-  -- a key that has a row is not waited for
-  pub known_wants_none : (o : Option Row) (found : Option ℤ) → o ≡ option_map (row_of key) found → is_some found ≡ true → ⊥ ↔ WaitsInRun held (live_of log work) (insert_given key value o)
-  known_wants_none o found is there =
-      subst (λ (x : Option Row). ⊥ ↔ WaitsInRun held (live_of log work) (insert_given key value x)) (sym (some_of key o found is there).1) (λ h. absurd h, λ h. absurd h)
+module _ (log : List ChangeSet) (work : Work) (held : Wants) (result : Answer) (changes : Changes) (places : List Place) where
+  -- places of which one is stale are not waited for
+  pub stale_wants_none : list_any (has_changed (drop work.mark log)) places ≡ true → ⊥ ↔ WaitsInRun held (live_of log work) (Gives result changes places)
+  stale_wants_none changed = (
+    λ h. absurd h,
+    λ h. let (p, among, is) = stale log work places changed in let f : true ≡ false = sym is ∙ h.0 p among in absurd (cc),
+  )
 
-  -- nor is a stale one
-  pub stale_wants_none : (o : Option Row) (found : Option ℤ) → o ≡ option_map (row_of key) found → is_some found ≡ false → has_changed (drop work.mark log) (place_of key) ≡ true
-      → ⊥ ↔ WaitsInRun held (live_of log work) (insert_given key value o)
-  stale_wants_none o found is none changed =
-      subst (λ (x : Option Row). ⊥ ↔ WaitsInRun held (live_of log work) (insert_given key value x)) (sym (none_of key o found is none))
-      (λ h. absurd h, λ h. let f : true ≡ false = sym changed ∙ h.0 (place_of key) (is_itself (place_of key)) in cc)
+  pub fresh_wants_places : list_any (has_changed (drop work.mark log)) places ≡ false → Conflicts (these_places places) held ↔ WaitsInRun held (live_of log work) (Gives result changes places)
+  fresh_wants_places none = (λ h. (fresh log work places none, h), λ h. h.1)
 
-  pub fresh_wants_key : (o : Option Row) (found : Option ℤ) → o ≡ option_map (row_of key) found → is_some found ≡ false → has_changed (drop work.mark log) (place_of key) ≡ false
-      → Conflicts (one_place (place_of key)) held ↔ WaitsInRun held (live_of log work) (insert_given key value o)
-  fresh_wants_key o found is none changed =
-      subst (λ (x : Option Row). Conflicts (one_place (place_of key)) held ↔ WaitsInRun held (live_of log work) (insert_given key value x)) (sym (none_of key o found is none))
-      (λ h. (fresh log work key changed, h), λ h. h.1)
+-- a statement with a code waits for nobody
+pub fails_want_none : (log : List ChangeSet) (work : Work) (held : Wants) (outcome : Outcome) (code : Code) → outcome ≡ outcomes.Fails code → ⊥ ↔ WaitsInRun held (live_of log work) (given_in outcome)
+fails_want_none log work held outcome code is = subst (λ (g : Given). ⊥ ↔ WaitsInRun held (live_of log work) g) (sym (ap given_in is)) (λ h. h, λ h. h)
+
+-- what waits of what is given by its parts
+pub given_wants : (log : List ChangeSet) (work : Work) (held : Wants) (given : Given) (answer : Answer) (changes : Changes) (places read : List Place) (A : Type 0) → given ≡ Gives answer changes places → read ≡ places
+    → A ↔ WaitsInRun held (live_of log work) (Gives answer changes read) → A ↔ WaitsInRun held (live_of log work) given
+given_wants log work held given answer changes places read A is same h =
+    subst (λ (g : Given). A ↔ WaitsInRun held (live_of log work) g) (sym is) (subst (λ (ps : List Place). A ↔ WaitsInRun held (live_of log work) (Gives answer changes ps)) same h)
 
 -- the request of a seat that is there
 pub wants_at : (seats : List Seat) (s : ℕ) (seat : Seat) (w : Option Waiting) (A : Type 0) (P : Pending → Type 0) → s < length seats → seat ≡ get_or seats s seat → seat.waiting ≡ w → A ↔ WhereSome (pending_of w) P
@@ -52,27 +60,19 @@ pub wants_at : (seats : List Seat) (s : ℕ) (seat : Seat) (w : Option Waiting) 
 wants_at seats s seat w A P below is waits h =
     subst (λ (x : Option Pending). A ↔ WhereSome x P) (sym (ap pending_in (slice_get_read seats (length seats) s seat refl below is) ∙ ap pending_of waits)) h
 
-pub insert_wants : (log : List ChangeSet) (seats : List Seat) (s : ℕ) (seat : Seat) (work : Work) (change : Change) (held : Wants) (A : Type 0) → s < length seats → seat ≡ get_or seats s seat → seat.phase ≡ phases.Open work
-    → A ↔ WaitsInRun held (live_of log work) (insert_given change.key change.value (fin.get (view_of (live_of log work)) (place_of change.key)))
-    → A ↔ WaitsIn (store_of log seats false) s held (requests.Run (checked.Insert change.key change.value))
-unfolding effect_of
-insert_wants log seats s seat work change held A below is open_is h =
-    subst (λ (x : Transaction). A ↔ WhereLive x (λ t. WaitsInRun held t (insert_given change.key change.value (fin.get (view_of t) (place_of change.key))))) (sym (transaction_at log seats s seat (phases.Open work) below is open_is)) h
+pub run_wants : (numbers : ℕ → Option ℤ) (tables : List TableDef) (log : List ChangeSet) (seats : List Seat) (s : ℕ) (seat : Seat) (work : Work) (run : Run) (held : Wants) (A : Type 0) → s < length seats → seat ≡ get_or seats s seat → seat.phase ≡ phases.Open work
+    → seat.waiting ≡ Some (waits.Run run) → AreGiven numbers tables log seats
+    → A ↔ WaitsInRun held (live_of log work) (given_in run.outcome) → A ↔ WaitsIn (store_of numbers tables log seats false) s held (requests.Run run.statement)
+run_wants numbers tables log seats s seat work run held A below is open_is waits_is all h =
+    let given = given_at numbers tables log seats s seat work run (slice_get_read seats (length seats) s seat refl below is) open_is waits_is all in
+    let st = store_of numbers tables log seats false in
+    subst (λ (x : Transaction). A ↔ WhereLive x (λ t. WaitsInRun held t (given_of st run.statement t))) (sym (transaction_at log seats s seat (phases.Open work) below is open_is))
+    (subst (λ (g : Given). A ↔ WaitsInRun held (live_of log work) g) given.effect h)
 
-pub lock_wants : (log : List ChangeSet) (seats : List Seat) (s : ℕ) (seat : Seat) (work : Work) (table : ℕ) (held : Wants) → s < length seats → seat ≡ get_or seats s seat → seat.phase ≡ phases.Open work
-    → Conflicts (table_lock table) held ↔ WaitsIn (store_of log seats false) s held (requests.Lock table)
-lock_wants log seats s seat work table held below is open_is =
+pub lock_wants : (numbers : ℕ → Option ℤ) (tables : List TableDef) (log : List ChangeSet) (seats : List Seat) (s : ℕ) (seat : Seat) (work : Work) (table : ℕ) (held : Wants) → s < length seats → seat ≡ get_or seats s seat → seat.phase ≡ phases.Open work
+    → Conflicts (table_lock table) held ↔ WaitsIn (store_of numbers tables log seats false) s held (requests.Lock table)
+lock_wants numbers tables log seats s seat work table held below is open_is =
     subst (λ (x : Transaction). Conflicts (table_lock table) held ↔ WhereLive x (λ t. Conflicts (table_lock table) held)) (sym (transaction_at log seats s seat (phases.Open work) below is open_is)) (λ h. h, λ h. h)
-
--- a read waits for nobody
-pub select_wants : (st : Store) (s : ℕ) (key : ℤ) (held : Wants) → ⊥ ↔ WaitsIn st s held (requests.Run (checked.Select key))
-unfolding effect_of
-select_wants st s key held = (λ h. absurd h, λ h. go (st.transaction s) h)
-  where
-    go : (x : Transaction) → WhereLive x (λ t. WaitsInRun held t (given_of st (checked.Select key) t)) → ⊥
-    go Absent h = h
-    go (Alive t) h = nothing_conflicts held h.1
-    go Dead h = h
 
 -- a session that is marked
 abbrev pub IsOn : List Bool → ℕ → Type 0
@@ -136,9 +136,9 @@ all_marked seats s wants old now n end m o other conflict = elim (leb_tells (len
 ]
 
 -- the sessions for which a request waits hold what it wants
-pub waits_iff : (log : List ChangeSet) (seats : List Seat) (s o : ℕ) (A : Wants → Type 0) → ((held : Wants) → A held ↔ WhereSome (pending_in (slice_get seats s)) (λ p. WaitsIn (store_of log seats false) s held p.request))
-    → ((o ≢ s) × A (held_in (slice_get seats o))) ↔ WaitsFor (store_of log seats false) s o
-waits_iff log seats s o A iff = (
+pub waits_iff : (numbers : ℕ → Option ℤ) (tables : List TableDef) (log : List ChangeSet) (seats : List Seat) (s o : ℕ) (A : Wants → Type 0) → ((held : Wants) → A held ↔ WhereSome (pending_in (slice_get seats s)) (λ p. WaitsIn (store_of numbers tables log seats false) s held p.request))
+    → ((o ≢ s) × A (held_in (slice_get seats o))) ↔ WaitsFor (store_of numbers tables log seats false) s o
+waits_iff numbers tables log seats s o A iff = (
   λ h. (h.0, (iff (held_by (transaction_in log (slice_get seats o)))).0 (subst A (sym (held_same log (slice_get seats o))) h.1)),
   λ w. (w.0, subst A (held_same log (slice_get seats o)) ((iff (held_by (transaction_in log (slice_get seats o)))).1 w.1)),
 )
@@ -196,17 +196,17 @@ fewer_left followed m below off =
     omega (arith, one)
 
 -- what a request is kept from, and for whom it waits
-abbrev IsWish : List ChangeSet → List Seat → ℕ → Option Wanted → Type 0
-IsWish log seats s wish =
-    (held : Wants) → WhereSome wish (λ wanted. Conflicts (wants_of wanted) held) ↔ WhereSome (pending_in (slice_get seats s)) (λ p. WaitsIn (store_of log seats false) s held p.request)
+abbrev pub IsWish : (ℕ → Option ℤ) → List TableDef → List ChangeSet → List Seat → ℕ → Option Wanted → Type 0
+IsWish numbers tables log seats s wish =
+    (held : Wants) → WhereSome wish (λ wanted. Conflicts (wants_of wanted) held) ↔ WhereSome (pending_in (slice_get seats s)) (λ p. WaitsIn (store_of numbers tables log seats false) s held p.request)
 
-pub wish_next : (log : List ChangeSet) (seats : List Seat) (s : ℕ) (wish : Option Wanted) (wanted : Wanted) → wish ≡ Some wanted → IsWish log seats s wish → (o : ℕ)
-    → ((o ≢ s) × Conflicts (wants_of wanted) (held_in (slice_get seats o))) ↔ WaitsFor (store_of log seats false) s o
-wish_next log seats s wish wanted is iff o =
-    waits_iff log seats s o (λ held. Conflicts (wants_of wanted) held) (subst (λ (w : Option Wanted). IsWish log seats s w) is iff)
+pub wish_next : (numbers : ℕ → Option ℤ) (tables : List TableDef) (log : List ChangeSet) (seats : List Seat) (s : ℕ) (wish : Option Wanted) (wanted : Wanted) → wish ≡ Some wanted → IsWish numbers tables log seats s wish → (o : ℕ)
+    → ((o ≢ s) × Conflicts (wants_of wanted) (held_in (slice_get seats o))) ↔ WaitsFor (store_of numbers tables log seats false) s o
+wish_next numbers tables log seats s wish wanted is iff o =
+    waits_iff numbers tables log seats s o (λ held. Conflicts (wants_of wanted) held) (subst (λ (w : Option Wanted). IsWish numbers tables log seats s w) is iff)
 
-pub no_wish_next : (log : List ChangeSet) (seats : List Seat) (s : ℕ) (wish : Option Wanted) → wish ≡ None → IsWish log seats s wish → (o : ℕ) → ¬ (WaitsFor (store_of log seats false) s o)
-no_wish_next log seats s wish is iff o w = ((waits_iff log seats s o (λ held. ⊥) (subst (λ (x : Option Wanted). IsWish log seats s x) is iff)).1 w).1
+pub no_wish_next : (numbers : ℕ → Option ℤ) (tables : List TableDef) (log : List ChangeSet) (seats : List Seat) (s : ℕ) (wish : Option Wanted) → wish ≡ None → IsWish numbers tables log seats s wish → (o : ℕ) → ¬ (WaitsFor (store_of numbers tables log seats false) s o)
+no_wish_next numbers tables log seats s wish is iff o w = ((waits_iff numbers tables log seats s o (λ held. ⊥) (subst (λ (x : Option Wanted). IsWish numbers tables log seats s x) is iff)).1 w).1
 
 pub nothing_left : {A : Type 0} (r : Option A) → ((x : A) → r ≡ Some x → ⊥) → r ≡ None
 nothing_left None none = refl

@@ -1,4 +1,5 @@
-pub mod Log
+pub mod Coding
+pub mod Stored
 pub mod Phases
 pub mod Seats
 pub mod Conflicts

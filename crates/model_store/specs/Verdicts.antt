@@ -1,8 +1,8 @@
 -- What becomes of a request that is pending: it is granted, waits on, or is refused.
-use Rattle.std.specs.Prelude.{◌≡◌, ◌⊎◌, ℕ, codes}
+use Rattle.std.specs.Prelude.{◌≡◌, ◌⊎◌, ℕ, Option, codes}
 use Rattle.backend_trait.specs.declared.request.Request.{Request}
 use Rattle.backend_trait.specs.declared.request.Request.TheVariants as requests
-use Rattle.backend_trait.specs.Effect.{Given, Fails, Gives, table_in}
+use Rattle.backend_trait.specs.Effect.{Given, Fails, Gives, these_places, table_in}
 use Rattle.backend_trait.specs.Store.{Store, Live, WhereLive, table_lock}
 use Rattle.backend_trait.specs.Acts.{IsFree, IsTaken, IsFresh, MayRefuse, IsOutOfMemory, MustWaitRun, IsInCycle, given_of}
 use Rattle.model_store.specs.declared.verdict.Verdict.{Verdict}
@@ -11,9 +11,9 @@ use Rattle.model_store.specs.declared.verdict.Verdict.TheVariants as verdicts
 -- it has a result, nothing that it wants is stale, and nobody else holds it
 abbrev pub MayGo : Store → ℕ → Live → Given → Type 0
 MayGo st s t (Fails code) = ⊥
-MayGo st s t (Gives result changes wants) = IsFresh wants t × IsFree st s wants
+MayGo st s t (Gives answer changes places) = IsFresh (these_places places) t × IsFree st s (these_places places)
 
-abbrev pub FitsRun : Store → ℕ → Live → ℕ → Given → Verdict → Type 0
+abbrev pub FitsRun : Store → ℕ → Live → Option ℕ → Given → Verdict → Type 0
 FitsRun st s t table given verdicts.Goes = MayGo st s t given
 FitsRun st s t table given verdicts.Waits = MustWaitRun st s t given
 FitsRun st s t table given (verdicts.Refused code) = MayRefuse ⊥ t table code given × ¬ (IsOutOfMemory code) × ¬ (code.bytes ≡ codes "40P01")
@@ -33,8 +33,8 @@ Fits st s (requests.Run checked) verdict = WhereLive (st.transaction s) (λ t. F
 Fits st s (requests.Lock table) verdict = WhereLive (st.transaction s) (λ t. FitsLock st s table verdict)
 Fits st s requests.Commit verdict = Goes verdict
 Fits st s requests.Rollback verdict = Goes verdict
-Fits st s (requests.ReadSerial table) verdict = ⊥
-Fits st s (requests.SetSerial table n) verdict = ⊥
+Fits st s (requests.ReadSerial table) verdict = Goes verdict
+Fits st s (requests.SetSerial table n) verdict = Goes verdict
 
 -- where another holds what it wants it is refused if its waiting closes a cycle of waits, and waits else
 abbrev pub IsDecided : Store → ℕ → Request → Verdict → Type 0

@@ -1,13 +1,17 @@
 //! The store as a backend.
-ghost use Rattle.std.specs.Prelude.{true};
+ghost use Rattle.std.specs.Prelude.{◌≡◌, ◌≤◌, None, true};
+ghost use Rattle.backend_trait.specs.Store.{MayPost, posted_by};
+ghost use Rattle.backend_trait.specs.declared.request.Posted.TheVariants as posts;
+ghost use Rattle.model_store.specs.Acting.{takes_none};
 ghost use Rattle.model_store.specs.Meaning.{meaning as meaning_of};
 
-use crate::rows::rows_of;
 use crate::store::MemoryStore;
 use crate::verdict::{Verdict, decide};
 use crate::waiting::{has_room, wait};
-use backend_trait::{Answer, Backend, Polled, Posted, Request, Row};
+use backend_trait::{Answer, Backend, Catalogue, Polled, Posted, Request, Row};
+use outcomes::{NextNumbers, rows_of};
 use pool_base::{List, NoMemory, SessionId};
+use sql_copies::catalogue_copied;
 
 /// It is honest, prompt and steady.
 impl Backend for MemoryStore {
@@ -21,12 +25,35 @@ impl Backend for MemoryStore {
 
     ghost is_steady = { λ store. true };
 
-    fn post(&mut self, s: SessionId, request: Request) -> Posted {
+    fn prepare(&mut self, catalogue: &Catalogue) -> Result<(), NoMemory> {
+        let copy = catalogue_copied(self.alloc, catalogue)?;
+        self.numbers = NextNumbers::new(catalogue);
+        self.catalogue = copy;
+        Ok(())
+    }
+
+    fn post(&mut self, s: SessionId, request: Request) -> Posted
+        requires idle { (meaning_of self.old).pending s.number ≡ None }
+        requires may { MayPost (meaning_of self.old) s.number request }
+        ensures posted { posted_by (meaning_of self.old) s.number request result (meaning_of
+            self.new) }
+        ensures count { self.old.faults ≤ self.new.faults }
+        // A post of Lock, Commit or Rollback wants no memory.
+        ensures sure { takes_none request ≡ true → result ≡ posts.Accepted }
+    {
         if !has_room(&mut self.log, &request) {
             return Posted::NoMemory(request);
         }
         let at = s.number as usize;
-        wait(&mut self.seats[at], self.alloc, request)
+        let log = self.log.as_slice();
+        wait(
+            &mut self.seats[at],
+            self.alloc,
+            &self.catalogue,
+            &self.numbers,
+            log,
+            request,
+        )
     }
 
     fn poll(&mut self, s: SessionId) -> Polled {
@@ -50,14 +77,11 @@ impl Backend for MemoryStore {
     }
 
     fn rows_of(&self, table: u8) -> Result<List<Row>, NoMemory> {
-        if table != 0 {
-            return Ok(List::new(self.alloc));
-        }
-        rows_of(self.alloc, self.log.as_slice())
+        rows_of(self.alloc, self.log.as_slice(), table)
     }
 
     fn serial_of(&self, table: u8) -> Option<i64> {
-        None
+        self.numbers.at(table)
     }
 
     fn faults(&self) -> u64 {

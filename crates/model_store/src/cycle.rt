@@ -1,72 +1,87 @@
 //! Whether the request of a seat waits in a cycle of waits.
-ghost use Rattle.std.specs.Prelude.{◌≡◌, ◌≢◌, ◌⊎◌, ◌<◌, ◌≤◌, ◌↔◌, ℕ, true, false, None, IfSome, IsTrue, length, slice_get, slice_index_or};
-ghost use Rattle.std.specs.FinMap.{get};
-ghost use Rattle.backend_trait.specs.Effect.{Wants, Conflicts, place_of, insert_given};
-ghost use Rattle.backend_trait.specs.Store.{view_of};
+ghost use Rattle.std.specs.Prelude.{◌≡◌, ◌≢◌, ◌⊎◌, ◌<◌, ◌≤◌, ◌↔◌, ℕ, ℤ, List as Sequence, Option, true, false, None, IfSome, IsTrue, length, map, slice_get, slice_index_or};
+ghost use Rattle.backend_trait.specs.declared.answer.Answer.{Answer};
+ghost use Rattle.backend_trait.specs.Effect.{Wants, Conflicts, Gives};
+ghost use Rattle.backend_trait.specs.Rows.{Changes};
 ghost use Rattle.backend_trait.specs.Acts.{WhereSome, WaitsIn, WaitsInRun, WaitsFor, IsInCycle};
+ghost use Rattle.schema.specs.declared.catalogue.TableDef.{TableDef};
 ghost use Rattle.model_store.specs.Phases.{live_of};
-ghost use Rattle.model_store.specs.Seats.{store_of, pending_in, mark_in};
+ghost use Rattle.outcomes.specs.Given.{given_in};
+ghost use Rattle.outcomes.specs.Spots.{place_of};
+ghost use Rattle.model_store.specs.Seats.{store_of, pending_in, mark_in, AreGiven};
 ghost use Rattle.model_store.specs.Conflicts.{wants_of, held_in};
 
-use crate::change::{Change, ChangeSet};
 use crate::conflict::{Wanted, holds_other};
-use crate::log::has_changed;
 use crate::phase::{Phase, Waiting, Work};
 use crate::seat::Seat;
-use crate::transaction::value_for;
 use crate::waiting::SEATS;
+use outcomes::{ChangeSet, Outcome, Spot, is_any_changed};
 
-/// What an insertion waits for where another holds it: its key, unless it is refused.
-fn wanted_key(log: &[ChangeSet], work: &Work, change: Change) -> Option<Wanted>
+/// What a statement that wants these places waits for where another holds it: the places, unless it
+/// is refused.
+fn wanted_places<'a>(log: &[ChangeSet], work: &Work, places: &'a [Spot]) -> Option<Wanted<'a>>
+    requires { work.now.mark ≤ length log.now }
+    ensures { (held : Wants) (answer : Answer) (changes : Changes)
+        → WhereSome result (λ wanted. Conflicts (wants_of wanted) held)
+        ↔ WaitsInRun held (live_of log.now work.now)
+        (Gives answer changes (map place_of places.now)) }
+{
+    if is_any_changed(&log[work.mark..], places) {
+        return None;
+    }
+    Some(Wanted::Places(places))
+}
+
+/// What a statement waits for where another holds it.
+fn wanted_run<'a>(log: &[ChangeSet], work: &Work, outcome: &'a Outcome) -> Option<Wanted<'a>>
     requires { work.now.mark ≤ length log.now }
     ensures { (held : Wants) → WhereSome result (λ wanted. Conflicts (wants_of wanted) held)
-        ↔ WaitsInRun held (live_of log.now work.now) (insert_given change.key change.value
-        (get (view_of (live_of log.now work.now)) (place_of change.key))) }
+        ↔ WaitsInRun held (live_of log.now work.now) (given_in outcome.now) }
 {
-    if value_for(work, log, change.key).is_some() {
-        return None;
+    match outcome {
+        Outcome::Fails(_) => None,
+        Outcome::Gives { places, .. } => wanted_places(log, work, places.as_slice()),
     }
-    if has_changed(&log[work.mark..], change.key) {
-        return None;
-    }
-    Some(Wanted::Key(change.key))
 }
 
 /// What the request of a seat waits for where another session holds it.
-fn wanted_by(log: &[ChangeSet], seats: &[Seat], s: usize) -> Option<Wanted>
+fn wanted_by<'a>(log: &[ChangeSet], seats: &'a [Seat], s: usize) -> Option<Wanted<'a>>
     requires below { s < length seats.now }
     requires marked { (o : ℕ) → mark_in (slice_get seats.now o) ≤ length log.now }
-    ensures { (held : Wants) → WhereSome result (λ wanted. Conflicts (wants_of wanted) held)
+    ensures { (numbers : ℕ → Option ℤ) (tables : Sequence TableDef)
+        → AreGiven numbers tables log.now seats.now
+        → (held : Wants) → WhereSome result (λ wanted. Conflicts (wants_of wanted) held)
         ↔ WhereSome (pending_in (slice_get seats.now s))
-        (λ p. WaitsIn (store_of log.now seats.now false) s held p.request) }
+        (λ p. WaitsIn (store_of numbers tables log.now seats.now false) s held p.request) }
 {
     let seat = &seats[s];
     let Some(waiting) = &seat.waiting else {
         return None;
     };
     match waiting {
-        Waiting::Insert(change) => match &seat.phase {
-            Phase::Open(work) => wanted_key(log, work, *change),
+        Waiting::Run(run) => match &seat.phase {
+            Phase::Open(work) => wanted_run(log, work, &run.outcome),
             Phase::Absent | Phase::Dead => unreachable!(),
         },
         Waiting::Lock(table) => Some(Wanted::Table(*table)),
         Waiting::Snapshot => None,
-        Waiting::Select { .. } => None,
         Waiting::Commit => None,
         Waiting::Rollback => None,
+        Waiting::ReadSerial(_) => None,
+        Waiting::SetSerial(..) => None,
     }
 }
 
 /// Marks the other sessions that hold what conflicts.
-fn mark_holders(seats: &[Seat], s: usize, wanted: Wanted, found: &mut [bool; SEATS])
+fn mark_holders(seats: &[Seat], s: usize, wanted: Wanted<'_>, found: &mut [bool; SEATS])
     requires { length seats.now ≡ 65 }
     ensures kept { (o : ℕ) → slice_index_or found.old o false ≡ true
         → slice_index_or found.new o false ≡ true }
-    ensures holders { (o : ℕ) → o ≢ s → Conflicts (wants_of wanted)
+    ensures holders { (o : ℕ) → o ≢ s → Conflicts (wants_of wanted.entry)
         (held_in (slice_get seats.now o)) → slice_index_or found.new o false ≡ true }
     ensures only { (o : ℕ) → slice_index_or found.new o false ≡ true
         → (slice_index_or found.old o false ≡ true)
-        ⊎ ((o ≢ s) × Conflicts (wants_of wanted) (held_in (slice_get seats.now o))) }
+        ⊎ ((o ≢ s) × Conflicts (wants_of wanted.entry) (held_in (slice_get seats.now o))) }
 {
     for other in 0..SEATS {
         if holds_other(seats, s, other, wanted) {
@@ -82,11 +97,15 @@ fn mark_next(log: &[ChangeSet], seats: &[Seat], s: usize, found: &mut [bool; SEA
     requires marked { (o : ℕ) → mark_in (slice_get seats.now o) ≤ length log.now }
     ensures kept { (o : ℕ) → slice_index_or found.old o false ≡ true
         → slice_index_or found.new o false ≡ true }
-    ensures next { (o : ℕ) → WaitsFor (store_of log.now seats.now false) s o
+    ensures next { (numbers : ℕ → Option ℤ) (tables : Sequence TableDef)
+        → AreGiven numbers tables log.now seats.now
+        → (o : ℕ) → WaitsFor (store_of numbers tables log.now seats.now false) s o
         → slice_index_or found.new o false ≡ true }
-    ensures only { (o : ℕ) → slice_index_or found.new o false ≡ true
+    ensures only { (numbers : ℕ → Option ℤ) (tables : Sequence TableDef)
+        → AreGiven numbers tables log.now seats.now
+        → (o : ℕ) → slice_index_or found.new o false ≡ true
         → (slice_index_or found.old o false ≡ true)
-        ⊎ WaitsFor (store_of log.now seats.now false) s o }
+        ⊎ WaitsFor (store_of numbers tables log.now seats.now false) s o }
 {
     match wanted_by(log, seats, s) {
         Some(wanted) => mark_holders(seats, s, wanted, found),
@@ -123,7 +142,9 @@ pub(crate) fn is_in_cycle(log: &[ChangeSet], seats: &[Seat], at: usize) -> bool
     requires all_seated { length seats.now ≡ 65 }
     requires below { at < 65 }
     requires marked { (o : ℕ) → mark_in (slice_get seats.now o) ≤ length log.now }
-    ensures { IsTrue result ↔ IsInCycle (store_of log.now seats.now false) at }
+    ensures { (numbers : ℕ → Option ℤ) (tables : Sequence TableDef)
+        → AreGiven numbers tables log.now seats.now
+        → (IsTrue result ↔ IsInCycle (store_of numbers tables log.now seats.now false) at) }
 {
     let mut found = nobody();
     let mut followed = nobody();

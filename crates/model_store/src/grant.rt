@@ -1,47 +1,77 @@
 //! Requests that are granted.
-ghost use Rattle.std.specs.Prelude.{◌≡◌, ◌≤◌, ◌+◌, None, Some, true, IsSome, length, option_map, option_to_list, vec_len, vec_capacity};
-ghost use Rattle.backend_trait.specs.Acts.{IsOf, HaveColumns};
-ghost use Rattle.backend_trait.specs.Effect.{row_of};
-ghost use Rattle.model_store.specs.Phases.{transaction_of, request_of, fits, room_in, room_wanted, mark_of, owed, granted, logged, answer_to, IsGranted};
+ghost use Rattle.std.specs.Prelude.{◌≡◌, ◌≤◌, ◌+◌, List as Sequence, None, Some, true, IsSome, length, vec_len, vec_capacity};
+ghost use Rattle.sql_eval.specs.Effects.{DrawsFew};
+ghost use Rattle.backend_trait.specs.Store.{drawn, given_to};
+ghost use Rattle.outcomes.specs.declared.change.ChangeSet.{ChangeSet};
+ghost use Rattle.outcomes.specs.Given.{given_in};
+ghost use Rattle.outcomes.specs.Next.{next_of};
+ghost use Rattle.model_store.specs.Phases.{live_of, transaction_of, fits, has_room_for, has_room_in, mark_of, owed, granted, logged, numbered, number_told, answer_of, answer_to, gives, is_result, request_of, IsGivenAt, IsGranted};
+ghost use Rattle.model_store.specs.declared.phase.Run.{Run};
 ghost use Rattle.model_store.specs.declared.phase.Waiting.{Waiting};
+ghost use Rattle.model_store.specs.declared.phase.Waiting.TheVariants as waits;
 
-use crate::change::ChangeSet;
-use crate::phase::{Phase, Waiting, Work};
-use crate::room::{RowRoom, put};
+use crate::phase::{Phase, Run, Waiting, Work};
+use crate::room::put;
 use crate::seat::Seat;
-use crate::transaction::{begun, value_for, with_change, with_lock};
-use backend_trait::{Answer, Row};
-use pool_base::List;
+use crate::transaction::{begun, with_changes, with_lock};
+use backend_trait::{Answer, Catalogue};
+use outcomes::{ChangeSet, NextNumbers, Outcome};
 use std::alloc::Global;
 use std::mem;
 
-/// The rows of a key: the one of its value, or none.
-fn rows_with(alloc: Global, room: RowRoom, key: i32, value: Option<i64>) -> List<Row>
-    ensures rows { result ≡ option_to_list (option_map (row_of key) value) }
-    ensures columns { HaveColumns result }
+/// The transaction once its statement has been granted, and the answer.
+fn grant_run(work: Work, run: Run) -> (Work, Answer)
+    requires gives { is_result run.outcome ≡ true }
+    requires roomy { has_room_for work run.outcome }
+    ensures live { (log : Sequence ChangeSet)
+        → live_of log result.0 ≡ given_to (given_in run.outcome) (live_of log work) }
+    ensures mark { result.0.mark ≡ work.mark }
+    ensures answer { result.1 ≡ answer_of run.outcome }
 {
-    match value {
-        Some(value) => room.filled(key, value),
-        None => List::new(alloc),
+    let Run { statement, outcome } = run;
+    drop(statement);
+    match outcome {
+        Outcome::Gives {
+            answer,
+            changes,
+            places,
+        } => (with_changes(work, changes, places), answer),
+        Outcome::Fails(_) => unreachable!(),
     }
 }
 
-/// Grants a request: the transaction from now on, and the answer.
+/// The next number of a table is told.
+fn number_told(next: Option<i64>) -> Answer
+    ensures { result ≡ number_told next }
+{
+    match next {
+        Some(next) => Answer::Serial(next),
+        None => Answer::Done,
+    }
+}
+
+/// Grants a request: the transaction from now on, and the answer. A statement draws its numbers.
 pub(crate) fn grant(
     alloc: Global,
+    catalogue: &Catalogue,
     log: &mut Vec<ChangeSet>,
+    numbers: &mut NextNumbers,
     phase: Phase,
     waiting: Waiting,
 ) -> (Phase, Answer)
     requires fitting { fits phase (Some waiting) ≡ true }
-    requires roomy { room_wanted phase (Some waiting) ≤ room_in phase }
+    requires roomy { has_room_in phase (Some waiting) }
+    requires gives { gives waiting ≡ true }
+    requires given { IsGivenAt (next_of numbers.old) catalogue.now log.old.items phase
+        (Some waiting) }
     requires marked { mark_of phase ≤ length log.old.items }
     requires room { vec_len log.old + owed phase (Some waiting) ≤ vec_capacity log.old }
     ensures log { log.new.items ≡ logged log.old.items phase waiting }
     ensures phase { transaction_of log.old.items result.0
         ≡ granted log.old.items phase waiting }
-    ensures answer { result.1 ≡ answer_to log.old.items phase waiting }
-    ensures form { IsOf (request_of waiting) result.1 }
+    ensures answer { result.1 ≡ answer_to (next_of numbers.old) waiting }
+    ensures numbers { next_of numbers.new
+        ≡ numbered catalogue.now (next_of numbers.old) waiting }
     ensures marked { mark_of result.0 ≤ length log.old.items }
     ensures room { vec_len log.new + owed result.0 None
         ≤ vec_len log.old + owed phase (Some waiting) }
@@ -49,15 +79,11 @@ pub(crate) fn grant(
 {
     match waiting {
         Waiting::Snapshot => (Phase::Open(begun(alloc, log.as_slice())), Answer::Began),
-        Waiting::Insert(change) => match phase {
-            Phase::Open(work) => (Phase::Open(with_change(work, change)), Answer::Count(1)),
-            Phase::Absent | Phase::Dead => unreachable!(),
-        },
-        Waiting::Select { key, room } => match phase {
+        Waiting::Run(run) => match phase {
             Phase::Open(work) => {
-                let value = value_for(&work, log.as_slice(), key);
-                let rows = rows_with(alloc, room, key, value);
-                (Phase::Open(work), Answer::Rows(rows))
+                numbers.draw(catalogue, &run.statement);
+                let (work, answer) = grant_run(work, run);
+                (Phase::Open(work), answer)
             }
             Phase::Absent | Phase::Dead => unreachable!(),
         },
@@ -73,17 +99,35 @@ pub(crate) fn grant(
             Phase::Absent | Phase::Dead => unreachable!(),
         },
         Waiting::Rollback => (Phase::Absent, Answer::Done),
+        Waiting::ReadSerial(table) => (phase, number_told(numbers.at(table))),
+        Waiting::SetSerial(table, next) => {
+            numbers.set(table, Some(next));
+            (phase, Answer::Done)
+        }
     }
 }
 
 /// Grants the request that waits in a seat.
-pub(crate) fn grant_at(alloc: Global, log: &mut Vec<ChangeSet>, seat: &mut Seat) -> Answer
+pub(crate) fn grant_at(
+    alloc: Global,
+    catalogue: &Catalogue,
+    log: &mut Vec<ChangeSet>,
+    numbers: &mut NextNumbers,
+    seat: &mut Seat,
+) -> Answer
     requires waits { IsSome seat.old.waiting }
+    requires gives { (waiting : Waiting) → seat.old.waiting ≡ Some waiting
+        → gives waiting ≡ true }
+    requires given { IsGivenAt (next_of numbers.old) catalogue.now log.old.items seat.old.phase
+        seat.old.waiting }
     requires marked { mark_of seat.old.phase ≤ length log.old.items }
     requires room { vec_len log.old + owed seat.old.phase seat.old.waiting
         ≤ vec_capacity log.old }
     ensures granted { (waiting : Waiting) → seat.old.waiting ≡ Some waiting
-        → IsGranted log.old.items seat.old.phase waiting result log.new.items seat.new.phase }
+        → IsGranted (next_of numbers.old) log.old.items seat.old.phase waiting result log.new.items
+        seat.new.phase }
+    ensures numbers { (waiting : Waiting) → seat.old.waiting ≡ Some waiting
+        → next_of numbers.new ≡ numbered catalogue.now (next_of numbers.old) waiting }
     ensures none { seat.new.waiting ≡ None }
     ensures marked { mark_of seat.new.phase ≤ length log.old.items }
     ensures room { vec_len log.new + owed seat.new.phase seat.new.waiting
@@ -98,10 +142,31 @@ pub(crate) fn grant_at(alloc: Global, log: &mut Vec<ChangeSet>, seat: &mut Seat)
     let Some(waiting) = waiting else {
         unreachable!()
     };
-    let (phase, answer) = grant(alloc, log, phase, waiting);
-    *seat = Seat {
+    let (phase, answer) = grant(alloc, catalogue, log, numbers, phase, waiting);
+    let granted = Seat {
         phase,
         waiting: None,
     };
+    drop(mem::replace(seat, granted));
     answer
+}
+
+/// A request that is refused draws its numbers, where it is a statement.
+pub(crate) fn draw(catalogue: &Catalogue, numbers: &mut NextNumbers, waiting: &Option<Waiting>)
+    requires { (run : Run) → waiting.now ≡ Some (waits.Run run) → DrawsFew run.statement.body }
+    ensures { (w : Waiting) → waiting.now ≡ Some w
+        → next_of numbers.new ≡ drawn catalogue.now (next_of numbers.old) (request_of w) }
+{
+    match waiting {
+        Some(Waiting::Run(run)) => numbers.draw(catalogue, &run.statement),
+        Some(
+            Waiting::Snapshot
+            | Waiting::Lock(_)
+            | Waiting::Commit
+            | Waiting::Rollback
+            | Waiting::ReadSerial(_)
+            | Waiting::SetSerial(..),
+        )
+        | None => (),
+    }
 }

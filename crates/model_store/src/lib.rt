@@ -3,14 +3,11 @@
 
 mod asking;
 mod backend;
-mod change;
 mod conflict;
 mod cycle;
 mod grant;
-mod log;
 mod phase;
 mod room;
-mod rows;
 mod seat;
 mod serving;
 mod store;

@@ -1,19 +1,28 @@
 //! The store.
-ghost use Rattle.std.specs.Prelude.{◌≡◌, ◌≤◌, ◌+◌, ℕ, length, slice_get, vec_len, vec_capacity};
-ghost use Rattle.model_store.specs.Seats.{mark_in, all_owed};
+ghost use Rattle.std.specs.Prelude.{◌≡◌, ◌≤◌, ◌+◌, ℕ, [], IfOk, length, slice_get, vec_len, vec_capacity};
+ghost use Rattle.schema_print.specs.Allowed.{AreAllowed};
+ghost use Rattle.model_store.specs.Seats.{mark_in, all_owed, AreGiven, AreGiven-prop as prop};
 ghost use Rattle.model_store.specs.Conflicts.{AreApart};
+ghost use Rattle.outcomes.specs.Next.{next_of};
+ghost use Rattle.outcomes.specs.Stored.{AreAllStored};
+ghost use Rattle.model_store.specs.Stored.{AreEachStored, all_stored-prop, each_stored-prop};
 
-use crate::change::ChangeSet;
 use crate::phase::Phase;
 use crate::seat::Seat;
 use crate::waiting::SEATS;
+use backend_trait::Catalogue;
+use catalogue::{SchemaFault, read_schema};
+use outcomes::{ChangeSet, NextNumbers};
 use pool_base::NoMemory;
 use std::alloc::Global;
 
-/// A database in memory, of one table `t (id int4, v int8)`, with up to 64 sessions.
+/// A database in memory, with up to 64 sessions.
 #[derive(Drop)]
 pub struct MemoryStore {
     pub(crate) alloc: Global,
+    pub(crate) catalogue: Catalogue,
+    /// The next numbers of serial columns.
+    pub(crate) numbers: NextNumbers,
     /// The sets of changes that were committed, oldest first.
     pub(crate) log: Vec<ChangeSet>,
     /// The seat of each session at its number.
@@ -24,12 +33,30 @@ pub struct MemoryStore {
     ghost apart: { AreApart seats.items },
     // What was committed at a snapshot stays at the log's front.
     ghost marked: { (s : ℕ) → mark_in (slice_get seats.items s) ≤ length log.items },
+    // A schema can have the tables, and what stands in the log and in each transaction is of its
+    // table.
+    ghost allowed: { ∥ AreAllowed catalogue ∥₁ },
+    ghost committed: { AreAllStored catalogue log.items } by { all_stored-prop _ _ },
+    ghost stored: { AreEachStored catalogue seats.items } by { each_stored-prop _ _ },
+    // What each statement gives that waits is its effect.
+    ghost given: { AreGiven (next_of numbers) catalogue log.items seats.items } by { prop _ _ _ _ },
     // Each live transaction has room for its set.
     ghost roomy: { vec_len log + all_owed seats.items ≤ vec_capacity log },
 }
 
+/// A catalogue without tables.
+fn no_tables(alloc: Global) -> Result<Catalogue, NoMemory>
+    ensures { IfOk result (λ catalogue. catalogue ≡ []) }
+{
+    let text = "";
+    match read_schema(alloc, text.as_bytes()) {
+        Ok(catalogue) => Ok(catalogue),
+        Err(SchemaFault::NoMemory) => Err(NoMemory),
+        Err(SchemaFault::BadLine(_)) => unreachable!(),
+    }
+}
+
 impl MemoryStore {
-    ghost use Rattle.std.specs.Prelude.{IfOk};
     ghost use Rattle.backend_trait.specs.Store.{blank};
     ghost use Rattle.model_store.specs.Meaning.{meaning};
 
@@ -44,8 +71,12 @@ impl MemoryStore {
                 waiting: None,
             })?;
         }
+        let catalogue = no_tables(alloc)?;
+        let numbers = NextNumbers::new(&catalogue);
         Ok(MemoryStore {
             alloc,
+            catalogue,
+            numbers,
             log: Vec::new(alloc),
             seats,
             is_lost: false,

@@ -1,16 +1,15 @@
 //! The steps of a live transaction.
-ghost use Rattle.std.specs.Prelude.{◌≡◌, ◌<◌, ◌≤◌, ◌+◌, ◌++◌, List as Sequence, Some, true, length, option_map, vec_len, vec_capacity};
-ghost use Rattle.std.specs.FinMap.{get};
-ghost use Rattle.backend_trait.specs.Effect.{place_of, row_of};
-ghost use Rattle.backend_trait.specs.Store.{begun, view_of, given_to};
-ghost use Rattle.model_store.specs.declared.change.ChangeSet.{ChangeSet};
-ghost use Rattle.model_store.specs.Log.{rows_of};
-ghost use Rattle.model_store.specs.Phases.{live_of, inserted, with_lock};
+ghost use Rattle.std.specs.Prelude.{◌≡◌, ◌≤◌, ◌+◌, List as Sequence, length, map, vec_len, vec_capacity};
+ghost use Rattle.backend_trait.specs.Store.{begun};
+ghost use Rattle.outcomes.specs.declared.change.ChangeSet.{ChangeSet};
+ghost use Rattle.outcomes.specs.Log.{rows_of};
+ghost use Rattle.outcomes.specs.Spots.{place_of};
+ghost use Rattle.model_store.specs.Phases.{live_of, live_after, with_lock};
 
-use crate::change::{Change, ChangeSet};
-use crate::log::{committed_value, later, value_in};
 use crate::phase::Work;
-use crate::room::put;
+use crate::room::put_all;
+use outcomes::{ChangeSet, Spot};
+use sql_eval::Change;
 use std::alloc::Global;
 
 /// A transaction on the rows as they are committed now.
@@ -23,33 +22,32 @@ pub(crate) fn begun(alloc: Global, log: &[ChangeSet]) -> Work
         own: ChangeSet {
             changes: Vec::new(alloc),
         },
+        held: Vec::new(alloc),
         locks: [false; 256],
     }
 }
 
-/// The value that a key has for the transaction.
-pub(crate) fn value_for(work: &Work, log: &[ChangeSet], key: i32) -> Option<i64>
-    requires { work.now.mark ≤ length log.now }
-    ensures { get (view_of (live_of log.now work.now)) (place_of key) ≡ option_map (row_of key)
-        result }
-{
-    let base = committed_value(&log[..work.mark], key);
-    later(base, value_in(work.own.changes.as_slice(), key))
-}
-
-/// The transaction with one change more.
-pub(crate) fn with_change(work: Work, change: Change) -> Work
-    requires { vec_len work.own.changes < vec_capacity work.own.changes }
+/// The transaction with changes and places more, for which there is room.
+pub(crate) fn with_changes(work: Work, more: Vec<Change>, places: Vec<Spot>) -> Work
+    requires changes { vec_len work.own.changes + vec_len more ≤ vec_capacity work.own.changes }
+    requires places { vec_len work.held + vec_len places ≤ vec_capacity work.held }
     ensures live { (log : Sequence ChangeSet) → live_of log result
-        ≡ given_to (inserted change) (live_of log work) }
+        ≡ live_after more.items (map place_of places.items) (live_of log work) }
     ensures mark { result.mark ≡ work.mark }
 {
-    let Work { mark, own, locks } = work;
+    let Work {
+        mark,
+        own,
+        mut held,
+        locks,
+    } = work;
     let ChangeSet { mut changes } = own;
-    put(&mut changes, change);
+    put_all(&mut changes, more);
+    put_all(&mut held, places);
     Work {
         mark,
         own: ChangeSet { changes },
+        held,
         locks,
     }
 }
@@ -63,8 +61,14 @@ pub(crate) fn with_lock(work: Work, table: u8) -> Work
     let Work {
         mark,
         own,
+        held,
         mut locks,
     } = work;
     locks[usize::from(table)] = true;
-    Work { mark, own, locks }
+    Work {
+        mark,
+        own,
+        held,
+        locks,
+    }
 }

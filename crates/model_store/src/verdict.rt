@@ -1,21 +1,22 @@
 //! What becomes of a request that waits.
-ghost use Rattle.std.specs.Prelude.{◌≡◌, ◌<◌, ◌≤◌, ℕ, List as Sequence, false, IsSome, length, slice_get, codes};
-ghost use Rattle.std.specs.FinMap.{get};
-ghost use Rattle.backend_trait.specs.Effect.{place_of, insert_given};
-ghost use Rattle.backend_trait.specs.Store.{view_of};
+ghost use Rattle.std.specs.Prelude.{◌≡◌, ◌<◌, ◌≤◌, ℕ, ℤ, List as Sequence, Option, false, IsSome, length, map, slice_get, codes};
 ghost use Rattle.backend_trait.specs.Acts.{WhereSome};
-ghost use Rattle.model_store.specs.Phases.{live_of, pending_of};
-ghost use Rattle.model_store.specs.declared.change.ChangeSet.{ChangeSet};
-ghost use Rattle.model_store.specs.Seats.{store_of, pending_in, mark_in};
+ghost use Rattle.backend_trait.specs.declared.answer.Answer.{Answer};
+ghost use Rattle.backend_trait.specs.Effect.{Gives, table_in};
+ghost use Rattle.backend_trait.specs.Rows.{Changes};
+ghost use Rattle.schema.specs.declared.catalogue.TableDef.{TableDef};
+ghost use Rattle.model_store.specs.Phases.{live_of, IsGivenIn};
+ghost use Rattle.outcomes.specs.Given.{given_in};
+ghost use Rattle.outcomes.specs.Spots.{place_of};
+ghost use Rattle.outcomes.specs.declared.change.ChangeSet.{ChangeSet};
+ghost use Rattle.model_store.specs.Seats.{store_of, pending_in, mark_in, AreGiven};
 ghost use Rattle.model_store.specs.Verdicts.{Fits, FitsLock, FitsRun, IsDecided};
 
-use crate::change::{Change, ChangeSet};
 use crate::conflict::{Wanted, is_taken};
 use crate::cycle::is_in_cycle;
-use crate::log::has_changed;
-use crate::phase::{Phase, Waiting, Work};
+use crate::phase::{Phase, Run, Waiting, Work};
 use crate::seat::Seat;
-use crate::transaction::value_for;
+use outcomes::{ChangeSet, Outcome, Spot, is_any_changed};
 use pool_base::Code;
 
 /// What becomes of a request that waits.
@@ -27,12 +28,6 @@ pub enum Verdict {
     Waits,
     /// It is refused with this code.
     Refused(Code),
-}
-
-fn duplicate_key() -> Code
-    ensures { result.bytes ≡ codes "23505" }
-{
-    Code { bytes: *b"23505" }
 }
 
 fn changed_meanwhile() -> Code
@@ -47,30 +42,44 @@ fn deadlock() -> Code
     Code { bytes: *b"40P01" }
 }
 
-/// What becomes of an insertion: a second row of a key is refused, and then a key that another
-/// transaction has changed since the snapshot; a key that another holds is waited for.
-pub(crate) fn verdict_on_insert(
+/// What becomes of a statement that wants these places: it is refused where another transaction has
+/// changed one of them since the snapshot; a place that another holds is waited for.
+fn verdict_on_places(
     log: &[ChangeSet],
     seats: &[Seat],
     at: usize,
     work: &Work,
-    change: Change,
+    places: &[Spot],
 ) -> Verdict
     requires { work.now.mark ≤ length log.now }
-    ensures { FitsRun (store_of log.now seats.now false) at (live_of log.now work.now) 0
-        (insert_given change.key change.value (get (view_of (live_of log.now work.now))
-        (place_of change.key))) result }
+    ensures { (numbers : ℕ → Option ℤ) (tables : Sequence TableDef) (table : Option ℕ)
+        (answer : Answer) (changes : Changes)
+        → FitsRun (store_of numbers tables log.now seats.now false) at (live_of log.now work.now)
+        table (Gives answer changes (map place_of places.now)) result }
 {
-    if value_for(work, log, change.key).is_some() {
-        return Verdict::Refused(duplicate_key());
-    }
-    if has_changed(&log[work.mark..], change.key) {
+    if is_any_changed(&log[work.mark..], places) {
         return Verdict::Refused(changed_meanwhile());
     }
-    if is_taken(seats, at, Wanted::Key(change.key)) {
+    if is_taken(seats, at, Wanted::Places(places)) {
         return Verdict::Waits;
     }
     Verdict::Goes
+}
+
+/// What becomes of a statement: it is refused with its code, and then for the places that it wants.
+fn verdict_on_run(log: &[ChangeSet], seats: &[Seat], at: usize, work: &Work, run: &Run) -> Verdict
+    requires { work.now.mark ≤ length log.now }
+    ensures { (numbers : ℕ → Option ℤ) (tables : Sequence TableDef)
+        → IsGivenIn numbers tables (live_of log.now work.now) run.now
+        → FitsRun (store_of numbers tables log.now seats.now false) at (live_of log.now work.now)
+        (table_in run.now.statement) (given_in run.now.outcome) result }
+{
+    match &run.outcome {
+        Outcome::Fails(code) => Verdict::Refused(*code),
+        Outcome::Gives { places, .. } => {
+            verdict_on_places(log, seats, at, work, places.as_slice())
+        }
+    }
 }
 
 /// What becomes of the request of a seat: one that another session holds up is refused where its
@@ -80,8 +89,10 @@ pub(crate) fn decide(log: &[ChangeSet], seats: &[Seat], at: usize) -> Verdict
     requires below { at < 65 }
     requires pending { IsSome (pending_in (slice_get seats.now at)) }
     requires marked { (o : ℕ) → mark_in (slice_get seats.now o) ≤ length log.now }
-    ensures { WhereSome (pending_in (slice_get seats.now at))
-        (λ p. IsDecided (store_of log.now seats.now false) at p.request result) }
+    ensures { (numbers : ℕ → Option ℤ) (tables : Sequence TableDef)
+        → AreGiven numbers tables log.now seats.now
+        → WhereSome (pending_in (slice_get seats.now at))
+        (λ p. IsDecided (store_of numbers tables log.now seats.now false) at p.request result) }
 {
     match verdict_on(log, seats, at) {
         Verdict::Goes => Verdict::Goes,
@@ -101,30 +112,33 @@ fn verdict_on(log: &[ChangeSet], seats: &[Seat], at: usize) -> Verdict
     requires below { at < length seats.now }
     requires pending { IsSome (pending_in (slice_get seats.now at)) }
     requires marked { mark_in (slice_get seats.now at) ≤ length log.now }
-    ensures { WhereSome (pending_in (slice_get seats.now at))
-        (λ p. Fits (store_of log.now seats.now false) at p.request result) }
+    ensures { (numbers : ℕ → Option ℤ) (tables : Sequence TableDef)
+        → AreGiven numbers tables log.now seats.now
+        → WhereSome (pending_in (slice_get seats.now at))
+        (λ p. Fits (store_of numbers tables log.now seats.now false) at p.request result) }
 {
     let seat = &seats[at];
     let Some(waiting) = &seat.waiting else {
         unreachable!()
     };
     match waiting {
-        Waiting::Insert(change) => match &seat.phase {
-            Phase::Open(work) => verdict_on_insert(log, seats, at, work, *change),
+        Waiting::Run(run) => match &seat.phase {
+            Phase::Open(work) => verdict_on_run(log, seats, at, work, run),
             Phase::Absent | Phase::Dead => unreachable!(),
         },
         Waiting::Lock(table) => verdict_on_lock(seats, at, *table),
         Waiting::Snapshot => Verdict::Goes,
-        Waiting::Select { .. } => Verdict::Goes,
         Waiting::Commit => Verdict::Goes,
         Waiting::Rollback => Verdict::Goes,
+        Waiting::ReadSerial(_) => Verdict::Goes,
+        Waiting::SetSerial(..) => Verdict::Goes,
     }
 }
 
 /// What becomes of a lock: it is waited for where another holds what conflicts.
 fn verdict_on_lock(seats: &[Seat], at: usize, table: u8) -> Verdict
-    ensures { (log : Sequence ChangeSet)
-        → FitsLock (store_of log seats.now false) at table result }
+    ensures { (numbers : ℕ → Option ℤ) (tables : Sequence TableDef) (log : Sequence ChangeSet)
+        → FitsLock (store_of numbers tables log seats.now false) at table result }
 {
     if is_taken(seats, at, Wanted::Table(table)) {
         Verdict::Waits

@@ -2,6 +2,7 @@
 use Rattle.std.proofs.Common.{◌≡◌, ◌≢◌, ℕ, Bool, true, false, List, [], ◌∷◌, refl, sym, ap, ◌∙◌, subst}
 use Rattle.std.specs.Prelude.{◌&&◌, is_some, Option, Some, None}
 use Rattle.pool_base.specs.declared.backend_set.BackendSet.{BackendSet}
+use Rattle.schema.specs.declared.catalogue.TableDef.{TableDef}
 use Rattle.session_machine.specs.declared.order.OrderBody.{OrderBody}
 use Rattle.session_machine.specs.declared.order.OrderBody.TheVariants as orders
 use Rattle.session_machine.specs.declared.outcome.Outcome.{Outcome}
@@ -18,9 +19,10 @@ use Rattle.session_machine.specs.Classes.{is_classed}
 use Rattle.session_machine.specs.Allowed.{MayHappen as MachineMay, is_resting, fits_at_rest, may_order}
 use Rattle.one_copy_model.specs.declared.event.Event.{Event}
 use Rattle.one_copy_model.specs.declared.event.Event.TheVariants.{Of, Act, Lost}
-use Rattle.one_copy_model.specs.World.{first_world, MayHappen, IsSchedule}
+use Rattle.one_copy_model.specs.World.{World, first_world, after, MayHappen, IsSchedule}
 use Rattle.one_copy_model.specs.Deaths.{stage_at, answer_from}
-use Rattle.one_copy_model.specs.Tracking.{Told, Tracked, first_tracked, tracked_after, tracked_all}
+use Rattle.one_copy_model.specs.SingleRun.{IsRun}
+use Rattle.one_copy_model.specs.Tracking.{Told, Tracked, first_tracked, tracked_after, tracked_all, single_run}
 use Rattle.one_copy_model.specs.Replies.{IsReply, IsDoneBy, WhereEntered, FollowsReply, RepliesRightAt, RepliesRight, RepliesMatch, AcknowledgedAt, Acknowledged, AllAcknowledged}
 use Rattle.one_copy_model.specs.Statement.{IsOneCopy}
 use Rattle.one_copy_model.specs.Standing.{Leaving, standing_by, standing_of}
@@ -105,11 +107,23 @@ at_last : (t : Tracked) (es : List Event) → AlwaysHolds t es → Invariant (tr
 at_last t [] h = h
 at_last t (e ∷ es) h = at_last (tracked_after t e) es h.1
 
-pub one_copy : (policy : ReadPolicy) (attached : BackendSet) (es : List Event) → IsSchedule (first_world policy attached) es → AlwaysHolds (first_tracked policy attached) es → IsOneCopy policy attached es
-one_copy policy attached es may h = record {
-  run = (at_last (first_tracked policy attached) es h).run;
-  replies = replies_match (first_tracked policy attached) es may h;
+-- no event changes the tables
+tables_after : (w : World) (e : Event) → (after w e).tables ≡ w.tables
+tables_after w (Of s event) = refl
+tables_after w (Act s b answer) = refl
+tables_after w (Lost b) = refl
+
+tables_at_last : (t : Tracked) (es : List Event) → (tracked_all t es).world.tables ≡ t.world.tables
+tables_at_last t [] = refl
+tables_at_last t (e ∷ es) = tables_at_last (tracked_after t e) es ∙ tables_after t.world e
+
+pub one_copy : (tables : List TableDef) (policy : ReadPolicy) (attached : BackendSet) (es : List Event) → IsSchedule (first_world tables policy attached) es → AlwaysHolds (first_tracked tables policy attached) es → IsOneCopy tables policy attached es
+one_copy tables policy attached es may h = record {
+  run =
+      subst (λ (ts : List TableDef). IsRun ts (single_run tables policy attached es)) (tables_at_last (first_tracked tables policy attached) es)
+      (at_last (first_tracked tables policy attached) es h).run;
+  replies = replies_match (first_tracked tables policy attached) es may h;
 }
 
-pub acknowledged : (policy : ReadPolicy) (attached : BackendSet) (es : List Event) → IsSchedule (first_world policy attached) es → AlwaysHolds (first_tracked policy attached) es → AllAcknowledged (first_tracked policy attached) es
-acknowledged policy attached es may h = all_acknowledged (first_tracked policy attached) es may h
+pub acknowledged : (tables : List TableDef) (policy : ReadPolicy) (attached : BackendSet) (es : List Event) → IsSchedule (first_world tables policy attached) es → AlwaysHolds (first_tracked tables policy attached) es → AllAcknowledged (first_tracked tables policy attached) es
+acknowledged tables policy attached es may h = all_acknowledged (first_tracked tables policy attached) es may h

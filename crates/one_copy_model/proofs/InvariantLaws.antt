@@ -4,15 +4,15 @@ use Rattle.std.specs.Prelude.{◌⊎◌, if◌then◌else◌, Option, Some, None
 use Rattle.std.specs.FinMap as fin
 use Rattle.std.proofs.lemmas.Bool.Decides.{leb_tells}
 use Rattle.pool_base.specs.declared.backend_set.BackendSet.{BackendSet}
+use Rattle.schema.specs.declared.catalogue.TableDef.{TableDef}
+use Rattle.typed_effects.specs.Typed.{AreAllStored}
 use Rattle.backend_trait.specs.declared.request.Request.{Request}
 use Rattle.backend_trait.specs.declared.request.Request.TheVariants as requests
 use Rattle.backend_trait.specs.declared.answer.Answer.{Answer}
 use Rattle.backend_trait.specs.Keys.{Place, place_order}
 use Rattle.backend_trait.specs.Rows.{no_rows}
-use Rattle.backend_trait.specs.Acts.{HasColumns}
-use Rattle.backend_trait.specs.declared.row.Row.{Row}
 use Rattle.backend_trait.specs.Effect.{nothing, Conflicts, same_place, same_table, table_left, table_right}
-use Rattle.backend_trait.specs.Store.{Absent, Alive, blank, is_refusal}
+use Rattle.backend_trait.specs.Store.{Absent, Alive, prepared, is_refusal}
 use Rattle.backend_trait.proofs.RowLaws.{same_rows}
 use Rattle.session_machine.specs.declared.action.Action.TheVariants as actions
 use Rattle.session_machine.specs.declared.machine.ReadPolicy.{ReadPolicy}
@@ -37,32 +37,32 @@ no_conflict (same_table t x y) = let e : false ≡ true = x in cc
 no_conflict (table_left p x y) = let e : false ≡ true = x in cc
 no_conflict (table_right p x y) = let e : false ≡ true = x in cc
 
-blank_sound : IsSound blank
-blank_sound = record {
+first_sound : (tables : List TableDef) → IsSound (prepared tables)
+first_sound tables = record {
   apart = λ s o other c. no_conflict c;
   changed = λ s t p e. absurd (let n : Absent ≡ Alive t = e in cc);
   fresh = λ s t p e. absurd (let n : Absent ≡ Alive t = e in cc);
 }
 
-no_row : (row : Row) (found : Option Row) → found ≡ None → found ≡ Some row → HasColumns row
-no_row row found none e = absurd (let n : None ≡ Some row = sym none ∙ e in cc)
+none_stored : (tables : List TableDef) → AreAllStored tables no_rows
+none_stored tables p row e = absurd (let n : None ≡ Some row = sym (fin.get-empty place_order p) ∙ e in cc)
 
-blank_shaped : AreShaped blank
-blank_shaped = record {
-  rows = λ p row e. no_row row (fin.get no_rows p) (fin.get-empty place_order p) e;
-  bases = λ s t p row e. absurd (let n : Absent ≡ Alive t = e in cc);
+first_shaped : (tables : List TableDef) → AreShaped (prepared tables)
+first_shaped tables = record {
+  rows = none_stored tables;
+  bases = λ s t e. absurd (let n : Absent ≡ Alive t = e in cc);
   changes = λ s t p row e. absurd (let n : Absent ≡ Alive t = e in cc);
 }
 
-pub alike_first : (policy : ReadPolicy) (attached : BackendSet) → AnswersAlike (first_tracked policy attached)
-alike_first policy attached = record {
+pub alike_first : (tables : List TableDef) (policy : ReadPolicy) (attached : BackendSet) → AnswersAlike (first_tracked tables policy attached)
+alike_first tables policy attached = record {
   uncrossed = λ s b lower p stage here below less e. absurd (let n : None ≡ Some stage = e in cc);
   lowest = λ s b lower stage code here below e. absurd (let n : None ≡ Some stage = e in cc);
   stopped = λ s b c stage answer here e. absurd (let n : None ≡ Some stage = e in cc);
 }
 
-pub holds_first : (policy : ReadPolicy) (attached : BackendSet) → Invariant (first_tracked policy attached)
-holds_first policy attached = record {
+pub holds_first : (tables : List TableDef) (policy : ReadPolicy) (attached : BackendSet) → Invariant (first_tracked tables policy attached)
+holds_first tables policy attached = record {
   counts = record { snaps = refl; commits = refl; live = refl; apart = inl refl; quiet = λ e. absurd (let n : 0 ≡ 3 = e in omega (arith, n)) };
   strangers = λ s h. record { point = refl; out = refl; asks = λ b. refl; none = λ b. refl; told = λ b. refl; none_there = refl };
   inside = λ s. refl;
@@ -76,13 +76,13 @@ holds_first policy attached = record {
   parting = λ s stage best own among more e. absurd (let n : Resting ≡ SplitDue stage best own among more = e in cc);
   causes = λ s b cause e. absurd (let n : actions.Rest ≡ actions.Detach b cause = e in cc);
   stands = λ s b here. (refl, refl);
-  sound = λ b here. blank_sound;
-  shaped = λ b. blank_shaped;
-  sound_there = blank_sound;
+  sound = λ b here. first_sound tables;
+  shaped = λ b. first_shaped tables;
+  sound_there = first_sound tables;
   stale = λ o s p last u in_it. absurd (let n : false ≡ true = in_it in cc);
   stale_known = λ s b l u p here e. absurd (let n : Absent ≡ Alive l = e in cc);
   crossed_there = λ s b p q here kept e. absurd (let n : None ≡ Some p = e in cc);
-  unchanged = λ s u tables e. absurd (let n : phases.Out ≡ phases.Live false tables = e in cc);
+  unchanged = λ s u locks e. absurd (let n : phases.Out ≡ phases.Live false locks = e in cc);
   rows_same = λ b p here none. refl;
   rows_left = λ o b p last here leaves e. absurd (let n : Absent ≡ Alive last = e in cc);
   numbers = λ b table here. inl refl;

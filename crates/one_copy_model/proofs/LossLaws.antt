@@ -33,10 +33,10 @@ below_same p q same zero = refl
 below_same p q same (suc n) = ap (λ (x : Bool). x || some_below p n) (same n) ∙ ap (λ (x : Bool). q n || x) (below_same p q same n)
 
 -- nobody dies where all that is live is alive
-none_fall : (w : World) (history : List Entry) → ((s : ℕ) → is_live ((store_after history).transaction s) ≡ true → is_alive w s ≡ true) → (n : ℕ) → fallen w history n ≡ history
+none_fall : (w : World) (history : List Entry) → ((s : ℕ) → is_live ((store_after w.tables history).transaction s) ≡ true → is_alive w s ≡ true) → (n : ℕ) → fallen w history n ≡ history
 unfolding fallen
 none_fall w history alive zero = refl
-none_fall w history alive (suc n) = ap (fell_at n) (none_fall w history alive n) ∙ here (is_live ((store_after history).transaction n)) (is_alive w n) (alive n) _
+none_fall w history alive (suc n) = ap (fell_at n) (none_fall w history alive n) ∙ here (is_live ((store_after w.tables history).transaction n)) (is_alive w n) (alive n) _
   where
     fell_at : ℕ → List Entry → List Entry
     fell_at s h = fell w s h
@@ -113,7 +113,7 @@ module _ (t : Tracked) (b : BackendId) (h : Invariant t) where
     heard = h.heard;
     parting = h.parting;
     causes = h.causes;
-    stands = λ s k here. keeps (λ x. Stands (single t) s (leaving_of s t.history) (standing_of t.world s k) (x.transaction s) ((single t).transaction s)) (λ x e. e) t.world.store b.number k (h.stands s k here);
+    stands = λ s k here. keeps (λ x. Stands (single t) s (leaving_of t.world.tables s t.history) (standing_of t.world s k) (x.transaction s) ((single t).transaction s)) (λ x e. e) t.world.store b.number k (h.stands s k here);
     sound = λ k here. keeps IsSound (λ x sound. record { apart = sound.apart; changed = sound.changed; fresh = sound.fresh }) t.world.store b.number k (h.sound k here);
     shaped = λ k. keeps AreShaped (λ x shaped. record { rows = shaped.rows; bases = shaped.bases; changes = shaped.changes }) t.world.store b.number k (h.shaped k);
     sound_there = h.sound_there;

@@ -4,6 +4,7 @@ use Rattle.std.specs.Prelude.{Option, Some, None}
 use Rattle.pool_base.specs.declared.backend_set.BackendSet.{BackendSet}
 use Rattle.pool_base.specs.declared.gate_call.GateCall.{GateCall}
 use Rattle.pool_base.specs.declared.gate_call.GateCall.TheVariants as calls
+use Rattle.schema.specs.declared.catalogue.TableDef.{TableDef}
 use Rattle.session_machine.specs.declared.action.SessionEvent.{SessionEvent}
 use Rattle.session_machine.specs.declared.action.SessionEvent.TheVariants as events
 use Rattle.session_machine.specs.declared.machine.ReadPolicy.{ReadPolicy}
@@ -18,6 +19,10 @@ pub none_fails : (w : World) (es : List Event) (n : ℕ) → IsSchedule w es →
 none_fails w [] n s f = f
 none_fails w (e ∷ es) zero s f = f s.0
 none_fails w (e ∷ es) (suc n) s f = none_fails (after w e) es n s.1 f.1
+
+pub some_fails : (w : World) (es : List Event) → (IsSchedule w es → ⊥) → ((n : ℕ) → FailsAt w es n → ⊥) → ⊥
+some_fails w [] not none = not tt
+some_fails w (e ∷ es) not none = none 0 (λ may. some_fails (after w e) es (λ rest. not (may, rest)) (λ n fails. none (suc n) (may, fails)))
 
 pub one_fails : (w : World) (es : List Event) (n m : ℕ) → FailsAt w es n → FailsAt w es m → n ≡ m
 one_fails w [] n m f g = absurd f
@@ -85,7 +90,7 @@ all_lead : (w : World) (es : List Event) → state_after w.gate (calls_of es) �
 all_lead w [] = refl
 all_lead w (e ∷ es) = step_leads w e (calls_of es) ∙ all_lead (after w e) es
 
-pub apart : (policy : ReadPolicy) (attached : BackendSet) (es : List Event) → IsSchedule (first_world policy attached) es → AreApart (after_all (first_world policy attached) es).gate
-apart policy attached es s =
-    subst (λ (g : GateState). AreApart g) (all_lead (first_world policy attached) es)
-    (always_apart attached (calls_of es) (all_run (first_world policy attached) es s))
+pub apart : (tables : List TableDef) (policy : ReadPolicy) (attached : BackendSet) (es : List Event) → IsSchedule (first_world tables policy attached) es → AreApart (after_all (first_world tables policy attached) es).gate
+apart tables policy attached es s =
+    subst (λ (g : GateState). AreApart g) (all_lead (first_world tables policy attached) es)
+    (always_apart attached (calls_of es) (all_run (first_world tables policy attached) es s))

@@ -1,15 +1,16 @@
 -- What holds of a chain that is under way: the order in which it asks, the answers that were heard, and answers that differ.
-use Rattle.std.specs.Prelude.{◌≡◌, ◌⊎◌, ℕ, ◌<◌, ◌≤◌, Bool, true, false, is_some, List, [], ◌∷◌, Option, Some, None}
+use Rattle.std.specs.Prelude.{◌≡◌, ◌⊎◌, ℕ, ◌<◌, ◌≤◌, Bool, true, false, is_some, List, [], ◌∷◌, Option, Some, None, slice_get}
 use Rattle.std.specs.FinMap as fin
 use Rattle.pool_base.specs.Sets.{has}
 use Rattle.pool_base.specs.declared.backend_set.BackendSet.{BackendSet}
-use Rattle.backend_trait.specs.declared.row.Row.{Row}
-use Rattle.backend_trait.specs.declared.checked.Checked.{Checked}
+use Rattle.sql_eval.specs.declared.row.Row.{Row}
+use Rattle.catalogue.specs.declared.checked.Checked.{Checked}
+use Rattle.typed_effects.specs.Typed.{IsStored, AreAllStored}
 use Rattle.backend_trait.specs.declared.answer.Answer.{Answer}
 use Rattle.backend_trait.specs.Keys.{Place}
 use Rattle.backend_trait.specs.Effect.{Given, Fails, Gives}
 use Rattle.backend_trait.specs.Store.{Live, Alive, Store, WhereLive, is_refusal}
-use Rattle.backend_trait.specs.Acts.{HasColumns, IsOf, given_of}
+use Rattle.backend_trait.specs.Acts.{IsOf, given_of}
 use Rattle.session_machine.specs.declared.machine.Heard.{Heard}
 use Rattle.session_machine.specs.declared.machine.Stage.{Stage}
 use Rattle.session_machine.specs.declared.machine.Stage.TheVariants.{Opening, Reading, Running, Locking, Inserting, Committing, Closing, RollingBack}
@@ -96,8 +97,9 @@ pub record IsHeard (st : Store) (s : ℕ) (stage : Stage) (answer : Answer) : Ty
   pub form : IsOf (request_of stage) answer
   pub result : is_refusal answer ≡ false → ResultIn st s stage answer
 
--- The rows of a store, those at its transactions' snapshots and those among their changes have their columns. All are of table 0.
+-- The rows of a store, those at its transactions' snapshots and those among their changes are of their tables, under their own keys.
 pub record AreShaped (st : Store) : Type 0 where
-  pub rows : (p : Place) (row : Row) → fin.get st.rows p ≡ Some row → HasColumns row
-  pub bases : (s : ℕ) (t : Live) (p : Place) (row : Row) → st.transaction s ≡ Alive t → fin.get t.base p ≡ Some row → HasColumns row
-  pub changes : (s : ℕ) (t : Live) (p : Place) (row : Row) → st.transaction s ≡ Alive t → fin.get t.changes p ≡ Some (Some row) → HasColumns row
+  pub rows : AreAllStored st.tables st.rows
+  pub bases : (s : ℕ) (t : Live) → st.transaction s ≡ Alive t → AreAllStored st.tables t.base
+  pub changes : (s : ℕ) (t : Live) (p : Place) (row : Row) → st.transaction s ≡ Alive t → fin.get t.changes p ≡ Some (Some row)
+      → IsStored (slice_get st.tables p.table) p.key row

@@ -91,7 +91,7 @@ recorded s (deed ∷ deeds) history = recorded s deeds (record { session = s; de
 -- behind every event: a transaction that is live in the single run and alive at no attached backend has died, by rising number
 abbrev pub fell : World → ℕ → List Entry → List Entry
 fell w s history =
-    if is_live ((store_after history).transaction s) && not (is_alive w s)
+    if is_live ((store_after w.tables history).transaction s) && not (is_alive w s)
     then recorded s (death_in w s (stage_at (w.machine s).point)) history else history
 
 unfoldable pub fallen : World → List Entry → ℕ → List Entry

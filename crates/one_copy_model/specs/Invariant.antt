@@ -5,13 +5,14 @@ use Rattle.pool_base.specs.Sets.{has}
 use Rattle.pool_base.specs.declared.code.Code.{Code}
 use Rattle.pool_base.specs.declared.backend_id.BackendId.{BackendId}
 use Rattle.pool_base.specs.declared.backend_set.BackendSet.{BackendSet}
+use Rattle.schema.specs.declared.catalogue.TableDef.{TableDef}
 use Rattle.backend_trait.specs.declared.request.Request.{Request}
 use Rattle.backend_trait.specs.declared.request.Request.TheVariants as requests
 use Rattle.backend_trait.specs.declared.answer.Answer.{Answer}
 use Rattle.backend_trait.specs.declared.answer.Answer.TheVariants as answers
 use Rattle.backend_trait.specs.Keys.{Place}
 use Rattle.backend_trait.specs.Rows.{no_changes}
-use Rattle.backend_trait.specs.Effect.{Conflicts}
+use Rattle.backend_trait.specs.Effect.{has_place, Conflicts}
 use Rattle.backend_trait.specs.Store.{Live, Absent, Alive, Pending, Store, held_by, is_refusal}
 use Rattle.backend_trait.specs.Acts.{MayAnswer, IsOf, IsOutOfMemory}
 use Rattle.session_machine.specs.declared.order.Class.TheVariants as classes
@@ -133,15 +134,15 @@ pub record HasLine (w : World) (s b : ℕ) : Type 0 where
 
 pub record IsSound (st : Store) : Type 0 where
   pub apart : (s o : ℕ) → s ≢ o → ¬ (Conflicts (held_by (st.transaction s)) (held_by (st.transaction o)))
-  pub changed : (s : ℕ) (t : Live) (p : Place) → st.transaction s ≡ Alive t → is_some (fin.get t.changes p) ≡ true → t.held.places p ≡ true
-  pub fresh : (s : ℕ) (t : Live) (p : Place) → st.transaction s ≡ Alive t → t.held.places p ≡ true → t.stale p ≡ false
+  pub changed : (s : ℕ) (t : Live) (p : Place) → st.transaction s ≡ Alive t → is_some (fin.get t.changes p) ≡ true → has_place t.held p ≡ true
+  pub fresh : (s : ℕ) (t : Live) (p : Place) → st.transaction s ≡ Alive t → has_place t.held p ≡ true → t.stale p ≡ false
 
 -- A session leaves here with a change of a place: it has committed that there and not yet here.
 
 pub record Leaves (t : Tracked) (o b : ℕ) (p : Place) : Type 0 where
   pub leaves : standing_of t.world o b ≡ Leaving
   pub last : Live
-  pub was : leaving_of o t.history ≡ Alive last
+  pub was : leaving_of t.world.tables o t.history ≡ Alive last
   pub changes : is_some (fin.get last.changes p) ≡ true
 
 -- Stale places, here and there.
@@ -175,34 +176,35 @@ request_in (Some p) = Some p.request
 -- The code that a backend has given is one that the single run may give now, or could give at the session's death: its latest deed,
 -- which came since the order, when the run had so many entries. A snapshot is refused for want of memory alone.
 
-abbrev pub MayCode : List Entry → ℕ → Code → Type 0
-MayCode history s code = (p : Pending) × ((store_after history).pending s ≡ Some p) × MayAnswer (store_after history) s p (answers.Refused code)
+abbrev pub MayCode : List TableDef → List Entry → ℕ → Code → Type 0
+MayCode tables history s code =
+    (p : Pending) × ((store_after tables history).pending s ≡ Some p) × MayAnswer (store_after tables history) s p (answers.Refused code)
 
-abbrev pub AtDeathIf : Bool → ℕ → Code → ℕ → Entry → List Entry → Type 0 → Type 0
-AtDeathIf true s code since e history before = (is_fall e.deed ≡ true) × (since ≤ length history) × MayCode history s code
-AtDeathIf false s code since e history before = before
+abbrev pub AtDeathIf : List TableDef → Bool → ℕ → Code → ℕ → Entry → List Entry → Type 0 → Type 0
+AtDeathIf tables true s code since e history before = (is_fall e.deed ≡ true) × (since ≤ length history) × MayCode tables history s code
+AtDeathIf tables false s code since e history before = before
 
-abbrev pub AtDeath : ℕ → Code → ℕ → List Entry → Type 0
-AtDeath s code since [] = ⊥
-AtDeath s code since (e ∷ es) = AtDeathIf (e.session == s) s code since e es (AtDeath s code since es)
+abbrev pub AtDeath : List TableDef → ℕ → Code → ℕ → List Entry → Type 0
+AtDeath tables s code since [] = ⊥
+AtDeath tables s code since (e ∷ es) = AtDeathIf tables (e.session == s) s code since e es (AtDeath tables s code since es)
 
 -- a serial insert's run comes behind its lock there
 abbrev pub reached : Stage → ℕ → List Entry → List Entry
 reached (Inserting work posted) s history = recorded s (Gets answers.Locked ∷ Asks (requests.Run work.statement) ∷ []) history
 reached stage s history = history
 
-abbrev pub NowOrAtDeath : Stage → ℕ → Code → ℕ → List Entry → Type 0
-NowOrAtDeath stage s code since history = MayCode (reached stage s history) s code ⊎ AtDeath s code since history
+abbrev pub NowOrAtDeath : List TableDef → Stage → ℕ → Code → ℕ → List Entry → Type 0
+NowOrAtDeath tables stage s code since history = MayCode tables (reached stage s history) s code ⊎ AtDeath tables s code since history
 
-abbrev pub HasReason : Stage → ℕ → Code → ℕ → List Entry → Type 0
-HasReason (Opening work) s code since history = IsOutOfMemory code
-HasReason (Reading work ticket) s code since history = NowOrAtDeath (Reading work ticket) s code since history
-HasReason (Running work) s code since history = NowOrAtDeath (Running work) s code since history
-HasReason (Locking work table) s code since history = NowOrAtDeath (Locking work table) s code since history
-HasReason (Inserting work posted) s code since history = NowOrAtDeath (Inserting work posted) s code since history
-HasReason Committing s code since history = Unit {0}
-HasReason Closing s code since history = Unit {0}
-HasReason (RollingBack ending) s code since history = Unit {0}
+abbrev pub HasReason : List TableDef → Stage → ℕ → Code → ℕ → List Entry → Type 0
+HasReason tables (Opening work) s code since history = IsOutOfMemory code
+HasReason tables (Reading work ticket) s code since history = NowOrAtDeath tables (Reading work ticket) s code since history
+HasReason tables (Running work) s code since history = NowOrAtDeath tables (Running work) s code since history
+HasReason tables (Locking work table) s code since history = NowOrAtDeath tables (Locking work table) s code since history
+HasReason tables (Inserting work posted) s code since history = NowOrAtDeath tables (Inserting work posted) s code since history
+HasReason tables Committing s code since history = Unit {0}
+HasReason tables Closing s code since history = Unit {0}
+HasReason tables (RollingBack ending) s code since history = Unit {0}
 
 -- the answers that may decide: of an attached backend; or the kept one where answers differ, also when its backend has left
 abbrev pub Decides : World → ℕ → Answer → Type 0
@@ -241,12 +243,12 @@ pub record Invariant (t : Tracked) : Type 0 where
   pub causes : (s : ℕ) (b : BackendId) (cause : Cause) → next_action (t.world.machine s) ≡ actions.Detach b cause
       → HasCause (t.world.machine s) b cause
   pub stands : (s b : ℕ) → IsHere t.world b
-      → Stands (single t) s (leaving_of s t.history) (standing_of t.world s b) ((t.world.store b).transaction s) ((single t).transaction s)
+      → Stands (single t) s (leaving_of t.world.tables s t.history) (standing_of t.world s b) ((t.world.store b).transaction s) ((single t).transaction s)
   pub sound : (b : ℕ) → IsHere t.world b → IsSound (t.world.store b)
   pub shaped : (b : ℕ) → AreShaped (t.world.store b)
   pub sound_there : IsSound (single t)
   pub stale : (o s : ℕ) (p : Place) (last u : Live) → in_commit (t.world.machine o).session.gate ≡ true
-      → leaving_of o t.history ≡ Alive last → is_some (fin.get last.changes p) ≡ true
+      → leaving_of t.world.tables o t.history ≡ Alive last → is_some (fin.get last.changes p) ≡ true
       → (single t).transaction s ≡ Alive u → u.stale p ≡ true
   pub stale_known : (s b : ℕ) (l u : Live) (p : Place) → IsHere t.world b
       → (t.world.store b).transaction s ≡ Alive l → (single t).transaction s ≡ Alive u → KnowsStale t s b l u p
@@ -257,13 +259,13 @@ pub record Invariant (t : Tracked) : Type 0 where
   pub rows_same : (b : ℕ) (p : Place) → IsHere t.world b → ((o : ℕ) → ¬ (Leaves t o b p))
       → fin.get (t.world.store b).rows p ≡ fin.get (single t).rows p
   pub rows_left : (o b : ℕ) (p : Place) (last : Live) → IsHere t.world b → Leaves t o b p
-      → leaving_of o t.history ≡ Alive last → fin.get last.changes p ≡ Some (fin.get (single t).rows p)
+      → leaving_of t.world.tables o t.history ≡ Alive last → fin.get last.changes p ≡ Some (fin.get (single t).rows p)
   pub numbers : (b table : ℕ) → IsHere t.world b
       → ((t.world.store b).next table ≡ (single t).next table) ⊎ ((s : ℕ) × InsertsIn t.world s table)
   pub alive : (s : ℕ) → is_live ((single t).transaction s) ≡ true → is_alive t.world s ≡ true
   pub reasons : (s : ℕ) (stage : Stage) (told : Told) (code : Code) → stage_at (t.world.machine s).point ≡ Some stage
-      → t.orders s ≡ Some told → Decides t.world s (answers.Refused code) → HasReason stage s code told.entries t.history
-  pub run : IsRun t.history
+      → t.orders s ≡ Some told → Decides t.world s (answers.Refused code) → HasReason t.world.tables stage s code told.entries t.history
+  pub run : IsRun t.world.tables t.history
   pub posts : (s : ℕ) → request_in ((single t).pending s)
       ≡ where_live (is_live ((single t).transaction s)) (wants_of (t.world.machine s).point (stage_at (t.world.machine s).point))
   pub replies : (s : ℕ) (told : Told) (outcome : Outcome) → t.orders s ≡ Some told

@@ -4,7 +4,7 @@ use Rattle.pool_base.specs.declared.code.Code.{Code}
 use Rattle.pool_base.specs.declared.backend_id.BackendId.{BackendId}
 use Rattle.pool_base.specs.declared.gate_call.GateAnswer.{GateAnswer}
 use Rattle.pool_base.specs.declared.gate_call.GateAnswer.TheVariants.{Seen, Granted, Held, Spent}
-use Rattle.backend_trait.specs.declared.checked.Checked.{Checked}
+use Rattle.catalogue.specs.declared.checked.Checked.{Checked}
 use Rattle.backend_trait.specs.declared.request.Request.{Request}
 use Rattle.backend_trait.specs.declared.request.Request.TheVariants as requests
 use Rattle.backend_trait.specs.declared.answer.Answer.{Answer}

@@ -1,5 +1,6 @@
 -- How a session's transaction stands at a backend to the one in the single run.
 use Rattle.std.specs.Prelude.{◌≡◌, ℕ, Bool, true, false, ◌&&◌, ◌==◌, if◌then◌else◌, List, [], ◌∷◌, Option, Some, None}
+use Rattle.schema.specs.declared.catalogue.TableDef.{TableDef}
 use Rattle.backend_trait.specs.declared.request.Request.{Request}
 use Rattle.backend_trait.specs.declared.request.Request.TheVariants as requests
 use Rattle.backend_trait.specs.declared.answer.Answer.{Answer}
@@ -93,9 +94,10 @@ abbrev pub asks_commit : Deed → Bool
 asks_commit (Asks requests.Commit) = true
 asks_commit deed = false
 
-abbrev pub leaving_of : ℕ → List Entry → Transaction
-leaving_of s [] = Absent
-leaving_of s (e ∷ es) = if (e.session == s) && asks_commit e.deed then (store_after es).transaction s else leaving_of s es
+abbrev pub leaving_of : List TableDef → ℕ → List Entry → Transaction
+leaving_of tables s [] = Absent
+leaving_of tables s (e ∷ es) =
+    if (e.session == s) && asks_commit e.deed then (store_after tables es).transaction s else leaving_of tables s es
 
 -- how the transaction here stands to the one there: the single store, the session, the one that it committed there last
 abbrev pub Stands : Store → ℕ → Transaction → Standing → Transaction → Transaction → Type 0

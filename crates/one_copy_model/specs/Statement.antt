@@ -4,6 +4,7 @@ use Rattle.pool_base.specs.Outside.{Rose}
 use Rattle.pool_base.specs.Sets.{has}
 use Rattle.pool_base.specs.declared.backend_id.BackendId.{BackendId}
 use Rattle.pool_base.specs.declared.backend_set.BackendSet.{BackendSet}
+use Rattle.schema.specs.declared.catalogue.TableDef.{TableDef}
 use Rattle.backend_trait.specs.declared.answer.Answer.{Answer}
 use Rattle.backend_trait.specs.Effect.{Conflicts}
 use Rattle.backend_trait.specs.Store.{Store, held_by}
@@ -28,17 +29,17 @@ use Rattle.one_copy_model.specs.Tracking.{Tracked, first_tracked, tracked_all, s
 use Rattle.one_copy_model.specs.Replies.{RepliesMatch, AllAcknowledged}
 
 -- one copy: the acts at their places are a run of one store, and each reply is its order's answer there
-pub record IsOneCopy (policy : ReadPolicy) (attached : BackendSet) (events : List Event) : Type 0 where
-  pub run : IsRun (single_run policy attached events)
-  pub replies : RepliesMatch (first_tracked policy attached) events
+pub record IsOneCopy (tables : List TableDef) (policy : ReadPolicy) (attached : BackendSet) (events : List Event) : Type 0 where
+  pub run : IsRun tables (single_run tables policy attached events)
+  pub replies : RepliesMatch (first_tracked tables policy attached) events
 
-abbrev pub OneCopy : ReadPolicy → BackendSet → List Event → Type 0
-OneCopy policy attached events = IsSchedule (first_world policy attached) events → IsOneCopy policy attached events
+abbrev pub OneCopy : List TableDef → ReadPolicy → BackendSet → List Event → Type 0
+OneCopy tables policy attached events = IsSchedule (first_world tables policy attached) events → IsOneCopy tables policy attached events
 
 -- each acknowledged commit is done by every attached backend
-abbrev pub CommitsAreDone : ReadPolicy → BackendSet → List Event → Type 0
-CommitsAreDone policy attached events =
-    IsSchedule (first_world policy attached) events → AllAcknowledged (first_tracked policy attached) events
+abbrev pub CommitsAreDone : List TableDef → ReadPolicy → BackendSet → List Event → Type 0
+CommitsAreDone tables policy attached events =
+    IsSchedule (first_world tables policy attached) events → AllAcknowledged (first_tracked tables policy attached) events
 
 -- agreement: where no session is in a commit, every attached store has the committed rows of the single run, and its next serial
 -- numbers where no serial insert is under way either
@@ -61,9 +62,9 @@ ReplicasAgree t =
     NobodyCommits t.world → (b : ℕ) → has t.world.gate.attached.bits b ≡ true
     → HasSame (t.world.store b) (single t) (NobodyInserts t.world)
 
-abbrev pub AlwaysAgree : ReadPolicy → BackendSet → List Event → Type 0
-AlwaysAgree policy attached events =
-    IsSchedule (first_world policy attached) events → ReplicasAgree (tracked_all (first_tracked policy attached) events)
+abbrev pub AlwaysAgree : List TableDef → ReadPolicy → BackendSet → List Event → Type 0
+AlwaysAgree tables policy attached events =
+    IsSchedule (first_world tables policy attached) events → ReplicasAgree (tracked_all (first_tracked tables policy attached) events)
 
 -- the cause of a detachment: two counts of a call that shows the loss, the first below the second; or the kept answer and the
 -- backend's own, which differ. Kept is the answer of the largest group among the backends in the view with which the chain was

@@ -6,6 +6,7 @@ use Rattle.pool_base.specs.declared.gate_call.GateCall.{GateCall}
 use Rattle.pool_base.specs.declared.gate_call.GateCall.TheVariants as calls
 use Rattle.pool_base.specs.declared.gate_call.GateAnswer.{GateAnswer}
 use Rattle.pool_base.specs.declared.gate_call.GateAnswer.TheVariants.{Granted, Spent}
+use Rattle.schema.specs.declared.catalogue.TableDef.{TableDef}
 use Rattle.backend_trait.specs.declared.request.Request.{Request}
 use Rattle.backend_trait.specs.declared.request.Request.TheVariants as requests
 use Rattle.backend_trait.specs.Rows.{with_at}
@@ -49,12 +50,12 @@ pub record Tracked : Type 0 where
   pub orders : ℕ → Option Told
   pub done : ℕ → ℕ → Bool
 
-abbrev pub first_tracked : ReadPolicy → BackendSet → Tracked
-first_tracked policy attached =
-    record { world = first_world policy attached; history = []; orders = λ s. None; done = λ s b. false }
+abbrev pub first_tracked : List TableDef → ReadPolicy → BackendSet → Tracked
+first_tracked tables policy attached =
+    record { world = first_world tables policy attached; history = []; orders = λ s. None; done = λ s b. false }
 
 abbrev pub single : Tracked → Store
-single t = store_after t.history
+single t = store_after t.world.tables t.history
 
 -- The single run.
 
@@ -177,5 +178,5 @@ tracked_all t [] = t
 tracked_all t (e ∷ es) = tracked_all (tracked_after t e) es
 
 -- the single run of a schedule
-abbrev pub single_run : ReadPolicy → BackendSet → List Event → List Entry
-single_run policy attached events = (tracked_all (first_tracked policy attached) events).history
+abbrev pub single_run : List TableDef → ReadPolicy → BackendSet → List Event → List Entry
+single_run tables policy attached events = (tracked_all (first_tracked tables policy attached) events).history

@@ -6,11 +6,17 @@ use Rattle.pool_base.specs.declared.backend_set.BackendSet.{BackendSet}
 use Rattle.pool_base.specs.declared.gate_call.GateCall.{GateCall}
 use Rattle.pool_base.specs.declared.gate_call.GateCall.TheVariants as calls
 use Rattle.pool_base.specs.declared.gate_call.GateAnswer.{GateAnswer}
+use Rattle.schema.specs.declared.catalogue.TableDef.{TableDef}
+use Rattle.catalogue.specs.declared.checked.Checked.{Checked}
+use Rattle.checked_sql.specs.OfCatalogue.{is_of}
+use Rattle.sql_eval.specs.Effects.{DrawsFew}
 use Rattle.backend_trait.specs.declared.answer.Answer.{Answer}
 use Rattle.backend_trait.specs.Rows.{with_at}
-use Rattle.backend_trait.specs.Store.{Store, blank, posted, lost_by}
+use Rattle.backend_trait.specs.Store.{Store, prepared, posted, lost_by}
 use Rattle.session_machine.specs.declared.action.SessionEvent.{SessionEvent}
 use Rattle.session_machine.specs.declared.action.SessionEvent.TheVariants as events
+use Rattle.session_machine.specs.declared.order.OrderBody.{OrderBody}
+use Rattle.session_machine.specs.declared.order.OrderBody.TheVariants as orders
 use Rattle.session_machine.specs.declared.machine.ReadPolicy.{ReadPolicy}
 use Rattle.session_machine.specs.declared.machine.Machine.{Machine}
 use Rattle.session_machine.specs.declared.machine.Stage.{Stage}
@@ -26,20 +32,22 @@ use Rattle.one_copy_model.specs.SingleRun.{after_answer}
 use Rattle.plain_store.specs.Acting.{MayAct}
 use Rattle.one_copy_model.specs.Numbers.{session_of}
 
--- the gate, the machine of each session, the store of each backend, and the answers that were given and not taken yet,
--- by session and backend
+-- the tables, the gate, the machine of each session, the store of each backend, and the answers that were given and not taken
+-- yet, by session and backend
 pub record World : Type 0 where
+  pub tables : List TableDef
   pub gate : GateState
   pub machine : ℕ → Machine
   pub store : ℕ → Store
   pub mail : ℕ → ℕ → Option Answer
 
--- at the start the configured backends are attached, every session is new and every store is blank
-abbrev pub first_world : ReadPolicy → BackendSet → World
-first_world policy attached = record {
+-- at the start the configured backends are attached, every session is new and every store has the tables without rows
+abbrev pub first_world : List TableDef → ReadPolicy → BackendSet → World
+first_world tables policy attached = record {
+  tables = tables;
   gate = first_gate attached;
   machine = λ s. new_machine (session_of s) policy;
-  store = λ b. blank;
+  store = λ b. prepared tables;
   mail = λ s b. None;
 }
 
@@ -57,18 +65,18 @@ gate_after gate (events.Swapped b) = gate
 gate_after gate (events.Replied outcome status) = gate
 gate_after gate events.Ended = gate
 
--- the stores: a post puts its request at its backend, and the requests that are crossed then are marked; a Swap puts a blank store
--- in a backend's place
-abbrev pub stores_after : (ℕ → Store) → ℕ → SessionEvent → ℕ → Store
-stores_after store s (events.Ordered order) = store
-stores_after store s (events.Called call answer) = store
-stores_after store s (events.Posted b request) = with_at store b.number (marked (posted (store b.number) s request))
-stores_after store s (events.Taken b answer) = store
-stores_after store s (events.Faulted b before after) = store
-stores_after store s (events.Detached b cause answer) = store
-stores_after store s (events.Swapped b) = with_at store b.number blank
-stores_after store s (events.Replied outcome status) = store
-stores_after store s events.Ended = store
+-- the stores: a post puts its request at its backend, and the requests that are crossed then are marked; a Swap puts a store
+-- without rows in a backend's place
+abbrev pub stores_after : List TableDef → (ℕ → Store) → ℕ → SessionEvent → ℕ → Store
+stores_after tables store s (events.Ordered order) = store
+stores_after tables store s (events.Called call answer) = store
+stores_after tables store s (events.Posted b request) = with_at store b.number (marked (posted (store b.number) s request))
+stores_after tables store s (events.Taken b answer) = store
+stores_after tables store s (events.Faulted b before after) = store
+stores_after tables store s (events.Detached b cause answer) = store
+stores_after tables store s (events.Swapped b) = with_at store b.number (prepared tables)
+stores_after tables store s (events.Replied outcome status) = store
+stores_after tables store s events.Ended = store
 
 -- the mail: an answer that is taken is there no more
 abbrev pub with_mail : (ℕ → ℕ → Option Answer) → ℕ → ℕ → Option Answer → ℕ → ℕ → Option Answer
@@ -87,18 +95,21 @@ mail_after mail s events.Ended = mail
 
 abbrev pub after : World → Event → World
 after w (Of s event) = record {
+  tables = w.tables;
   gate = gate_after w.gate event;
   machine = with_at w.machine s.number (machine_after (w.machine s.number) event);
-  store = stores_after w.store s.number event;
+  store = stores_after w.tables w.store s.number event;
   mail = mail_after w.mail s.number event;
 }
 after w (Act s b answer) = record {
+  tables = w.tables;
   gate = w.gate;
   machine = w.machine;
   store = with_at w.store b.number (marked (after_answer (w.store b.number) s.number answer));
   mail = with_mail w.mail s.number b.number (Some answer);
 }
 after w (Lost b) = record {
+  tables = w.tables;
   gate = w.gate;
   machine = w.machine;
   store = with_at w.store b.number (lost_by (w.store b.number));
@@ -130,11 +141,21 @@ pub record MaySwap (w : World) (b : BackendId) : Type 0 where
   pub unasked : (s : ℕ) → ¬ (IsAsking w s b)
   pub unposted : (s : ℕ) → ¬ (IsToAsk w s b)
 
--- what the rest of the world says of an event of a session: the gate gives that answer; nothing of the session waits where it
--- posts; what it takes is what the backend has answered; a backend whose loss it sees is lost, and was still to answer; a Swap
--- is a recovery's, whose machine alone may make it
+-- a statement that is ordered is of the tables, has no parameters, and draws no more numbers than are counted
+pub record IsOfTables (tables : List TableDef) (checked : Checked) : Type 0 where
+  pub of_tables : is_of tables checked ≡ true
+  pub bound : checked.kinds ≡ []
+  pub few : DrawsFew checked.body
+
+abbrev pub IsOrderable : List TableDef → OrderBody → Type 0
+IsOrderable tables (orders.Statement work) = IsOfTables tables work.statement
+IsOrderable tables body = Unit {0}
+
+-- what the rest of the world says of an event of a session: a statement is of the tables; the gate gives that answer; nothing of
+-- the session waits where it posts; what it takes is what the backend has answered; a backend whose loss it sees is lost, and was
+-- still to answer; a Swap is a recovery's, whose machine alone may make it
 abbrev pub Lets : World → ℕ → SessionEvent → Type 0
-Lets w s (events.Ordered order) = Unit {0}
+Lets w s (events.Ordered order) = IsOrderable w.tables order.body
 Lets w s (events.Called call answer) = GateGives w.gate call answer
 Lets w s (events.Posted b request) = (w.store b.number).pending s ≡ None
 Lets w s (events.Taken b answer) = w.mail s b.number ≡ Some answer

@@ -4,7 +4,7 @@ use pool_base::{BackendId, SessionId};
 use session_machine::SessionEvent;
 
 /// What takes place.
-#[derive(PartialEq, Eq, Drop)]
+#[derive(Drop)]
 pub enum Event {
     /// At a session.
     Of {

@@ -6,7 +6,7 @@ use pool_base::{BackendId, GateAnswer, GateCall};
 use session_machine::{Cause, Order, Outcome, Status};
 
 /// What is due.
-#[derive(PartialEq, Eq, Drop)]
+#[derive(Drop)]
 pub enum RecoveryAction {
     /// Nothing: an order may come.
     Rest,
@@ -22,7 +22,7 @@ pub enum RecoveryAction {
 }
 
 /// What takes place at a recovery.
-#[derive(PartialEq, Eq, Drop)]
+#[derive(Drop)]
 pub enum RecoveryEvent {
     Ordered(Order),
     /// The gate's answer to a call. A call that is held and tried again is no event.

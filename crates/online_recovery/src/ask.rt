@@ -5,7 +5,7 @@ use backend_trait::{Request, Row};
 /// A statement of a copy.
 ///
 /// Units: `table` is the number of a table, from 0.
-#[derive(PartialEq, Eq, Drop)]
+#[derive(Drop)]
 pub enum CopyStatement {
     /// Every row, with all its columns.
     AllRows { table: u8 },
@@ -16,7 +16,7 @@ pub enum CopyStatement {
 }
 
 /// What a recovery asks of a backend.
-#[derive(PartialEq, Eq, Drop)]
+#[derive(Drop)]
 pub enum Ask {
     /// What a session asks too.
     Plain(Request),

@@ -30,7 +30,7 @@ use pool_base::{BackendId, BackendSet, Code, List, SessionId, View};
 
 /// What does not change: how many backends are configured, those with lower numbers; the tables of
 /// the schema, and those of them that have a serial column, by rising number.
-#[derive(PartialEq, Eq, Drop)]
+#[derive(Drop)]
 pub struct Layout {
     pub nodes: u8,
     pub tables: List<u8>,
@@ -38,7 +38,7 @@ pub struct Layout {
 }
 
 /// What the gate has granted this recovery of its quiet.
-#[derive(Clone, Copy, PartialEq, Eq)]
+#[derive(Clone, Copy)]
 pub enum Quiet {
     Open,
     /// StartCopy.
@@ -50,7 +50,7 @@ pub enum Quiet {
 }
 
 /// Where the recovery stands at the gate beside its quiet, by its own granted calls.
-#[derive(Clone, Copy, PartialEq, Eq)]
+#[derive(Clone, Copy)]
 pub enum GateStanding {
     Out,
     InSnapshot,
@@ -58,14 +58,14 @@ pub enum GateStanding {
 }
 
 /// The two backends of a copy.
-#[derive(Clone, Copy, PartialEq, Eq)]
+#[derive(Clone, Copy)]
 pub enum Side {
     Source,
     Target,
 }
 
 /// One request at the source or the target, and what it is for.
-#[derive(PartialEq, Eq, Drop)]
+#[derive(Drop)]
 pub enum Task {
     OpeningSource,
     OpeningTarget,
@@ -84,7 +84,7 @@ pub enum Task {
 }
 
 /// What stands at the end.
-#[derive(Clone, Copy, PartialEq, Eq)]
+#[derive(Clone, Copy)]
 pub enum Ending {
     /// The target is attached.
     Attached,
@@ -94,7 +94,7 @@ pub enum Ending {
 }
 
 /// What is still to be given back at the end.
-#[derive(Clone, Copy, PartialEq, Eq)]
+#[derive(Clone, Copy)]
 pub enum Owed {
     /// A rollback.
     Transaction(Side),
@@ -108,7 +108,7 @@ pub enum Owed {
 }
 
 /// What is due.
-#[derive(PartialEq, Eq, Drop)]
+#[derive(Drop)]
 pub enum Due {
     Resting,
     /// A Look, and then whether the backend of that number can be recovered.
@@ -134,7 +134,7 @@ pub enum Due {
 }
 
 /// What a recovery holds, whatever is due of it.
-#[derive(PartialEq, Eq, Drop)]
+#[derive(Drop)]
 pub struct Held {
     pub id: SessionId,
     pub layout: Layout,
@@ -155,7 +155,7 @@ pub struct Held {
 }
 
 /// The machine of one session's recoveries.
-#[derive(PartialEq, Eq, Drop)]
+#[derive(Drop)]
 pub struct Recovery {
     pub held: Held,
     pub due: Due,

@@ -1,15 +1,21 @@
--- A new store is blank.
-use Rattle.std.proofs.Common.{◌≡◌, ℕ, zero, suc, Bool, false, List, [], ◌∷◌, ◌++◌, refl, ap}
-use Rattle.std.specs.Prelude.{Option, Some, None, slice_get}
+-- A new store has its tables, without rows.
+use Rattle.std.proofs.Common.{◌≡◌, ℕ, zero, suc, Bool, false, List, [], ◌∷◌, ◌++◌, refl, sym, ap, ◌∙◌, subst}
+use Rattle.std.specs.Prelude.{ℤ, Option, Some, None, slice_get}
+use Rattle.schema.specs.declared.catalogue.TableDef.{TableDef}
+use Rattle.schema_print.specs.Allowed.{AreAllowed}
+use Rattle.typed_effects.specs.Typed.{AreAllStored}
 use Rattle.backend_trait.specs.declared.request.Request.{Request}
-use Rattle.backend_trait.specs.Store.{Transaction, Absent, Pending, blank}
-use Rattle.backend_trait.specs.Rows.{no_rows}
+use Rattle.backend_trait.specs.Store.{Transaction, Absent, Pending, prepared}
+use Rattle.outcomes.specs.declared.change.ChangeSet.{ChangeSet}
+use Rattle.outcomes.specs.Log.{rows_of}
+use Rattle.outcomes.proofs.Shaped.{rows_shaped}
 use Rattle.plain_store.specs.declared.data.Phase.{Phase}
 use Rattle.plain_store.specs.declared.data.Phase.TheVariants as phases
-use Rattle.plain_store.specs.declared.data.ChangeSet.{ChangeSet}
-use Rattle.plain_store.specs.declared.data.Number.{Number}
 use Rattle.plain_store.specs.Blanks.{AllAre}
-use Rattle.plain_store.specs.Meaning.{transaction_in, transaction_of, request_at, mark_in, pending_of, rows_of, next_of, store_in}
+use Rattle.plain_store.specs.Phases.{transaction_in, transaction_of, request_at, mark_in, pending_of}
+use Rattle.plain_store.specs.Meaning.{store_in}
+use Rattle.plain_store.specs.Kept.{IsKept, AreKept, IsStoredIn, AreSeenIn, KeepsRows}
+use Rattle.plain_store.proofs.KeptLaws.{none_stored}
 
 pub all_snoc : {A : Type 0} (x : A) (ys : List A) (y : A) → AllAre x ys → y ≡ x → AllAre x (ys ++ y ∷ [])
 all_snoc x [] y all is = (is, tt)
@@ -20,17 +26,31 @@ absent_at [] h s = refl
 absent_at (x ∷ xs) h zero = ap transaction_of h.0
 absent_at (x ∷ xs) h (suc s) = absent_at xs h.1 s
 
-none_at : (asked : List (Option Request)) → AllAre None asked → (mark : Bool) (s : ℕ) → pending_of (request_at (slice_get asked s)) mark ≡ None
-none_at [] h mark s = refl
-none_at (x ∷ xs) h mark zero = ap (λ (o : Option Request). pending_of o mark) h.0
-none_at (x ∷ xs) h mark (suc s) = none_at xs h.1 mark s
+idle_at : (asked : List (Option Request)) → AllAre None asked → (s : ℕ) → request_at (slice_get asked s) ≡ None
+idle_at [] h s = refl
+idle_at (x ∷ xs) h zero = h.0
+idle_at (x ∷ xs) h (suc s) = idle_at xs h.1 s
 
-pub blank_is : (log : List ChangeSet) (numbers : List Number) (all : List Phase) (asked : List (Option Request)) (marks : List Bool) → log ≡ [] → numbers ≡ [] → AllAre phases.Absent all → AllAre None asked
-    → store_in log numbers all asked marks false ≡ blank
-blank_is log numbers all asked marks a b c d = λ i. record {
+pub blank_is : (next : ℕ → Option ℤ) (tables : List TableDef) (log : List ChangeSet) (all : List Phase) (asked : List (Option Request)) (marks : List Bool) → next ≡ (prepared tables).next → log ≡ [] → AllAre phases.Absent all → AllAre None asked
+    → store_in next tables log all asked marks false ≡ prepared tables
+blank_is next tables log all asked marks first a b c = λ i. record {
+  tables = tables;
   rows = rows_of (a i);
-  next = next_of (b i);
-  transaction = λ s. absent_at all c s i;
-  pending = λ s. none_at asked d (mark_in (slice_get marks s)) s i;
+  next = first i;
+  transaction = λ s. absent_at all b s i;
+  pending = λ s. ap (λ (x : Option Request). pending_of x (mark_in (slice_get marks s))) (idle_at asked c s) i;
   lost = false;
 }
+
+-- what a new store keeps
+pub blank_kept : (tables : List TableDef) (asked : List (Option Request)) → AllAre None asked → AreKept tables asked
+blank_kept tables asked none s = subst (IsKept tables) (sym (idle_at asked none s)) tt
+
+pub blank_stored : (tables : List TableDef) (all : List Phase) → AllAre phases.Absent all → AreSeenIn tables all
+blank_stored tables all absent s = subst (IsStoredIn tables) (sym (absent_at all absent s)) tt
+
+pub blank_committed : (tables : List TableDef) (log : List ChangeSet) → log ≡ [] → AreAllStored tables (rows_of log)
+blank_committed tables log none = subst (λ (sets : List ChangeSet). AreAllStored tables (rows_of sets)) (sym none) (none_stored tables)
+
+pub allowed_keep : (tables : List TableDef) → AreAllowed tables → KeepsRows tables
+allowed_keep tables allowed = λ checked view next answer changes places runnable stored gives. rows_shaped tables checked view runnable stored allowed next answer changes places gives

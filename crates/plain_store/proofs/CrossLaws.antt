@@ -1,93 +1,77 @@
 -- The program finds exactly the requests that are crossed.
-use Rattle.std.proofs.Common.{◌≡◌, ◌≢◌, ℕ, ℤ, zero, suc, ◌+◌, ◌<◌, ◌≤◌, Bool, true, false, ◌||◌, ◌==◌, List, [], ◌∷◌, length, refl, sym, ap, ◌∙◌, subst, arith, inl, inr, eqb-true, eq-eqb}
-use Rattle.std.specs.Prelude.{◌⊎◌, ◌&&◌, not, Option, Some, None, is_some, slice_get, if◌then◌else◌}
-use Rattle.std.specs.FinMap as fin
+use Rattle.std.proofs.Common.{◌≡◌, ◌≢◌, ℕ, zero, suc, ◌<◌, ◌≤◌, Bool, true, false, ◌||◌, ◌==◌, List, length, refl, sym, ap, ◌∙◌, subst, arith, inl, inr, eqb-true, eq-eqb}
+use Rattle.std.specs.Prelude.{◌⊎◌, ◌&&◌, not, Option, Some, None, slice_get}
 use Rattle.std.proofs.lemmas.Bool.Decides.{leb_tells}
 use Rattle.std.proofs.lemmas.Option.{slice_get_past}
-use Rattle.backend_trait.specs.declared.row.Row.{Row}
-use Rattle.backend_trait.specs.declared.checked.Checked.{Checked}
-use Rattle.backend_trait.specs.declared.checked.Checked.TheVariants.{Insert, Select}
+use Rattle.catalogue.specs.declared.checked.Checked.{Checked}
 use Rattle.backend_trait.specs.declared.request.Request.{Request}
 use Rattle.backend_trait.specs.declared.request.Request.TheVariants as requests
-use Rattle.backend_trait.specs.Effect.{Wants, nothing, both_wants, place_of, insert_given, effect_of, table_in, Conflicts}
-use Rattle.backend_trait.specs.Store.{Transaction, Absent, Alive, Dead, Pending, Store, held_by, view_of}
-use Rattle.backend_trait.specs.Acts.{given_of, wants_in, wants_of_run, asked_by, has_lock, may_be_crossed, Crosses, WhereSome}
-use Rattle.plain_store.specs.declared.data.Wanted.{Wanted}
-use Rattle.plain_store.specs.declared.data.Wanted.TheVariants as wanted
-use Rattle.plain_store.specs.declared.data.ChangeSet.{ChangeSet}
+use Rattle.backend_trait.specs.Effect.{Wants, nothing, both_wants, Given, Fails, Gives, table_in, has_lock_of, Conflicts}
+use Rattle.backend_trait.specs.Store.{Transaction, Absent, Alive, Dead, Pending, Store, held_by}
+use Rattle.backend_trait.specs.Acts.{given_of, wants_in, wants_of_run, asked_by, may_be_crossed, Crosses, WhereSome}
+use Rattle.backend_trait.specs.Acts as acts
 use Rattle.plain_store.specs.declared.data.Work.{Work}
 use Rattle.plain_store.specs.declared.data.Phase.{Phase}
 use Rattle.plain_store.specs.declared.data.Phase.TheVariants as phases
-use Rattle.plain_store.specs.declared.data.Number.{Number}
 use Rattle.plain_store.specs.declared.data.Database.{Database}
-use Rattle.plain_store.specs.Meaning.{wants_one, live_of, transaction_of, transaction_in, request_at, mark_in, pending_of, store_in, store_of}
+use Rattle.plain_store.specs.Phases.{Claim, wants_one, transaction_of, transaction_in, request_at, mark_in, pending_of}
+use Rattle.plain_store.specs.Meaning.{store_of}
+use Rattle.plain_store.specs.Giving.{given_run, given_by, given_to}
 use Rattle.plain_store.specs.Acting.{IsCrossedNow}
-use Rattle.plain_store.specs.Deciding.{clash, seen, phase_at, wants_work, wants_run, wants_by, locks_table, is_locked, clash_wanted, holds_phase, meets, crosses_by, crosses_at, some_below, crosses, crosses_waiting}
+use Rattle.plain_store.specs.States.{States, states_in, phase_in, phase_at}
+use Rattle.plain_store.specs.Deciding.{wants_given, wants_by, locks_table, has_lock, is_locked, clash_wanted, meets, crossed_by, crosses_at, some_below, crosses, crosses_if, crosses_waiting}
 use Rattle.plain_store.proofs.Telling.{Tells, or_true, or_left, or_right, both_told, either_told, not_told, told_as, itself, never, is_false}
-use Rattle.plain_store.proofs.SeenLaws.{as_row, seen_is}
-use Rattle.plain_store.proofs.HeldLaws.{no_conflict, nothing_conflicts, split, to_left, to_right, clash_to, clash_from, tables_are, phase_told}
+use Rattle.plain_store.proofs.HeldLaws.{no_conflict, nothing_conflicts, split, to_left, to_right, clash_to, clash_from, phase_told}
+use Rattle.plain_store.proofs.SessionLaws.{phase_same}
 
 -- what is wanted, if anything
-abbrev pub wants_maybe : Option Wanted → Wants
+abbrev pub wants_maybe : Option Claim → Wants
 wants_maybe None = nothing
-wants_maybe (Some w) = wants_one w
+wants_maybe (Some c) = wants_one c
 
-insert_wants : (key value : ℤ) (row : Option Row) (found : Option ℤ) → row ≡ as_row key found → wants_in (insert_given key value row) ≡ wants_maybe (if is_some found then None else Some (wanted.Key key))
-insert_wants key value row None is = ap (λ r. wants_in (insert_given key value r)) is
-insert_wants key value row (Some v) is = ap (λ r. wants_in (insert_given key value r)) is
+given_wants : (given : Given) → wants_in given ≡ wants_maybe (wants_given (Some given))
+given_wants (Fails code) = refl
+given_wants (Gives answer changes places) = refl
 
-work_wants : (st : Store) (checked : Checked) (work : Work) → wants_in (given_of st checked (live_of work)) ≡ wants_maybe (wants_work checked work)
-unfolding effect_of
-work_wants st (Insert key value) work = insert_wants key value (fin.get (view_of (live_of work)) (place_of key)) (seen work key) (seen_is work key)
-work_wants st (Select key) work = refl
+run_wants : (st : Store) (checked : Checked) (x : Transaction) → wants_of_run st checked x ≡ wants_maybe (wants_given (given_run st checked x))
+run_wants st checked Absent = refl
+run_wants st checked (Alive t) = given_wants (given_of st checked t)
+run_wants st checked Dead = refl
 
-run_wants : (st : Store) (checked : Checked) (phase : Phase) → wants_of_run st checked (transaction_of phase) ≡ wants_maybe (wants_run checked phase)
-run_wants st checked phases.Absent = refl
-run_wants st checked (phases.Alive work) = work_wants st checked work
-run_wants st checked phases.Dead = refl
-
-request_wants : (st : Store) (s : ℕ) (phase : Phase) → st.transaction s ≡ transaction_of phase → (request : Request) → asked_by st s request ≡ wants_maybe (wants_by phase request)
-request_wants st s phase is requests.TakeSnapshot = refl
-request_wants st s phase is (requests.Run checked) = ap (wants_of_run st checked) is ∙ run_wants st checked phase
-request_wants st s phase is (requests.Lock table) = refl
-request_wants st s phase is requests.Commit = refl
-request_wants st s phase is requests.Rollback = refl
-request_wants st s phase is (requests.ReadSerial table) = refl
-request_wants st s phase is (requests.SetSerial table n) = refl
+request_wants : (st : Store) (s : ℕ) (request : Request) → asked_by st s request ≡ wants_maybe (wants_by (given_by st (st.transaction s) (Some request)) request)
+request_wants st s requests.TakeSnapshot = refl
+request_wants st s (requests.Run checked) = run_wants st checked (st.transaction s)
+request_wants st s (requests.Lock table) = refl
+request_wants st s requests.Commit = refl
+request_wants st s requests.Rollback = refl
+request_wants st s (requests.ReadSerial table) = refl
+request_wants st s (requests.SetSerial table n) = refl
 
 -- the lock of the request's table
-locks_are : (phase : Phase) (table : ℕ) → (held_by (transaction_of phase)).tables table ≡ locks_table phase table
-locks_are phases.Absent table = refl
-locks_are (phases.Alive work) table = tables_are work.tables table
-locks_are phases.Dead table = refl
+pub locks_are : (x : Option Phase) (table : ℕ) → (held_by (transaction_in x)).tables table ≡ locks_table (phase_in x) table
+locks_are None table = refl
+locks_are (Some phases.Absent) table = refl
+locks_are (Some (phases.Alive work)) table = refl
+locks_are (Some phases.Dead) table = refl
 
-table_0 : (checked : Checked) → table_in checked ≡ 0
-table_0 (Insert key value) = refl
-table_0 (Select key) = refl
-
-lock_is : (st : Store) (s : ℕ) (phase : Phase) → st.transaction s ≡ transaction_of phase → (request : Request) → has_lock st s request ≡ is_locked phase request
-lock_is st s phase is requests.TakeSnapshot = refl
-lock_is st s phase is (requests.Run checked) = ap (λ (x : Transaction). (held_by x).tables (table_in checked)) is ∙ ap (λ t. (held_by (transaction_of phase)).tables t) (table_0 checked) ∙ locks_are phase 0
-lock_is st s phase is (requests.Lock table) = ap (λ (x : Transaction). (held_by x).tables table) is ∙ locks_are phase table
-lock_is st s phase is requests.Commit = refl
-lock_is st s phase is requests.Rollback = refl
-lock_is st s phase is (requests.ReadSerial table) = refl
-lock_is st s phase is (requests.SetSerial table n) = refl
+pub lock_same : (x : Option Phase) (table : Option ℕ) → has_lock_of (held_by (transaction_in x)) table ≡ has_lock (phase_in x) table
+lock_same x None = refl
+lock_same x (Some table) = locks_are x table
 
 -- what is wanted against what another wants and holds
-wanted_told : (w : Wanted) (other : Option Wanted) → Tells (clash_wanted w other) (Conflicts (wants_one w) (wants_maybe other))
-wanted_told w None = never _ (no_conflict (wants_one w))
-wanted_told w (Some other) = (clash_to w other, clash_from w other)
+wanted_told : (c : Claim) (other : Option Claim) → Tells (clash_wanted c other) (Conflicts (wants_one c) (wants_maybe other))
+wanted_told c None = never _ (no_conflict (wants_one c))
+wanted_told c (Some other) = (clash_to c other, clash_from c other)
 
-meets_told : (o : Option Wanted) (phase : Phase) (request : Request) → Tells (meets o phase request) (Conflicts (wants_maybe o) (both_wants (wants_maybe (wants_by phase request)) (held_by (transaction_of phase))))
-meets_told None phase request = never _ (nothing_conflicts _)
-meets_told (Some w) phase request =
-    told_as _ _ _ (either_told _ _ _ _ (wanted_told w (wants_by phase request)) (phase_told w phase))
+meets_told : (o wants : Option Claim) (phase : Phase) → Tells (meets o wants phase) (Conflicts (wants_maybe o) (both_wants (wants_maybe wants) (held_by (transaction_of phase))))
+meets_told None wants phase = never _ (nothing_conflicts _)
+meets_told (Some c) wants phase =
+    told_as _ _ _ (either_told _ _ _ _ (wanted_told c wants) (phase_told c phase))
     (λ h. elim h [
-      | inl c ↦ to_left (wants_one w) (wants_maybe (wants_by phase request)) (held_by (transaction_of phase)) c
-      | inr c ↦ to_right (wants_one w) (wants_maybe (wants_by phase request)) (held_by (transaction_of phase)) c
+      | inl k ↦ to_left (wants_one c) (wants_maybe wants) (held_by (transaction_of phase)) k
+      | inr k ↦ to_right (wants_one c) (wants_maybe wants) (held_by (transaction_of phase)) k
     ])
-    (split (wants_one w) (wants_maybe (wants_by phase request)) (held_by (transaction_of phase)))
+    (split (wants_one c) (wants_maybe wants) (held_by (transaction_of phase)))
 
 -- somebody of the sessions below a number
 pub below_told : (p : ℕ → Bool) (P : ℕ → Type 0) → ((o : ℕ) → Tells (p o) (P o)) → (n : ℕ) → Tells (some_below p n) ((o : ℕ) × (o < n) × P o)
@@ -107,51 +91,67 @@ pub some_there : (P : Pending → Type 0) (x : Option Pending) → WhereSome x P
 some_there P None h = absurd h
 some_there P (Some p) h = (p, refl, h)
 
-pub phase_same : (x : Option Phase) → transaction_in x ≡ transaction_of (phase_at x)
-phase_same None = refl
-phase_same (Some phase) = refl
-
 pub other_told : (o s : ℕ) → Tells (not (o == s)) (o ≢ s)
 other_told o s = not_told (o == s) (o ≡ s) (eqb-true o s, eq-eqb o s)
 
-module _ (log : List ChangeSet) (numbers : List Number) (all : List Phase) (asked : List (Option Request)) (marks : List Bool) (lost : Bool) where
+module _ (d : Database) where
   abbrev here : Store
-  here = store_in log numbers all asked marks lost
+  here = store_of d
 
-  abbrev phase_of : ℕ → Phase
-  phase_of o = phase_at (slice_get all o)
+  abbrev states : States
+  states = states_in d
+
+  -- the request that waits, if it is that
+  abbrev Waits : ℕ → Option Request → Type 0
+  Waits s waits = request_at (slice_get d.requests.items s) ≡ waits
+
+  asked_here : (s : ℕ) (request : Request) → Waits s (Some request) → asked_by here s request ≡ wants_maybe (wants_by (states.given s) request)
+  asked_here s request waits =
+      request_wants here s request
+      ∙ ap (λ (x : Option Request). wants_maybe (wants_by (given_by here (here.transaction s) x) request)) (sym waits)
+
+  lock_is : (s : ℕ) (request : Request) → acts.has_lock here s request ≡ is_locked (phase_at states s) request
+  lock_is s requests.TakeSnapshot = refl
+  lock_is s (requests.Run checked) = lock_same (slice_get d.phases.items s) (table_in checked)
+  lock_is s (requests.Lock table) = locks_are (slice_get d.phases.items s) table
+  lock_is s requests.Commit = refl
+  lock_is s requests.Rollback = refl
+  lock_is s (requests.ReadSerial table) = refl
+  lock_is s (requests.SetSerial table n) = refl
 
   -- a session's request crosses one of another session
   abbrev CrossesAs : ℕ → Request → ℕ → Pending → Type 0
-  CrossesAs s request o p = (has_lock here o p.request ≡ false) × Conflicts (asked_by here o p.request) (both_wants (asked_by here s request) (held_by (here.transaction s)))
+  CrossesAs s request o p = (acts.has_lock here o p.request ≡ false) × Conflicts (asked_by here o p.request) (both_wants (asked_by here s request) (held_by (here.transaction s)))
 
-  as_told : (s : ℕ) (request : Request) (o : ℕ) (its : Request) (mark : Bool)
-      → Tells (not (is_locked (phase_of o) its) && meets (wants_by (phase_of o) its) (phase_of s) request) (CrossesAs s request o (record { request = its; crossed = mark }))
-  as_told s request o its mark =
+  as_told : (s : ℕ) (request : Request) (o : ℕ) (its : Request) (mark : Bool) → Waits s (Some request) → Waits o (Some its)
+      → Tells (crossed_by states s request o (Some its)) (CrossesAs s request o (record { request = its; crossed = mark }))
+  as_told s request o its mark waits its_waits =
       both_told _ _ _ _
-      (told_as _ _ _ (is_false (is_locked (phase_of o) its))
-      (λ e. lock_is here o (phase_of o) (phase_same (slice_get all o)) its ∙ e)
-      (λ e. sym (lock_is here o (phase_of o) (phase_same (slice_get all o)) its) ∙ e))
-      (told_as _ _ _ (meets_told (wants_by (phase_of o) its) (phase_of s) request)
+      (told_as _ _ _ (is_false (is_locked (phase_at states o) its))
+      (λ e. lock_is o its ∙ e)
+      (λ e. sym (lock_is o its) ∙ e))
+      (told_as _ _ _ (meets_told (wants_by (states.given o) its) (wants_by (states.given s) request) (phase_at states s))
       (λ c. subst (λ (T : Type 0). T) (sym same) c)
       (λ c. subst (λ (T : Type 0). T) same c))
     where
       same : Conflicts (asked_by here o its) (both_wants (asked_by here s request) (held_by (here.transaction s)))
-          ≡ Conflicts (wants_maybe (wants_by (phase_of o) its)) (both_wants (wants_maybe (wants_by (phase_of s) request)) (held_by (transaction_of (phase_of s))))
+          ≡ Conflicts (wants_maybe (wants_by (states.given o) its)) (both_wants (wants_maybe (wants_by (states.given s) request)) (held_by (transaction_of (phase_at states s))))
       same =
-          ap (λ (w : Wants). Conflicts w (both_wants (asked_by here s request) (held_by (here.transaction s)))) (request_wants here o (phase_of o) (phase_same (slice_get all o)) its)
-          ∙ ap (λ (w : Wants). Conflicts (wants_maybe (wants_by (phase_of o) its)) (both_wants w (held_by (here.transaction s)))) (request_wants here s (phase_of s) (phase_same (slice_get all s)) request)
-          ∙ ap (λ (x : Transaction). Conflicts (wants_maybe (wants_by (phase_of o) its)) (both_wants (wants_maybe (wants_by (phase_of s) request)) (held_by x))) (phase_same (slice_get all s))
+          ap (λ (w : Wants). Conflicts w (both_wants (asked_by here s request) (held_by (here.transaction s)))) (asked_here o its its_waits)
+          ∙ ap (λ (w : Wants). Conflicts (wants_maybe (wants_by (states.given o) its)) (both_wants w (held_by (here.transaction s)))) (asked_here s request waits)
+          ∙ ap (λ (x : Transaction). Conflicts (wants_maybe (wants_by (states.given o) its)) (both_wants (wants_maybe (wants_by (states.given s) request)) (held_by x))) (phase_same (slice_get d.phases.items s))
 
-  by_told : (s : ℕ) (request : Request) (o : ℕ) (asks : Option Request) (mark : Bool) → Tells (crosses_by (phase_of s) request (phase_of o) asks) (WhereSome (pending_of asks mark) (CrossesAs s request o))
-  by_told s request o None mark = never _ (λ h. h)
-  by_told s request o (Some its) mark = as_told s request o its mark
+  by_told : (s : ℕ) (request : Request) (o : ℕ) (asks : Option Request) (mark : Bool) → Waits s (Some request) → Waits o asks
+      → Tells (crossed_by states s request o asks) (WhereSome (pending_of asks mark) (CrossesAs s request o))
+  by_told s request o None mark waits its_waits = never _ (λ h. h)
+  by_told s request o (Some its) mark waits its_waits = as_told s request o its mark waits its_waits
 
   abbrev CrossesFrom : ℕ → Request → ℕ → Type 0
   CrossesFrom s request o = (o ≢ s) × WhereSome (here.pending o) (CrossesAs s request o)
 
-  from_told : (s : ℕ) (request : Request) (o : ℕ) → Tells (crosses_at all asked s request o) (CrossesFrom s request o)
-  from_told s request o = both_told _ _ _ _ (other_told o s) (by_told s request o (request_at (slice_get asked o)) (mark_in (slice_get marks o)))
+  from_told : (s : ℕ) (request : Request) (o : ℕ) → Waits s (Some request) → Tells (crosses_at states s request o) (CrossesFrom s request o)
+  from_told s request o waits =
+      both_told _ _ _ _ (other_told o s) (by_told s request o (request_at (slice_get d.requests.items o)) (mark_in (slice_get d.crossed.items o)) waits refl)
 
   to_crosses : (s : ℕ) (request : Request) (o : ℕ) → may_be_crossed request ≡ true → CrossesFrom s request o → Crosses here s request
   to_crosses s request o kind h =
@@ -162,25 +162,29 @@ module _ (log : List ChangeSet) (numbers : List Number) (all : List Phase) (aske
   from_crosses s request c = (c.another, subst (λ (x : Option Pending). WhereSome x (CrossesAs s request c.other)) (sym c.waits) (c.unlocked, c.conflict))
 
   -- only sessions below the length have a request that waits
-  pub is_below : (o : ℕ) (P : Pending → Type 0) → length asked ≡ 65 → WhereSome (here.pending o) P → o < 65
-  is_below o P len h = elim (leb_tells 65 o) [
-    | inl q ↦ absurd (subst (λ (x : Option (Option Request)). WhereSome (pending_of (request_at x) (mark_in (slice_get marks o))) P) (slice_get_past asked o (let z : length asked ≤ o = omega (arith, len, q.1) in z)) h)
+  pub is_below : (o : ℕ) (P : Pending → Type 0) → WhereSome (here.pending o) P → o < 65
+  is_below o P h = elim (leb_tells 65 o) [
+    | inl q ↦ absurd (subst (λ (x : Option (Option Request)). WhereSome (pending_of (request_at x) (mark_in (slice_get d.crossed.items o))) P)
+        (slice_get_past d.requests.items o (let z : length d.requests.items ≤ o = omega (arith, d.requested, q.1) in z)) h)
     | inr q ↦ (let z : o < 65 = omega (arith, q.1) in z)
   ]
 
-  pub crosses_told : (s : ℕ) (request : Request) → length asked ≡ 65 → Tells (crosses all asked s request) (Crosses here s request)
+  pub crosses_told : (s : ℕ) (request : Request) → Waits s (Some request) → Tells (crosses states s request) (Crosses here s request)
   unfolding crosses
-  crosses_told s request len =
-      told_as _ _ _ (both_told _ _ _ _ (itself (may_be_crossed request)) (below_told (crosses_at all asked s request) (CrossesFrom s request) (from_told s request) 65))
+  crosses_told s request waits =
+      told_as _ _ _
+      (both_told _ _ _ _ (itself (may_be_crossed request)) (below_told (crosses_at states s request) (CrossesFrom s request) (λ o. from_told s request o waits) 65))
       (λ (kind, found). let (o, below, h) = found in to_crosses s request o kind h)
-      (λ c. (c.kind, (c.other, is_below c.other (CrossesAs s request c.other) len (from_crosses s request c).1, from_crosses s request c)))
+      (λ c. (c.kind, (c.other, is_below c.other (CrossesAs s request c.other) (from_crosses s request c).1, from_crosses s request c)))
 
-  waiting_told : (s : ℕ) (request : Option Request) (mark : Bool) → length asked ≡ 65 → Tells (crosses_waiting all asked s request) (WhereSome (pending_of request mark) (λ p. Crosses here s p.request))
-  waiting_told s None mark len = never _ (λ h. h)
-  waiting_told s (Some request) mark len = crosses_told s request len
+  waiting_told : (s : ℕ) (waits : Option Request) (mark : Bool) → Waits s waits → Tells (crosses_if states s waits) (WhereSome (pending_of waits mark) (λ p. Crosses here s p.request))
+  waiting_told s None mark is = never _ (λ h. h)
+  waiting_told s (Some request) mark is = crosses_told s request is
 
-  pub now_told : (s : ℕ) → length asked ≡ 65 → Tells (crosses_waiting all asked s (request_at (slice_get asked s))) (IsCrossedNow here s)
-  now_told s len = waiting_told s (request_at (slice_get asked s)) (mark_in (slice_get marks s)) len
+  pub now_told : (s : ℕ) → Tells (crosses_waiting states s) (IsCrossedNow here s)
+  now_told s = waiting_told s (request_at (slice_get d.requests.items s)) (mark_in (slice_get d.crossed.items s)) refl
 
-pub crossed_told : (d : Database) (s : ℕ) → Tells (crosses_waiting d.phases.items d.requests.items s (request_at (slice_get d.requests.items s))) (IsCrossedNow (store_of d) s)
-crossed_told d s = now_told d.log d.numbers d.phases.items d.requests.items d.crossed.items d.is_lost s d.requested
+-- with the sessions as the program has them
+pub crossed_as : (d : Database) (s : ℕ) (all : States) (b : Bool) → all ≡ states_in d → b ≡ crosses_waiting all s → Tells b (IsCrossedNow (store_of d) s)
+crossed_as d s all b same is =
+    subst (λ (t : Bool). Tells t (IsCrossedNow (store_of d) s)) (sym (is ∙ ap (λ (a : States). crosses_waiting a s) same)) (now_told d s)

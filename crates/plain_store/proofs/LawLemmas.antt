@@ -3,8 +3,8 @@ use Rattle.std.proofs.Common.{◌≡◌, ℕ, Bool, true, false, List, get_or, r
 use Rattle.std.specs.Prelude.{Option, Some, None}
 use Rattle.std.specs.FinMap as fin
 use Rattle.pool_base.specs.declared.code.Code.{Code}
-use Rattle.backend_trait.specs.declared.row.Row.{Row}
-use Rattle.backend_trait.specs.declared.checked.Checked.{Checked}
+use Rattle.sql_eval.specs.declared.row.Row.{Row}
+use Rattle.catalogue.specs.declared.checked.Checked.{Checked}
 use Rattle.backend_trait.specs.declared.request.Request.TheVariants as requests
 use Rattle.backend_trait.specs.declared.answer.Answer.{Answer}
 use Rattle.backend_trait.specs.declared.answer.Answer.TheVariants as answers
@@ -20,7 +20,7 @@ not_deadlock e = let f : false ≡ true = eq-eqb 48 80 (ap (λ (l : List ℕ). g
 not_memory : codes "40001" ≡ codes "53200" → ⊥
 not_memory e = let f : false ≡ true = eq-eqb 52 53 (ap (λ (l : List ℕ). get_or l 0 0) e) in cc
 
-given_clash : (st : Store) (s : ℕ) (crossed : Type 0) (t : Live) (table : ℕ) (answer : Answer) (code : Code) (g : Given) → code.bytes ≡ codes "40001" → MayGive st s t answer g → MayRefuse crossed t table code g → ⊥
+given_clash : (st : Store) (s : ℕ) (crossed : Type 0) (t : Live) (table : Option ℕ) (answer : Answer) (code : Code) (g : Given) → code.bytes ≡ codes "40001" → MayGive st s t answer g → MayRefuse crossed t table code g → ⊥
 given_clash st s crossed t table answer code (Fails bytes) is may refused = may
 given_clash st s crossed t table answer code (Gives result changes wants) is may refused = elim refused [
   | inl h ↦ let f : true ≡ false = sym h.1.2 ∙ may.1 h.1.0 h.1.1 in absurd (cc)

@@ -1,11 +1,14 @@
 pub mod Telling
-pub mod SeenLaws
+pub mod PlaceLaws
 pub mod HeldLaws
+pub mod SessionLaws
 pub mod CrossLaws
 pub mod AnswerLaws
 pub mod PostLaws
 pub mod BlankLaws
 pub mod WaitLaws
 pub mod StepLaws
+pub mod KeptLaws
+pub mod AnsweredLaws
 pub mod MarkingLaws
 pub mod LawLemmas

@@ -6,12 +6,13 @@ use Rattle.std.proofs.lemmas.List.{length-set}
 use Rattle.backend_trait.specs.declared.request.Request.{Request}
 use Rattle.backend_trait.specs.Store.{Pending, Store}
 use Rattle.backend_trait.specs.Acts.{IsCrossed, WhereSome}
-use Rattle.plain_store.specs.declared.data.ChangeSet.{ChangeSet}
-use Rattle.plain_store.specs.declared.data.Phase.{Phase}
-use Rattle.plain_store.specs.declared.data.Number.{Number}
-use Rattle.plain_store.specs.Meaning.{mark_in, request_at, pending_of, store_in}
+use Rattle.outcomes.specs.Next.{next_of}
+use Rattle.plain_store.specs.declared.data.Database.{Database}
+use Rattle.plain_store.specs.Phases.{mark_in, request_at, pending_of}
+use Rattle.plain_store.specs.Meaning.{store_in, store_of}
 use Rattle.plain_store.specs.Acting.{IsMarkedAt, IsMarked}
-use Rattle.plain_store.specs.Deciding.{crosses_waiting, marked_if, marks_below}
+use Rattle.plain_store.specs.States.{States, states_in}
+use Rattle.plain_store.specs.Deciding.{crosses_if, crosses_waiting, marked_if, marks_below}
 use Rattle.plain_store.proofs.Telling.{Tells, either_told, itself}
 use Rattle.plain_store.proofs.CrossLaws.{is_below, crosses_told}
 use Rattle.plain_store.proofs.StepLaws.{set_same, set_other}
@@ -36,64 +37,64 @@ if_there : (t : Bool) (n : ℕ) (marks : List Bool) → n < length marks → mar
 if_there true n marks below = ap mark_in (set_same marks n true below) ∙ sym (or_true_right (mark_in (slice_get marks n)))
 if_there false n marks below = sym (or_false_right (mark_in (slice_get marks n)))
 
-module _ (all : List Phase) (asked : List (Option Request)) (marks : List Bool) where
-  abbrev crossed_at : ℕ → Bool
-  crossed_at o = crosses_waiting all asked o (request_at (slice_get asked o))
-
-  below_length : (n : ℕ) → length (marks_below all asked marks n) ≡ length marks
+module _ (all : States) (marks : List Bool) where
+  below_length : (n : ℕ) → length (marks_below all marks n) ≡ length marks
   below_length zero = refl
-  below_length (suc n) = if_length (crossed_at n) n (marks_below all asked marks n) ∙ below_length n
+  below_length (suc n) = if_length (crosses_waiting all n) n (marks_below all marks n) ∙ below_length n
 
-  below_over : (n o : ℕ) → n ≤ o → slice_get (marks_below all asked marks n) o ≡ slice_get marks o
+  below_over : (n o : ℕ) → n ≤ o → slice_get (marks_below all marks n) o ≡ slice_get marks o
   below_over zero o over = refl
   below_over (suc n) o over =
-      if_other (crossed_at n) n o (marks_below all asked marks n) (λ e. omega (arith, over, e)) ∙ below_over n o (let z : n ≤ o = omega (arith, over) in z)
+      if_other (crosses_waiting all n) n o (marks_below all marks n) (λ e. omega (arith, over, e)) ∙ below_over n o (let z : n ≤ o = omega (arith, over) in z)
 
   -- a mark tells whether it was set before, or the request is crossed
-  below_mark : (n o : ℕ) → o < n → o < length marks → mark_in (slice_get (marks_below all asked marks n) o) ≡ (mark_in (slice_get marks o) || crossed_at o)
+  below_mark : (n o : ℕ) → o < n → o < length marks → mark_in (slice_get (marks_below all marks n) o) ≡ (mark_in (slice_get marks o) || crosses_waiting all o)
   below_mark zero o below long = absurd (omega (arith, below))
   below_mark (suc n) o below long = elim (eqb_tells o n) [
     | inl p ↦
-        let within : n < length (marks_below all asked marks n) = omega (arith, below_length n, long, p.1) in
-        subst (λ (k : ℕ). mark_in (slice_get (marks_below all asked marks (suc n)) k) ≡ (mark_in (slice_get marks k) || crossed_at k)) (sym p.1)
-        (if_there (crossed_at n) n (marks_below all asked marks n) within
-        ∙ ap (λ (x : Option Bool). mark_in x || crossed_at n) (below_over n n (let z : n ≤ n = omega arith in z)))
+        let within : n < length (marks_below all marks n) = omega (arith, below_length n, long, p.1) in
+        subst (λ (k : ℕ). mark_in (slice_get (marks_below all marks (suc n)) k) ≡ (mark_in (slice_get marks k) || crosses_waiting all k)) (sym p.1)
+        (if_there (crosses_waiting all n) n (marks_below all marks n) within
+        ∙ ap (λ (x : Option Bool). mark_in x || crosses_waiting all n) (below_over n n (let z : n ≤ n = omega arith in z)))
     | inr p ↦
-        ap mark_in (if_other (crossed_at n) n o (marks_below all asked marks n) p.1)
+        ap mark_in (if_other (crosses_waiting all n) n o (marks_below all marks n) p.1)
         ∙ below_mark n o (let z : o < n = omega (arith, below, p.1) in z) long
   ]
 
-module _ (log : List ChangeSet) (numbers : List Number) (all : List Phase) (asked : List (Option Request)) (marks : List Bool) (lost : Bool) (len : length asked ≡ 65) (long : length marks ≡ 65) where
+module _ (d : Database) where
   abbrev here : Store
-  here = store_in log numbers all asked marks lost
+  here = store_of d
+
+  abbrev states : States
+  states = states_in d
 
   abbrev later : List Bool
-  later = marks_below all asked marks 65
+  later = marks_below states d.crossed.items 65
 
   abbrev waiting : ℕ → Request → Pending
-  waiting o request = record { request = request; crossed = mark_in (slice_get marks o) }
+  waiting o request = record { request = request; crossed = mark_in (slice_get d.crossed.items o) }
 
-  mark_told : (o : ℕ) (request : Request) → o < 65 → request_at (slice_get asked o) ≡ Some request → Tells (mark_in (slice_get later o)) (IsCrossed here o (waiting o request))
+  mark_told : (o : ℕ) (request : Request) → o < 65 → request_at (slice_get d.requests.items o) ≡ Some request → Tells (mark_in (slice_get later o)) (IsCrossed here o (waiting o request))
   mark_told o request below is =
       subst (λ (t : Bool). Tells t (IsCrossed here o (waiting o request)))
-      (sym (below_mark all asked marks 65 o below (let z : o < length marks = omega (arith, below, long) in z)
-      ∙ ap (λ (x : Option Request). mark_in (slice_get marks o) || crosses_waiting all asked o x) is))
-      (either_told _ _ _ _ (itself (mark_in (slice_get marks o))) (crosses_told log numbers all asked marks lost o request len))
+      (sym (below_mark states d.crossed.items 65 o below (let z : o < length d.crossed.items = omega (arith, below, d.marked) in z)
+      ∙ ap (λ (x : Option Request). mark_in (slice_get d.crossed.items o) || crosses_if states o x) is))
+      (either_told _ _ _ _ (itself (mark_in (slice_get d.crossed.items o))) (crosses_told d o request is))
 
-  is_within : (o : ℕ) (request : Request) → request_at (slice_get asked o) ≡ Some request → o < 65
+  is_within : (o : ℕ) (request : Request) → request_at (slice_get d.requests.items o) ≡ Some request → o < 65
   is_within o request is =
-      is_below log numbers all asked marks lost o (λ p. Unit {0}) len
-      (subst (λ (x : Option Request). WhereSome (pending_of x (mark_in (slice_get marks o))) (λ p. Unit {0})) (sym is) tt)
+      is_below d o (λ p. Unit {0}) (subst (λ (x : Option Request). WhereSome (pending_of x (mark_in (slice_get d.crossed.items o))) (λ p. Unit {0})) (sym is) tt)
 
-  marked_at : (o : ℕ) (x : Option Request) → request_at (slice_get asked o) ≡ x → IsMarkedAt here o (pending_of x (mark_in (slice_get marks o))) (pending_of x (mark_in (slice_get later o)))
+  marked_at : (o : ℕ) (x : Option Request) → request_at (slice_get d.requests.items o) ≡ x → IsMarkedAt here o (pending_of x (mark_in (slice_get d.crossed.items o))) (pending_of x (mark_in (slice_get later o)))
   marked_at o None is = refl
   marked_at o (Some request) is = (mark_in (slice_get later o), refl, mark_told o request (is_within o request is) is)
 
-  pub marked_is : IsMarked here (store_in log numbers all asked later lost)
+  pub marked_is : IsMarked here (store_in (next_of d.numbers) d.catalogue d.log.items d.phases.items d.requests.items later d.is_lost)
   marked_is = record {
+    tables = refl;
     rows = refl;
     next = refl;
     transaction = refl;
     lost = refl;
-    pending = λ o. marked_at o (request_at (slice_get asked o)) refl;
+    pending = λ o. marked_at o (request_at (slice_get d.requests.items o)) refl;
   }

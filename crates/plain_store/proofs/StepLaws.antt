@@ -1,32 +1,29 @@
 -- What posts and answers leave of the store that the program's data mean.
-use Rattle.std.proofs.Common.{◌≡◌, ◌≢◌, ℕ, ℤ, zero, suc, ◌<◌, Bool, true, false, ◌||◌, ◌==◌, List, [], ◌∷◌, ◌++◌, length, map, refl, sym, ap, ◌∙◌, arith, inl, inr}
-use Rattle.std.specs.Prelude.{Option, Some, None, is_some, option_map, option_to_list, slice_get, slice_set, if◌then◌else◌}
-use Rattle.std.specs.FinMap as fin
+use Rattle.std.proofs.Common.{◌≡◌, ◌≢◌, ℕ, zero, suc, ◌<◌, Bool, true, false, ◌||◌, ◌==◌, List, [], ◌∷◌, ◌++◌, length, map, refl, sym, ap, ◌∙◌, arith, inl, inr}
+use Rattle.std.specs.Prelude.{ℤ, Option, Some, None, slice_get, slice_set, if◌then◌else◌}
 use Rattle.std.proofs.lemmas.Bool.Decides.{eqb_tells}
-use Rattle.backend_trait.specs.declared.row.Row.{Row}
-use Rattle.backend_trait.specs.declared.checked.Checked.{Checked}
-use Rattle.backend_trait.specs.declared.checked.Checked.TheVariants.{Insert, Select}
+use Rattle.std.proofs.lemmas.List.{map-append}
+use Rattle.schema.specs.declared.catalogue.TableDef.{TableDef}
+use Rattle.sql_eval.specs.declared.effect.Change.{Change}
 use Rattle.backend_trait.specs.declared.request.Request.{Request}
 use Rattle.backend_trait.specs.declared.request.Request.TheVariants as requests
-use Rattle.backend_trait.specs.declared.answer.Answer.TheVariants as answers
-use Rattle.backend_trait.specs.Keys.{Place, place_order, is_place}
-use Rattle.backend_trait.specs.Rows.{Changes, no_rows, no_changes, laid_over, joined_changes, with_at}
-use Rattle.backend_trait.specs.Effect.{Given, Gives, nothing, place_of, insert_given, effect_of, table_in}
-use Rattle.backend_trait.specs.Store.{Live, Transaction, Absent, Alive, Dead, Pending, Store, view_of, begun, given_to, posted, settled, made_stale, where_live, committed_by, answered}
-use Rattle.backend_trait.specs.Acts.{given_of}
-use Rattle.backend_trait.proofs.RowLaws.{change_over, get-joined_changes, same_changes}
-use Rattle.plain_store.specs.declared.data.Change.{Change}
-use Rattle.plain_store.specs.declared.data.ChangeSet.{ChangeSet}
+use Rattle.backend_trait.specs.declared.answer.Answer.{Answer}
+use Rattle.backend_trait.specs.Keys.{Place}
+use Rattle.backend_trait.specs.Rows.{Rows, Changes, no_rows, laid_over, with_at}
+use Rattle.backend_trait.specs.Effect.{Given, Gives, changes_of}
+use Rattle.backend_trait.specs.Store.{Live, Transaction, Absent, Alive, Dead, Store, begun, given_to, posted, settled, made_stale, where_live, committed_by}
+use Rattle.outcomes.specs.declared.change.ChangeSet.{ChangeSet}
+use Rattle.outcomes.specs.declared.spot.Spot.{Spot}
+use Rattle.outcomes.specs.Log.{rows_of, rows_on, is_changed, has_changed}
+use Rattle.outcomes.specs.Spots.{place_of}
+use Rattle.outcomes.proofs.LogLaws.{rows_on-snoc, has_changed-snoc, changes_joined}
 use Rattle.plain_store.specs.declared.data.Work.{Work}
 use Rattle.plain_store.specs.declared.data.Phase.{Phase}
 use Rattle.plain_store.specs.declared.data.Phase.TheVariants as phases
-use Rattle.plain_store.specs.declared.data.Number.{Number}
-use Rattle.plain_store.specs.Meaning.{change_on, changes_of, rows_on, rows_of, stale_on, nowhere, stale_of, locked_on, locks_of, live_of, transaction_of, transaction_in, next_on, next_of, no_numbers, mark_in, request_at, pending_of, store_in}
-use Rattle.plain_store.specs.Deciding.{seen}
-use Rattle.plain_store.specs.Steps.{begun_work, ran_found, ran_work, ran_phase, locked_work, locked_phase, stale_work, stale_phase, set_of, set_in}
-use Rattle.plain_store.proofs.Telling.{Tells, same_test, fold-snoc}
-use Rattle.plain_store.proofs.SeenLaws.{as_row, place_told, seen_is}
-use Rattle.plain_store.proofs.HeldLaws.{changed_more}
+use Rattle.plain_store.specs.declared.data.Database.{Database}
+use Rattle.plain_store.specs.Phases.{changes_in, has_table, live_of, transaction_of, transaction_in, mark_in, request_at, pending_of}
+use Rattle.plain_store.specs.Meaning.{store_in, store_of}
+use Rattle.plain_store.specs.Steps.{locked, IsSetIn}
 
 pub set_same : {A : Type 0} (xs : List A) (b : ℕ) (x : A) → b < length xs → slice_get (slice_set xs b x) b ≡ Some x
 set_same [] b x below = absurd (omega arith)
@@ -55,9 +52,9 @@ there_already g at o = elim (eqb_tells o at) [
   | inr p ↦ sym (ap (λ b. if b then g at else g o) p.0)
 ]
 
-module _ (log : List ChangeSet) (numbers : List Number) (all : List Phase) (asked : List (Option Request)) (marks : List Bool) (lost : Bool) where
+module _ (next : ℕ → Option ℤ) (tables : List TableDef) (log : List ChangeSet) (all : List Phase) (asked : List (Option Request)) (marks : List Bool) (lost : Bool) where
   abbrev here : Store
-  here = store_in log numbers all asked marks lost
+  here = store_in next tables log all asked marks lost
 
   none_asked : (s : ℕ) → s < length asked → (o : ℕ) → pending_of (request_at (slice_get (slice_set asked s None) o)) (mark_in (slice_get marks o)) ≡ with_at here.pending s None o
   none_asked s below o = elim (eqb_tells o s) [
@@ -66,19 +63,21 @@ module _ (log : List ChangeSet) (numbers : List Number) (all : List Phase) (aske
     | inr p ↦ ap (λ (x : Option (Option Request)). pending_of (request_at x) (mark_in (slice_get marks o))) (set_other asked s o None p.1) ∙ sym (ap (λ b. if b then None else here.pending o) p.0)
   ]
 
-  pub settled_is : (s : ℕ) (phase : Phase) → s < length all → s < length asked → store_in log numbers (slice_set all s phase) (slice_set asked s None) marks lost ≡ settled here s (transaction_of phase)
+  pub settled_is : (s : ℕ) (phase : Phase) → s < length all → s < length asked → store_in next tables log (slice_set all s phase) (slice_set asked s None) marks lost ≡ settled here s (transaction_of phase)
   settled_is s phase seated below = λ i. record {
+    tables = tables;
     rows = rows_of log;
-    next = next_of numbers;
+    next = next;
     transaction = λ o. at_set transaction_in here.transaction all s phase (transaction_of phase) seated refl (λ k other. refl) o i;
     pending = λ o. none_asked s below o i;
     lost = lost;
   }
 
-  pub unasked_is : (s : ℕ) → s < length asked → store_in log numbers all (slice_set asked s None) marks lost ≡ settled here s (here.transaction s)
+  pub unasked_is : (s : ℕ) → s < length asked → store_in next tables log all (slice_set asked s None) marks lost ≡ settled here s (here.transaction s)
   unasked_is s below = λ i. record {
+    tables = tables;
     rows = rows_of log;
-    next = next_of numbers;
+    next = next;
     transaction = λ o. there_already here.transaction s o i;
     pending = λ o. none_asked s below o i;
     lost = lost;
@@ -96,112 +95,148 @@ module _ (log : List ChangeSet) (numbers : List Number) (all : List Phase) (aske
         ∙ sym (ap (λ b. if b then Some (record { request = request; crossed = false }) else here.pending o) p.0)
   ]
 
-  pub posted_is : (s : ℕ) (request : Request) → s < length asked → s < length marks → store_in log numbers all (slice_set asked s (Some request)) (slice_set marks s false) lost ≡ posted here s request
+  pub posted_is : (s : ℕ) (request : Request) → s < length asked → s < length marks → store_in next tables log all (slice_set asked s (Some request)) (slice_set marks s false) lost ≡ posted here s request
   posted_is s request below marked = λ i. record {
+    tables = tables;
     rows = rows_of log;
-    next = next_of numbers;
+    next = next;
     transaction = here.transaction;
     pending = λ o. asked_now s request below marked o i;
     lost = lost;
   }
 
-  pub numbered_is : (n : Number) → store_in log (numbers ++ n ∷ []) all asked marks lost ≡ record here { next = with_at here.next n.table (Some n.next) }
-  numbered_is n = λ i. record { rows = rows_of log; next = fold-snoc next_on no_numbers numbers n i; transaction = here.transaction; pending = here.pending; lost = lost }
-
--- one set more is committed
-stale_live : (set : ChangeSet) (changes : Changes) (work : Work) → changes ≡ changes_of set.changes → live_of (stale_work set work) ≡ made_stale changes (live_of work)
-stale_live set changes work is = λ i. record {
-  base = rows_of work.base;
-  changes = changes_of work.changes;
-  held = (live_of work).held;
-  stale = λ p. (ap (λ (f : Place → Bool). f p) (fold-snoc stale_on nowhere work.stale set) ∙ ap (λ (c : Changes). is_some (fin.get c p) || stale_of work.stale p) (sym is)) i;
+-- a live transaction by its parts
+abbrev pub live_by : List ChangeSet → List Change → List Spot → List ℕ → List ChangeSet → Live
+live_by base changes held tables stale = record {
+  base = rows_of base;
+  changes = changes_of changes;
+  held = record { places = map place_of held; tables = has_table tables };
+  stale = has_changed stale;
 }
 
-stale_same : (set : ChangeSet) (changes : Changes) (phase : Phase) → changes ≡ changes_of set.changes → transaction_of (stale_phase set phase) ≡ where_live (made_stale changes) (transaction_of phase)
-stale_same set changes phases.Absent is = refl
-stale_same set changes (phases.Alive work) is = ap Alive (stale_live set changes work is)
-stale_same set changes phases.Dead is = refl
+-- sets with the same changes leave the same rows, and the same stale places
+rows_same : (rows : Rows) (xs ys : List ChangeSet) → map changes_in xs ≡ map changes_in ys → rows_on rows xs ≡ rows_on rows ys
+rows_same rows [] [] e = refl
+rows_same rows [] (y ∷ ys) e = absurd (cc)
+rows_same rows (x ∷ xs) [] e = absurd (cc)
+rows_same rows (x ∷ xs) (y ∷ ys) e =
+    let head : changes_in x ≡ changes_in y = cc in
+    let tail : map changes_in xs ≡ map changes_in ys = cc in
+    ap (λ (cs : List Change). rows_on (laid_over (changes_of cs) rows) xs) head ∙ rows_same (laid_over (changes_of (changes_in y)) rows) xs ys tail
 
-stale_at : (set : ChangeSet) (changes : Changes) (all : List Phase) (o : ℕ) → changes ≡ changes_of set.changes → transaction_in (slice_get (map (stale_phase set) all) o) ≡ where_live (made_stale changes) (transaction_in (slice_get all o))
-stale_at set changes [] o is = refl
-stale_at set changes (phase ∷ all) zero is = stale_same set changes phase is
-stale_at set changes (phase ∷ all) (suc o) is = stale_at set changes all o is
+changed_same : (xs ys : List ChangeSet) (p : Place) → map changes_in xs ≡ map changes_in ys → has_changed xs p ≡ has_changed ys p
+changed_same [] [] p e = refl
+changed_same [] (y ∷ ys) p e = absurd (cc)
+changed_same (x ∷ xs) [] p e = absurd (cc)
+changed_same (x ∷ xs) (y ∷ ys) p e =
+    let head : changes_in x ≡ changes_in y = cc in
+    let tail : map changes_in xs ≡ map changes_in ys = cc in
+    ap (λ (cs : List Change). is_changed cs p || has_changed xs p) head ∙ ap (λ b. is_changed (changes_in y) p || b) (changed_same xs ys p tail)
 
-pub committed_is : (log : List ChangeSet) (numbers : List Number) (all : List Phase) (asked : List (Option Request)) (marks : List Bool) (lost : Bool) (s : ℕ) (set : ChangeSet) (t : Live) → t.changes ≡ changes_of set.changes
-    → settled (store_in (log ++ set ∷ []) numbers (map (stale_phase set) all) asked marks lost) s Absent ≡ committed_by (store_in log numbers all asked marks lost) s (Alive t)
-committed_is log numbers all asked marks lost s set t is = λ i. record {
-  rows = (fold-snoc rows_on no_rows log set ∙ ap (λ (c : Changes). laid_over c (rows_of log)) (sym is)) i;
-  next = next_of numbers;
-  transaction = with_at (λ o. stale_at set t.changes all o is i) s Absent;
-  pending = with_at (store_in log numbers all asked marks lost).pending s None;
+-- a copy
+pub copied_live : (base base' : List ChangeSet) (own own' : List Change) (held held' : List Spot) (tables tables' : List ℕ) (stale stale' : List ChangeSet)
+    → map changes_in base ≡ map changes_in base' → own ≡ own' → held ≡ held' → tables ≡ tables' → map changes_in stale ≡ map changes_in stale'
+    → live_by base own held tables stale ≡ live_by base' own' held' tables' stale'
+copied_live base base' own own' held held' tables tables' stale stale' a b c d e = λ i. record {
+  base = rows_same no_rows base base' a i;
+  changes = changes_of (b i);
+  held = record { places = map place_of (c i); tables = has_table (d i) };
+  stale = λ p. changed_same stale stale' p e i;
+}
+
+-- a transaction that has just begun
+pub begun_live : (base log : List ChangeSet) (own : List Change) (held : List Spot) (tables : List ℕ) (stale : List ChangeSet)
+    → map changes_in base ≡ map changes_in log → own ≡ [] → held ≡ [] → tables ≡ [] → stale ≡ [] → live_by base own held tables stale ≡ begun (rows_of log)
+begun_live base log own held tables stale a b c d e = λ i. record {
+  base = rows_same no_rows base log a i;
+  changes = changes_of (b i);
+  held = record { places = map place_of (c i); tables = has_table (d i) };
+  stale = has_changed (e i);
+}
+
+-- it has run a statement that gives changes and places more
+pub given_live : (base : List ChangeSet) (own more : List Change) (held places : List Spot) (tables : List ℕ) (stale : List ChangeSet) (answer : Answer)
+    → live_by base (own ++ more) (held ++ places) tables stale ≡ given_to (Gives answer (changes_of more) (map place_of places)) (live_by base own held tables stale)
+given_live base own more held places tables stale answer = λ i. record {
+  base = rows_of base;
+  changes = changes_joined own more i;
+  held = record { places = map-append place_of held places i; tables = has_table tables };
+  stale = has_changed stale;
+}
+
+pub given_live_by : (base : List ChangeSet) (own more own' : List Change) (held places held' : List Spot) (tables : List ℕ) (stale : List ChangeSet) (answer : Answer) → own' ≡ own ++ more → held' ≡ held ++ places
+    → live_by base own' held' tables stale ≡ given_to (Gives answer (changes_of more) (map place_of places)) (live_by base own held tables stale)
+given_live_by base own more own' held places held' tables stale answer a b =
+    ap (λ (cs : List Change). live_by base cs held' tables stale) a
+    ∙ (ap (λ (xs : List Spot). live_by base (own ++ more) xs tables stale) b ∙ given_live base own more held places tables stale answer)
+
+or_turned : (a b c : Bool) → (a || (b || c)) ≡ (b || (a || c))
+or_turned true true c = refl
+or_turned true false c = refl
+or_turned false b c = refl
+
+table_snoc : (tables : List ℕ) (t u : ℕ) → has_table (tables ++ t ∷ []) u ≡ (u == t || has_table tables u)
+table_snoc [] t u = refl
+table_snoc (x ∷ xs) t u = ap (λ b. u == x || b) (table_snoc xs t u) ∙ or_turned (u == x) (u == t) (has_table xs u)
+
+-- it has locked a table more
+pub locked_live : (base : List ChangeSet) (own : List Change) (held : List Spot) (tables : List ℕ) (stale : List ChangeSet) (table : ℕ)
+    → live_by base own held (tables ++ table ∷ []) stale ≡ locked table (live_by base own held tables stale)
+locked_live base own held tables stale table = λ i. record {
+  base = rows_of base;
+  changes = changes_of own;
+  held = record { places = map place_of held; tables = λ u. table_snoc tables table u i };
+  stale = has_changed stale;
+}
+
+pub locked_live_by : (base : List ChangeSet) (own : List Change) (held : List Spot) (tables tables' : List ℕ) (stale : List ChangeSet) (table : ℕ) → tables' ≡ tables ++ table ∷ []
+    → live_by base own held tables' stale ≡ locked table (live_by base own held tables stale)
+locked_live_by base own held tables tables' stale table a = ap (λ (ts : List ℕ). live_by base own held ts stale) a ∙ locked_live base own held tables stale table
+
+-- another has committed a set more
+pub stale_live : (base : List ChangeSet) (own : List Change) (held : List Spot) (tables : List ℕ) (stale : List ChangeSet) (set : ChangeSet)
+    → live_by base own held tables (stale ++ set ∷ []) ≡ made_stale (changes_of set.changes.items) (live_by base own held tables stale)
+stale_live base own held tables stale set = λ i. record {
+  base = rows_of base;
+  changes = changes_of own;
+  held = record { places = map place_of held; tables = has_table tables };
+  stale = λ p. has_changed-snoc stale set p i;
+}
+
+pub stale_live_by : (base : List ChangeSet) (own : List Change) (held : List Spot) (tables : List ℕ) (stale stale' : List ChangeSet) (set : ChangeSet) → stale' ≡ stale ++ set ∷ []
+    → live_by base own held tables stale' ≡ made_stale (changes_of set.changes.items) (live_by base own held tables stale)
+stale_live_by base own held tables stale stale' set a = ap (λ (xs : List ChangeSet). live_by base own held tables xs) a ∙ stale_live base own held tables stale set
+
+-- each transaction but that of the session
+pub stale_at : (changes : Changes) (xs ys : List Phase) → map transaction_of ys ≡ map (λ (phase : Phase). where_live (made_stale changes) (transaction_of phase)) xs
+    → (o : ℕ) → transaction_in (slice_get ys o) ≡ where_live (made_stale changes) (transaction_in (slice_get xs o))
+stale_at changes [] [] e o = refl
+stale_at changes [] (y ∷ ys) e o = absurd (cc)
+stale_at changes (x ∷ xs) [] e o = absurd (cc)
+stale_at changes (x ∷ xs) (y ∷ ys) e zero = (let head : transaction_of y ≡ where_live (made_stale changes) (transaction_of x) = cc in head)
+stale_at changes (x ∷ xs) (y ∷ ys) e (suc o) =
+    stale_at changes xs ys (let tail : map transaction_of ys ≡ map (λ (phase : Phase). where_live (made_stale changes) (transaction_of phase)) xs = cc in tail) o
+
+pub committed_is : (next : ℕ → Option ℤ) (tables : List TableDef) (log : List ChangeSet) (all later : List Phase) (asked : List (Option Request)) (marks : List Bool) (lost : Bool) (s : ℕ) (set : ChangeSet) (t : Live)
+    → map transaction_of later ≡ map (λ (phase : Phase). where_live (made_stale (changes_of set.changes.items)) (transaction_of phase)) all → t.changes ≡ changes_of set.changes.items
+    → settled (store_in next tables (log ++ set ∷ []) later asked marks lost) s Absent ≡ committed_by (store_in next tables log all asked marks lost) s (Alive t)
+committed_is next tables log all later asked marks lost s set t stale is = λ i. record {
+  tables = tables;
+  rows = (rows_on-snoc no_rows log set ∙ ap (λ (c : Changes). laid_over c (rows_of log)) (sym is)) i;
+  next = next;
+  transaction = with_at (λ o. (stale_at (changes_of set.changes.items) all later stale o ∙ ap (λ (c : Changes). where_live (made_stale c) (transaction_in (slice_get all o))) (sym is)) i) s Absent;
+  pending = with_at (store_in next tables log all asked marks lost).pending s None;
   lost = lost;
 }
 
 -- what a session has to commit
-pub committed_some : (st new : Store) (s : ℕ) (x : Option Phase) (phase : Phase) (set : ChangeSet) → st.transaction s ≡ transaction_in x → x ≡ Some phase → set_in phase ≡ Some set
-    → ((t : Live) → t.changes ≡ changes_of set.changes → new ≡ committed_by st s (Alive t)) → new ≡ committed_by st s (st.transaction s)
-committed_some st new s x phases.Absent set is at some h = absurd (cc)
-committed_some st new s x (phases.Alive work) set is at some h =
-    let same : set_of work ≡ set = cc in
-    h (live_of work) (ap (λ (c : ChangeSet). changes_of c.changes) same) ∙ sym (ap (committed_by st s) (is ∙ ap transaction_in at))
-committed_some st new s x phases.Dead set is at some h = absurd (cc)
+pub committed_some : (st new : Store) (s : ℕ) (phase : Phase) (set : ChangeSet) → st.transaction s ≡ transaction_of phase → IsSetIn phase (Some set)
+    → ((t : Live) → t.changes ≡ changes_of set.changes.items → new ≡ committed_by st s (Alive t)) → new ≡ committed_by st s (st.transaction s)
+committed_some st new s phases.Absent set is some h = absurd (cc)
+committed_some st new s (phases.Alive work) set is some h = h (live_of work) (ap changes_of (sym some)) ∙ sym (ap (committed_by st s) is)
+committed_some st new s phases.Dead set is some h = absurd (cc)
 
-pub committed_none : (st new : Store) (s : ℕ) (x : Option Phase) (phase : Phase) → st.transaction s ≡ transaction_in x → x ≡ Some phase → set_in phase ≡ None → new ≡ settled st s Absent → new ≡ committed_by st s (st.transaction s)
-committed_none st new s x phases.Absent is at none h = h ∙ sym (ap (committed_by st s) (is ∙ ap transaction_in at))
-committed_none st new s x (phases.Alive work) is at none h = absurd (cc)
-committed_none st new s x phases.Dead is at none h = h ∙ sym (ap (committed_by st s) (is ∙ ap transaction_in at))
-
--- a transaction begins, runs a statement, takes a lock
-pub begun_is : (log : List ChangeSet) → transaction_of (phases.Alive (begun_work log)) ≡ Alive (begun (rows_of log))
-begun_is log =
-    let none : (p : Place) → is_some (fin.get no_changes p) ≡ false = λ p. ap is_some (fin.get-empty place_order p) in
-    λ i. Alive (record { base = rows_of log; changes = no_changes; held = record { places = λ p. none p i; tables = λ t. false }; stale = λ p. false })
-
-place_turned : (p q : Place) → is_place p q ≡ is_place q p
-place_turned p q = same_test _ _ (p ≡ q) (place_told p q) (λ e. sym ((place_told q p).0 e), λ e. (place_told q p).1 (sym e))
-
-insert_ran : (key value : ℤ) (work : Work) (row : Option Row) (found : Option ℤ) → row ≡ as_row key found → live_of (ran_found found key value work) ≡ given_to (insert_given key value row) (live_of work)
-insert_ran key value work row (Some v) is = ap (λ (r : Option Row). given_to (insert_given key value r) (live_of work)) (sym is)
-insert_ran key value work row None is =
-    (λ i. record {
-      base = rows_of work.base;
-      changes = fold-snoc change_on no_changes work.changes (record { key = key; value = value }) i;
-      held = record { places = λ p. place p i; tables = locks_of work.tables };
-      stale = stale_of work.stale;
-    })
-    ∙ ap (λ (r : Option Row). given_to (insert_given key value r) (live_of work)) (sym is)
-  where
-    place : (p : Place) → is_some (fin.get (changes_of (work.changes ++ record { key = key; value = value } ∷ [])) p) ≡ (is_place (place_of key) p || is_some (fin.get (changes_of work.changes) p))
-    place p =
-        ap (λ (c : Changes). is_some (fin.get c p)) (fold-snoc change_on no_changes work.changes (record { key = key; value = value }))
-        ∙ changed_more (changes_of work.changes) (record { key = key; value = value }) p
-        ∙ ap (λ b. b || is_some (fin.get (changes_of work.changes) p)) (place_turned p (place_of key))
-
-none_joined : (old : Changes) → old ≡ joined_changes no_changes old
-none_joined old = same_changes _ _ (λ q. sym (get-joined_changes no_changes old q ∙ ap (λ c. change_over c (fin.get old q)) (fin.get-empty place_order q)))
-
-work_ran : (st : Store) (checked : Checked) (work : Work) → live_of (ran_work checked work) ≡ given_to (given_of st checked (live_of work)) (live_of work)
-unfolding effect_of
-work_ran st (Insert key value) work = insert_ran key value work (fin.get (view_of (live_of work)) (place_of key)) (seen work key) (seen_is work key)
-work_ran st (Select key) work = λ i. record { base = rows_of work.base; changes = none_joined (changes_of work.changes) i; held = (live_of work).held; stale = stale_of work.stale }
-
-phase_ran : (st : Store) (checked : Checked) (phase : Phase) → transaction_of (ran_phase checked phase) ≡ where_live (λ t. given_to (given_of st checked t) t) (transaction_of phase)
-phase_ran st checked phases.Absent = refl
-phase_ran st checked (phases.Alive work) = ap Alive (work_ran st checked work)
-phase_ran st checked phases.Dead = refl
-
-pub ran_is : (st new : Store) (s : ℕ) (x : Option Phase) (phase : Phase) (checked : Checked) → st.transaction s ≡ transaction_in x → x ≡ Some phase → new ≡ settled st s (transaction_of (ran_phase checked phase)) → new ≡ answered st s (requests.Run checked)
-ran_is st new s x phase checked is at h = h ∙ ap (settled st s) (phase_ran st checked phase ∙ ap (where_live (λ t. given_to (given_of st checked t) t)) (sym (is ∙ ap transaction_in at)))
-
-phase_locked : (table : ℕ) (phase : Phase) → transaction_of (locked_phase table phase) ≡ where_live (λ t. record t { held = record { places = t.held.places; tables = λ u. u == table || t.held.tables u } }) (transaction_of phase)
-phase_locked table phases.Absent = refl
-phase_locked table (phases.Alive work) = λ i. Alive (record {
-  base = rows_of work.base;
-  changes = changes_of work.changes;
-  held = record { places = (live_of work).held.places; tables = fold-snoc locked_on (locks_of []) work.tables table i };
-  stale = stale_of work.stale;
-})
-phase_locked table phases.Dead = refl
-
-pub locked_is : (st new : Store) (s : ℕ) (x : Option Phase) (phase : Phase) (table : ℕ) → st.transaction s ≡ transaction_in x → x ≡ Some phase → new ≡ settled st s (transaction_of (locked_phase table phase)) → new ≡ answered st s (requests.Lock table)
-locked_is st new s x phase table is at h = h ∙ ap (settled st s) (phase_locked table phase ∙ ap (where_live (λ t. record t { held = record { places = t.held.places; tables = λ u. u == table || t.held.tables u } })) (sym (is ∙ ap transaction_in at)))
+pub committed_none : (st new : Store) (s : ℕ) (phase : Phase) → st.transaction s ≡ transaction_of phase → IsSetIn phase None → new ≡ settled st s Absent → new ≡ committed_by st s (st.transaction s)
+committed_none st new s phases.Absent is none h = h ∙ sym (ap (committed_by st s) is)
+committed_none st new s (phases.Alive work) is none h = absurd none
+committed_none st new s phases.Dead is none h = h ∙ sym (ap (committed_by st s) is)

@@ -1,6 +1,6 @@
--- Tests that tell facts, and folds.
-use Rattle.std.proofs.Common.{◌≡◌, Bool, true, false, ◌||◌, List, [], ◌∷◌, ◌++◌, refl, inl, inr}
-use Rattle.std.specs.Prelude.{◌⊎◌, ◌&&◌, not, fold}
+-- Tests that tell facts.
+use Rattle.std.proofs.Common.{◌≡◌, Bool, true, false, ◌||◌, refl, inl, inr}
+use Rattle.std.specs.Prelude.{◌⊎◌, ◌&&◌, not}
 
 -- a test tells a fact
 abbrev pub Tells : Bool → Type 0 → Type 0
@@ -60,8 +60,3 @@ same_test true true P f g = refl
 same_test true false P f g = absurd (let h : false ≡ true = g.1 (f.0 refl) in cc)
 same_test false true P f g = absurd (let h : false ≡ true = f.1 (g.0 refl) in cc)
 same_test false false P f g = refl
-
--- one more item is the last step
-pub fold-snoc : {A B : Type 0} (f : B → A → B) (b : B) (xs : List A) (x : A) → fold f b (xs ++ x ∷ []) ≡ f (fold f b xs) x
-fold-snoc f b [] x = refl
-fold-snoc f b (y ∷ ys) x = fold-snoc f (f b y) ys x

@@ -1,7 +1,9 @@
 -- Where a store may give an answer, which of its requests are crossed, and what an answer leaves.
-use Rattle.std.specs.Prelude.{◌≡◌, ◌↔◌, ℕ, Bool, true, false, Option, Some, None}
+use Rattle.std.specs.Prelude.{◌≡◌, ◌↔◌, ℕ, ℤ, Bool, true, false, List, Option, Some, None}
+use Rattle.schema.specs.declared.catalogue.TableDef.{TableDef}
+use Rattle.backend_trait.specs.declared.request.Request.{Request}
 use Rattle.backend_trait.specs.declared.answer.Answer.{Answer}
-use Rattle.backend_trait.specs.Store.{Store, Pending, acted}
+use Rattle.backend_trait.specs.Store.{Store, Absent, Pending, request_in, settled, drawn, acted}
 use Rattle.backend_trait.specs.Acts.{MayAnswer, Crosses, IsCrossed, MustWait, IsInCycle, WhereSome}
 
 -- it is not lost, a request of the session waits, and the table of answers allows it
@@ -19,6 +21,7 @@ IsMarkedAt st s (Some p) new = (mark : Bool) × (new ≡ Some (record { request 
 
 -- the requests that another session crosses now are marked, and nothing else changes
 pub record IsMarked (old new : Store) : Type 0 where
+  pub tables : new.tables ≡ old.tables
   pub rows : new.rows ≡ old.rows
   pub next : new.next ≡ old.next
   pub transaction : new.transaction ≡ old.transaction
@@ -36,3 +39,12 @@ acted_by st s answer (Some p) = acted st s p.request answer
 
 abbrev pub acted_at : Store → ℕ → Answer → Store
 acted_at st s answer = acted_by st s answer (st.pending s)
+
+-- the next numbers where the request that waits has drawn its own
+abbrev pub drawn_waiting : List TableDef → (ℕ → Option ℤ) → Option Request → ℕ → Option ℤ
+drawn_waiting tables next None = next
+drawn_waiting tables next (Some request) = drawn tables next request
+
+-- a death leaves no transaction and nothing that waits, whatever its reason; what a run has drawn stays drawn
+abbrev pub died : Store → ℕ → Store
+died st s = record (settled st s Absent) { next = drawn_waiting st.tables st.next (request_in (st.pending s)) }

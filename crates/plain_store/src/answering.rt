@@ -1,22 +1,19 @@
 //! Whether a store may give an answer.
-ghost use Rattle.std.specs.Prelude.{◌≡◌, ◌<◌, ◌↔◌, IsTrue, length, codes, slice_get};
-ghost use Rattle.plain_store.specs.Meaning.{request_at, mark_in, store_of};
+ghost use Rattle.std.specs.Prelude.{◌≡◌, ◌<◌, ◌↔◌, IfOk, IsTrue, codes, option_map};
+ghost use Rattle.outcomes.specs.Given.{given_in};
+ghost use Rattle.plain_store.specs.Meaning.{store_of};
 ghost use Rattle.plain_store.specs.Acting.{MayAct};
-ghost use Rattle.plain_store.specs.Deciding.{is_code, is_key, is_value, are_cells, is_one_row, are_no_rows, are_rows, refuses, may_insert, may_select, may_work, may_run, may_snapshot, is_live, may_lock, is_done, is_serial, phase_at, may_answer, may_pending, crosses, may_act};
+ghost use Rattle.plain_store.specs.States.{AreAll, states_of};
+ghost use Rattle.plain_store.specs.Deciding.{is_code, refuses, may_give, may_fail, may_work, ran_given, ran, may_run, may_snapshot, is_live, may_lock, is_done, tells, may_answer, may_asked, may_pending};
 
-use crate::crossing::crosses;
-use crate::data::{Database, Number, Phase, Wanted, Work};
-use crate::holding::{has_table, taken_from};
-use crate::seeing::{is_stale, number_in, seen};
-use backend_trait::{Answer, Checked, Request, Row};
-use pg_values::Value;
-use pool_base::{Code, SessionId};
-
-fn is_duplicate(code: Code) -> bool
-    ensures { result ≡ is_code (codes "23505") code }
-{
-    code.bytes == *b"23505"
-}
+use crate::crossing::{crosses, has_lock};
+use crate::data::{Database, Phase, Wanted, Work};
+use crate::given::all_given;
+use crate::holding::taken_from;
+use crate::sessions::Sessions;
+use backend_trait::{Answer, Request};
+use outcomes::{Outcome, is_any_changed, table_in};
+use pool_base::{Code, NoMemory, SessionId};
 
 fn is_stale_code(code: Code) -> bool
     ensures { result ≡ is_code (codes "40001") code }
@@ -36,130 +33,111 @@ fn is_out_of_memory(code: Code) -> bool
     code.bytes == *b"53200"
 }
 
-fn is_key(value: &Value, key: i32) -> bool
-    ensures { result ≡ is_key value.now key }
+/// Whether a statement that has a result may be refused with that code.
+fn refuses(stale: bool, deadlock: bool, code: Code) -> bool
+    ensures { result ≡ refuses stale deadlock code }
 {
-    match value {
-        Value::Int4(n) => *n == key,
-        Value::Null | Value::Bool(_) | Value::Int8(_) | Value::Text(_) | Value::Moment(_) => false,
-    }
-}
-
-fn is_value(value: &Value, expected: i64) -> bool
-    ensures { result ≡ is_value value.now expected }
-{
-    match value {
-        Value::Int8(n) => *n == expected,
-        Value::Null | Value::Bool(_) | Value::Int4(_) | Value::Text(_) | Value::Moment(_) => false,
-    }
-}
-
-fn are_cells(cells: &[Value], key: i32, value: i64) -> bool
-    ensures { result ≡ are_cells cells.now key value }
-{
-    if let [id, v] = cells {
-        return is_key(id, key) && is_value(v, value);
-    }
-    false
-}
-
-fn is_one_row(rows: &[Row], key: i32, value: i64) -> bool
-    ensures { result ≡ is_one_row rows.now key value }
-{
-    if let [row] = rows {
-        return are_cells(row.cells.as_slice(), key, value);
-    }
-    false
-}
-
-fn are_no_rows(rows: &[Row]) -> bool
-    ensures { result ≡ are_no_rows rows.now }
-{
-    if let [] = rows {
-        return true;
-    }
-    false
-}
-
-/// Whether these are the rows of a key: the one of its value, or none.
-fn are_rows(rows: &[Row], key: i32, found: Option<i64>) -> bool
-    ensures { result ≡ are_rows rows.now key found }
-{
-    match found {
-        None => are_no_rows(rows),
-        Some(value) => is_one_row(rows, key, value),
-    }
-}
-
-/// Whether a run may be refused with that code.
-fn refuses(there: bool, stale: bool, deadlock: bool, code: Code) -> bool
-    ensures { result ≡ refuses there stale deadlock code }
-{
-    if there {
-        return is_duplicate(code) || is_out_of_memory(code);
-    }
     (is_stale_code(code) && stale) || ((is_deadlock(code) && deadlock) || is_out_of_memory(code))
 }
 
-fn may_insert(there: bool, stale: bool, taken: bool, deadlock: bool, answer: &Answer) -> bool
-    ensures { result ≡ may_insert there stale taken deadlock answer.now }
+/// Whether it may be answered so, where it gives that answer.
+fn may_give(given: &Answer, stale: bool, taken: bool, deadlock: bool, answer: &Answer) -> bool
+    ensures { result ≡ may_give given.now stale taken deadlock answer.now }
 {
     match answer {
-        Answer::Count(n) => !there && (*n == 1 && (!stale && !taken)),
-        Answer::Refused(code) => refuses(there, stale, deadlock, *code),
-        Answer::Began | Answer::Rows(_) | Answer::Locked | Answer::Done | Answer::Serial(_) =>
-            false,
+        Answer::Refused(code) => refuses(stale, deadlock, *code),
+        Answer::Rows(_) | Answer::Count(_) => *given == *answer && !stale && !taken,
+        Answer::Began | Answer::Locked | Answer::Done | Answer::Serial(_) => false,
     }
 }
 
-fn may_select(key: i32, found: Option<i64>, deadlock: bool, answer: &Answer) -> bool
-    ensures { result ≡ may_select key found deadlock answer.now }
+/// Whether it may be answered so, where it has that code.
+fn may_fail(code: Code, answer: &Answer) -> bool
+    ensures { result ≡ may_fail code.bytes answer.now }
 {
     match answer {
-        Answer::Rows(rows) => are_rows(rows.as_slice(), key, found),
-        Answer::Refused(code) => refuses(false, false, deadlock, *code),
-        Answer::Began | Answer::Count(_) | Answer::Locked | Answer::Done | Answer::Serial(_) =>
-            false,
+        Answer::Refused(told) => told.bytes == code.bytes || is_out_of_memory(*told),
+        Answer::Began
+        | Answer::Rows(_)
+        | Answer::Count(_)
+        | Answer::Locked
+        | Answer::Done
+        | Answer::Serial(_) => false,
     }
 }
 
 fn may_work(
-    all: &[Phase],
+    all: Sessions<'_>,
     s: usize,
-    crossed: bool,
-    statement: Checked,
+    deadlock: bool,
     work: &Work,
+    outcome: &Outcome,
     answer: &Answer,
 ) -> bool
-    requires { length all.now ≡ 65 }
-    ensures { result ≡ may_work all.now s crossed statement work.now answer.now }
+    requires { AreAll all }
+    ensures { result ≡ may_work (states_of all.entry) s deadlock work.now (given_in outcome.now)
+        answer.now }
 {
-    let deadlock = crossed && !has_table(work.tables.as_slice(), 0);
-    match statement {
-        Checked::Insert { key, value: _value } => {
-            let taken = taken_from(0, s, Wanted::Key(key), all);
-            let there = seen(work, key).is_some();
-            may_insert(there, is_stale(work, key), taken, deadlock, answer)
+    match outcome {
+        Outcome::Fails(code) => may_fail(*code, answer),
+        Outcome::Gives {
+            answer: given,
+            places,
+            ..
+        } => {
+            let stale = is_any_changed(work.stale.as_slice(), places.as_slice());
+            let taken = taken_from(0, s, Wanted::Places(places.as_slice()), all.phases);
+            may_give(given, stale, taken, deadlock, answer)
         }
-        Checked::Select { key } => may_select(key, seen(work, key), deadlock, answer),
     }
 }
 
-fn may_run(
-    all: &[Phase],
+/// Whether a live transaction may be answered so, whose statement gives that.
+fn ran_given(
+    all: Sessions<'_>,
     s: usize,
-    crossed: bool,
-    statement: Checked,
-    phase: &Phase,
+    deadlock: bool,
+    work: &Work,
+    given: &Option<Outcome>,
     answer: &Answer,
 ) -> bool
-    requires { length all.now ≡ 65 }
-    ensures { result ≡ may_run all.now s crossed statement phase.now answer.now }
+    requires { AreAll all }
+    ensures { result ≡ ran_given (states_of all.entry) s deadlock work.now
+        (option_map given_in given.now) answer.now }
+{
+    match given {
+        Some(outcome) => may_work(all, s, deadlock, work, outcome, answer),
+        None => false,
+    }
+}
+
+/// Whether a session may be answered so, whose statement gives that.
+fn ran(
+    all: Sessions<'_>,
+    s: usize,
+    deadlock: bool,
+    phase: &Phase,
+    given: &Option<Outcome>,
+    answer: &Answer,
+) -> bool
+    requires { AreAll all }
+    ensures { result ≡ ran (states_of all.entry) s deadlock phase.now
+        (option_map given_in given.now) answer.now }
 {
     match phase {
-        Phase::Alive(work) => may_work(all, s, crossed, statement, work, answer),
+        Phase::Alive(work) => ran_given(all, s, deadlock, work, given, answer),
         Phase::Absent | Phase::Dead => false,
     }
+}
+
+/// Whether the statement of a session may be answered so.
+fn may_run(all: Sessions<'_>, s: usize, crossed: bool, table: Option<u8>, answer: &Answer) -> bool
+    requires all { AreAll all }
+    requires s { s < 65 }
+    ensures { result ≡ may_run (states_of all.entry) s crossed table answer.now }
+{
+    let deadlock = crossed && !has_lock(all.phase(s), table);
+    ran(all, s, deadlock, all.phase(s), all.given(s), answer)
 }
 
 fn may_snapshot(answer: &Answer) -> bool
@@ -207,87 +185,80 @@ fn is_done(answer: &Answer) -> bool
     }
 }
 
-fn is_serial(next: Option<i64>, answer: &Answer) -> bool
-    ensures { result ≡ is_serial next answer.now }
+/// Whether the next number is told, where there is one.
+fn tells(next: Option<i64>, answer: &Answer) -> bool
+    ensures { result ≡ tells next answer.now }
 {
-    let Some(n) = next else {
-        return false;
-    };
-    match answer {
-        Answer::Serial(m) => *m == n,
-        Answer::Began
-        | Answer::Rows(_)
-        | Answer::Count(_)
-        | Answer::Locked
-        | Answer::Done
-        | Answer::Refused(_) => false,
+    match next {
+        Some(next) => *answer == Answer::Serial(next),
+        None => false,
     }
 }
 
 fn may_answer(
-    numbers: &[Number],
-    all: &[Phase],
+    all: Sessions<'_>,
     s: usize,
     crossed: bool,
     request: &Request,
     answer: &Answer,
 ) -> bool
-    requires all { length all.now ≡ 65 }
-    requires below { s < 65 }
-    ensures { result ≡ may_answer numbers.now all.now s crossed request.now answer.now }
+    requires all { AreAll all }
+    requires s { s < 65 }
+    ensures { result ≡ may_answer (states_of all.entry) s crossed request.now answer.now }
 {
     match request {
         Request::TakeSnapshot => may_snapshot(answer),
-        Request::Run(statement) => may_run(all, s, crossed, *statement, &all[s], answer),
+        Request::Run(statement) => may_run(all, s, crossed, table_in(statement), answer),
         Request::Lock(table) => {
-            let taken = taken_from(0, s, Wanted::Table(*table), all);
-            may_lock(is_live(&all[s]), taken, crossed, answer)
+            let taken = taken_from(0, s, Wanted::Table(*table), all.phases);
+            may_lock(is_live(all.phase(s)), taken, crossed, answer)
         }
-        Request::Commit => is_live(&all[s]) && is_done(answer),
-        Request::Rollback => is_done(answer),
-        Request::ReadSerial(table) => is_serial(number_in(None, numbers, *table), answer),
-        Request::SetSerial(_, _) => is_done(answer),
+        Request::Commit => is_live(all.phase(s)) && is_done(answer),
+        Request::Rollback | Request::SetSerial(_, _) => is_done(answer),
+        Request::ReadSerial(table) => tells(all.numbers.at(*table), answer),
     }
 }
 
-fn may_pending(
-    numbers: &[Number],
-    all: &[Phase],
-    asked: &[Option<Request>],
+/// Whether a session may be answered so, whose request that waits is that.
+fn may_asked(
+    all: Sessions<'_>,
     s: usize,
     mark: bool,
-    request: &Option<Request>,
+    waits: &Option<Request>,
     answer: &Answer,
 ) -> bool
-    requires all { length all.now ≡ 65 }
-    requires asked { length asked.now ≡ 65 }
-    requires below { s < 65 }
-    ensures { result ≡ may_pending numbers.now all.now asked.now s mark request.now answer.now }
+    requires all { AreAll all }
+    requires s { s < 65 }
+    ensures { result ≡ may_asked (states_of all.entry) s mark waits.now answer.now }
 {
-    match request {
+    match waits {
         Some(request) => {
-            let crossed = mark || crosses(all, asked, s, request);
-            may_answer(numbers, all, s, crossed, request, answer)
+            let crossed = mark || crosses(all, s, request);
+            may_answer(all, s, crossed, request, answer)
         }
         None => false,
     }
 }
 
-fn acts(store: &Database, s: usize, answer: &Answer) -> bool
-    requires { s < 65 }
-    ensures { result ≡ may_act store.now s answer.now }
+fn may_pending(all: Sessions<'_>, s: usize, mark: bool, answer: &Answer) -> bool
+    requires all { AreAll all }
+    requires s { s < 65 }
+    ensures { result ≡ may_pending (states_of all.entry) s mark answer.now }
 {
-    let numbers = store.numbers.as_slice();
-    let all = store.phases.as_slice();
-    let asked = store.requests.as_slice();
-    let mark = store.crossed[s];
-    !store.is_lost && may_pending(numbers, all, asked, s, mark, &store.requests[s], answer)
+    may_asked(all, s, mark, all.asked(s), answer)
 }
 
 /// Whether the store may give a session that answer: it is not lost, a request waits, and the table
 /// of answers allows it.
-pub fn may_act(store: &Database, s: SessionId, answer: &Answer) -> bool
-    ensures { IsTrue result ↔ MayAct (store_of store.now) s.number answer.now }
+pub fn may_act(store: &Database, s: SessionId, answer: &Answer) -> Result<bool, NoMemory>
+    ensures { IfOk result (λ may. IsTrue may ↔ MayAct (store_of store.now) s.number answer.now) }
 {
-    acts(store, s.number as usize, answer)
+    if store.is_lost {
+        return Ok(false);
+    }
+    let given = all_given(store)?;
+    let all = Sessions::of(store, given.as_slice());
+    let at = s.number as usize;
+    let mark = store.crossed[at];
+    Ok(may_pending(all, at, mark, answer))
 }

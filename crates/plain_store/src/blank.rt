@@ -3,8 +3,9 @@ ghost use Rattle.std.specs.Prelude.{◌≡◌, None, IfOk, length};
 ghost use Rattle.plain_store.specs.Blanks.{AllAre};
 
 use crate::data::{Database, Phase};
-use backend_trait::Request;
-use pool_base::{List, NoMemory};
+use backend_trait::{Catalogue, Request};
+use outcomes::NextNumbers;
+use pool_base::NoMemory;
 use std::alloc::Global;
 
 fn absent(alloc: Global) -> Result<Vec<Phase>, NoMemory>
@@ -40,16 +41,21 @@ fn unmarked(alloc: Global) -> Result<Vec<bool>, NoMemory>
 }
 
 impl Database {
-    ghost use Rattle.backend_trait.specs.Store.{blank};
+    ghost use Rattle.schema_print.specs.Allowed.{AreAllowed};
+    ghost use Rattle.backend_trait.specs.Store.{prepared};
     ghost use Rattle.plain_store.specs.Meaning.{store_of};
 
-    /// A store before its first request.
-    pub fn new(alloc: Global) -> Result<Database, NoMemory>
-        ensures { IfOk result (λ store. store_of store ≡ blank) }
+    /// A store of these tables, which a schema can have, before its first request.
+    pub fn new(alloc: Global, catalogue: Catalogue) -> Result<Database, NoMemory>
+        requires { AreAllowed catalogue }
+        ensures { IfOk result (λ store. store_of store ≡ prepared catalogue) }
     {
+        let numbers = NextNumbers::new(&catalogue);
         Ok(Database {
-            log: List::new(alloc),
-            numbers: List::new(alloc),
+            alloc,
+            catalogue,
+            numbers,
+            log: Vec::new(alloc),
             phases: absent(alloc)?,
             requests: idle(alloc)?,
             crossed: unmarked(alloc)?,

@@ -1,46 +1,38 @@
 //! Which requests are crossed.
-ghost use Rattle.std.specs.Prelude.{◌≡◌, ◌<◌, ◌≤◌, ◌↔◌, IsTrue, length, slice_get};
+ghost use Rattle.std.specs.Prelude.{◌≡◌, ◌<◌, ◌≤◌, ◌↔◌, IfOk, IsTrue, option_map};
 ghost use Rattle.backend_trait.specs.Acts.{may_be_crossed};
-ghost use Rattle.plain_store.specs.Meaning.{request_at, store_of};
+ghost use Rattle.outcomes.specs.Given.{given_in};
+ghost use Rattle.plain_store.specs.Phases.{claim_of};
+ghost use Rattle.plain_store.specs.Meaning.{store_of};
 ghost use Rattle.plain_store.specs.Acting.{IsCrossedNow};
-ghost use Rattle.plain_store.specs.Deciding.{wants_work, wants_run, wants_by, locks_table, is_locked, clash_wanted, meets, crosses_by, crosses_at, some_below, crosses, crosses_waiting};
+ghost use Rattle.plain_store.specs.States.{AreAll, states_of};
+ghost use Rattle.plain_store.specs.Deciding.{wants_given, wants_by, locks_table, has_lock, is_locked, clash_wanted, meets, crossed_by, crosses_by, crosses_at, some_below, crosses, crosses_if, crosses_waiting};
 
-use crate::data::{Database, Phase, Wanted, Work};
+use crate::data::{Database, Phase, Wanted};
+use crate::given::all_given;
 use crate::holding::{clash, has_table, holds_phase};
-use crate::seeing::seen;
-use backend_trait::{Checked, Request};
-use pool_base::SessionId;
+use crate::sessions::Sessions;
+use backend_trait::Request;
+use outcomes::{Outcome, table_in};
+use pool_base::{NoMemory, SessionId};
 
-fn wants_work(statement: Checked, work: &Work) -> Option<Wanted>
-    ensures { result ≡ wants_work statement work.now }
+/// What a statement wants.
+fn wants_given(given: &Option<Outcome>) -> Option<Wanted<'_>>
+    ensures { option_map claim_of result ≡ wants_given (option_map given_in given.now) }
 {
-    match statement {
-        Checked::Insert { key, value: _value } => {
-            if seen(work, key).is_some() {
-                None
-            } else {
-                Some(Wanted::Key(key))
-            }
-        }
-        Checked::Select { key: _key } => None,
-    }
-}
-
-fn wants_run(statement: Checked, phase: &Phase) -> Option<Wanted>
-    ensures { result ≡ wants_run statement phase.now }
-{
-    match phase {
-        Phase::Alive(work) => wants_work(statement, work),
-        Phase::Absent | Phase::Dead => None,
+    match given {
+        Some(Outcome::Gives { places, .. }) => Some(Wanted::Places(places.as_slice())),
+        Some(Outcome::Fails(_)) | None => None,
     }
 }
 
 /// What a request asks for.
-fn wants_by(phase: &Phase, request: &Request) -> Option<Wanted>
-    ensures { result ≡ wants_by phase.now request.now }
+fn wants_by<'a>(given: &'a Option<Outcome>, request: &Request) -> Option<Wanted<'a>>
+    ensures { option_map claim_of result
+        ≡ wants_by (option_map given_in given.now) request.now }
 {
     match request {
-        Request::Run(statement) => wants_run(*statement, phase),
+        Request::Run(_) => wants_given(given),
         Request::Lock(table) => Some(Wanted::Table(*table)),
         Request::TakeSnapshot
         | Request::Commit
@@ -50,7 +42,8 @@ fn wants_by(phase: &Phase, request: &Request) -> Option<Wanted>
     }
 }
 
-fn locks_table(phase: &Phase, table: u8) -> bool
+/// Whether a session has the lock of a table.
+pub(crate) fn locks_table(phase: &Phase, table: u8) -> bool
     ensures { result ≡ locks_table phase.now table }
 {
     match phase {
@@ -59,12 +52,22 @@ fn locks_table(phase: &Phase, table: u8) -> bool
     }
 }
 
+/// Whether a session has the lock of a statement's table.
+pub(crate) fn has_lock(phase: &Phase, table: Option<u8>) -> bool
+    ensures { result ≡ has_lock phase.now table }
+{
+    match table {
+        None => false,
+        Some(table) => locks_table(phase, table),
+    }
+}
+
 /// Whether a session has the lock of the table that its request is for.
 fn is_locked(phase: &Phase, request: &Request) -> bool
     ensures { result ≡ is_locked phase.now request.now }
 {
     match request {
-        Request::Run(_) => locks_table(phase, 0),
+        Request::Run(statement) => has_lock(phase, table_in(statement)),
         Request::Lock(table) => locks_table(phase, *table),
         Request::TakeSnapshot
         | Request::Commit
@@ -74,8 +77,8 @@ fn is_locked(phase: &Phase, request: &Request) -> bool
     }
 }
 
-fn clash_wanted(wanted: Wanted, other: Option<Wanted>) -> bool
-    ensures { result ≡ clash_wanted wanted other }
+fn clash_wanted(wanted: Wanted<'_>, other: Option<Wanted<'_>>) -> bool
+    ensures { result ≡ clash_wanted (claim_of wanted.entry) (option_map claim_of other.entry) }
 {
     match other {
         Some(other) => clash(wanted, other),
@@ -83,62 +86,70 @@ fn clash_wanted(wanted: Wanted, other: Option<Wanted>) -> bool
     }
 }
 
-/// Whether what is wanted conflicts with what a session wants or holds.
-fn meets(wanted: Option<Wanted>, phase: &Phase, request: &Request) -> bool
-    ensures { result ≡ meets wanted phase.now request.now }
+/// Whether what one wants conflicts with what another wants or holds.
+fn meets(wanted: Option<Wanted<'_>>, wants: Option<Wanted<'_>>, phase: &Phase) -> bool
+    ensures { result ≡ meets (option_map claim_of wanted.entry) (option_map claim_of wants.entry)
+        phase.now }
 {
     match wanted {
-        Some(wanted) => {
-            clash_wanted(wanted, wants_by(phase, request)) || holds_phase(wanted, phase)
+        Some(wanted) => clash_wanted(wanted, wants) || holds_phase(wanted, phase),
+        None => false,
+    }
+}
+
+/// Whether session `o`, whose request that waits is that, crosses a request of session `s`.
+fn crossed_by(
+    all: Sessions<'_>,
+    s: usize,
+    request: &Request,
+    o: usize,
+    waits: &Option<Request>,
+) -> bool
+    requires all { AreAll all }
+    requires s { s < 65 }
+    requires o { o < 65 }
+    ensures { result ≡ crossed_by (states_of all.entry) s request.now o waits.now }
+{
+    match waits {
+        Some(its) => {
+            let wanted = wants_by(all.given(o), its);
+            let wants = wants_by(all.given(s), request);
+            !is_locked(all.phase(o), its) && meets(wanted, wants, all.phase(s))
         }
         None => false,
     }
 }
 
-fn crosses_by(phase: &Phase, request: &Request, other: &Phase, asks: &Option<Request>) -> bool
-    ensures { result ≡ crosses_by phase.now request.now other.now asks.now }
+/// Whether session `o` crosses a request of session `s` by its own.
+fn crosses_by(all: Sessions<'_>, s: usize, request: &Request, o: usize) -> bool
+    requires all { AreAll all }
+    requires s { s < 65 }
+    requires o { o < 65 }
+    ensures { result ≡ crosses_by (states_of all.entry) s request.now o }
 {
-    match asks {
-        Some(its) => !is_locked(other, its) && meets(wants_by(other, its), phase, request),
-        None => false,
-    }
+    crossed_by(all, s, request, o, all.asked(o))
 }
 
 /// Whether session `o` crosses a request of session `s`.
-fn crosses_at(
-    phases: &[Phase],
-    requests: &[Option<Request>],
-    s: usize,
-    request: &Request,
-    o: usize,
-) -> bool
-    requires phases { length phases.now ≡ 65 }
-    requires requests { length requests.now ≡ 65 }
+fn crosses_at(all: Sessions<'_>, s: usize, request: &Request, o: usize) -> bool
+    requires all { AreAll all }
     requires s { s < 65 }
     requires o { o < 65 }
-    ensures { result ≡ crosses_at phases.now requests.now s request.now o }
+    ensures { result ≡ crosses_at (states_of all.entry) s request.now o }
 {
-    !(o == s) && crosses_by(&phases[s], request, &phases[o], &requests[o])
+    !(o == s) && crosses_by(all, s, request, o)
 }
 
-fn some_below(
-    phases: &[Phase],
-    requests: &[Option<Request>],
-    s: usize,
-    request: &Request,
-    n: usize,
-) -> bool
-    requires phases { length phases.now ≡ 65 }
-    requires requests { length requests.now ≡ 65 }
+fn some_below(all: Sessions<'_>, s: usize, request: &Request, n: usize) -> bool
+    requires all { AreAll all }
     requires s { s < 65 }
     requires n { n ≤ 65 }
-    ensures { result ≡ some_below (crosses_at phases.now requests.now s request.now) n }
+    ensures { result ≡ some_below (crosses_at (states_of all.entry) s request.now) n }
 {
     if n == 0 {
         return false;
     }
-    crosses_at(phases, requests, s, request, n - 1)
-        || some_below(phases, requests, s, request, n - 1)
+    crosses_at(all, s, request, n - 1) || some_below(all, s, request, n - 1)
 }
 
 /// A run or a lock alone can be crossed.
@@ -157,49 +168,38 @@ fn may_be_crossed(request: &Request) -> bool
 
 /// Whether another session crosses a request of session `s`.
 #[tactic(auto, unfolding(crate::specs::Deciding::crosses))]
-pub(crate) fn crosses(
-    phases: &[Phase],
-    requests: &[Option<Request>],
-    s: usize,
-    request: &Request,
-) -> bool
-    requires phases { length phases.now ≡ 65 }
-    requires requests { length requests.now ≡ 65 }
+pub(crate) fn crosses(all: Sessions<'_>, s: usize, request: &Request) -> bool
+    requires all { AreAll all }
     requires s { s < 65 }
-    ensures { result ≡ crosses phases.now requests.now s request.now }
+    ensures { result ≡ crosses (states_of all.entry) s request.now }
 {
-    may_be_crossed(request) && some_below(phases, requests, s, request, 65)
+    may_be_crossed(request) && some_below(all, s, request, 65)
 }
 
-pub(crate) fn crosses_waiting(
-    phases: &[Phase],
-    requests: &[Option<Request>],
-    s: usize,
-    waits: &Option<Request>,
-) -> bool
-    requires phases { length phases.now ≡ 65 }
-    requires requests { length requests.now ≡ 65 }
+fn crosses_if(all: Sessions<'_>, s: usize, waits: &Option<Request>) -> bool
+    requires all { AreAll all }
     requires s { s < 65 }
-    ensures { result ≡ crosses_waiting phases.now requests.now s waits.now }
+    ensures { result ≡ crosses_if (states_of all.entry) s waits.now }
 {
     match waits {
-        Some(request) => crosses(phases, requests, s, request),
+        Some(request) => crosses(all, s, request),
         None => false,
     }
 }
 
-fn is_crossed_at(store: &Database, s: usize) -> bool
-    requires { s < 65 }
-    ensures { result ≡ crosses_waiting store.now.phases.items store.now.requests.items s
-        (request_at (slice_get store.now.requests.items s)) }
+pub(crate) fn crosses_waiting(all: Sessions<'_>, s: usize) -> bool
+    requires all { AreAll all }
+    requires s { s < 65 }
+    ensures { result ≡ crosses_waiting (states_of all.entry) s }
 {
-    let requests = store.requests.as_slice();
-    crosses_waiting(store.phases.as_slice(), requests, s, &store.requests[s])
+    crosses_if(all, s, all.asked(s))
 }
 
 /// Whether another session crosses the request of a session, now.
-pub fn is_crossed(store: &Database, s: SessionId) -> bool
-    ensures { IsTrue result ↔ IsCrossedNow (store_of store.now) s.number }
+pub fn is_crossed(store: &Database, s: SessionId) -> Result<bool, NoMemory>
+    ensures { IfOk result (λ is. IsTrue is ↔ IsCrossedNow (store_of store.now) s.number) }
 {
-    is_crossed_at(store, s.number as usize)
+    let given = all_given(store)?;
+    let all = Sessions::of(store, given.as_slice());
+    Ok(crosses_waiting(all, s.number as usize))
 }

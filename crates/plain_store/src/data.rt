@@ -1,39 +1,32 @@
 //! What the program keeps of a store.
 ghost use Rattle.std.specs.Prelude.{◌≡◌, length};
+ghost use Rattle.plain_store.specs.Kept.{AreKept, AreKept-prop, AreRowsIn, AreRowsIn-prop, AreSeenIn, AreSeenIn-prop, KeepsRows, KeepsRows-prop};
 
-use backend_trait::Request;
+use backend_trait::{Catalogue, Request};
+use outcomes::{ChangeSet, NextNumbers, Spot};
 use pool_base::List;
+use std::alloc::Global;
 
-/// What a request wants: the row of a key in table 0, or the lock of a table.
-#[derive(Clone, Copy, PartialEq, Eq)]
-pub enum Wanted {
-    Key(i32),
+/// What a request wants: some places, or the lock of a table.
+#[derive(Clone, Copy)]
+pub enum Wanted<'a> {
+    Places(&'a [Spot]),
     Table(u8),
 }
 
-/// A new row in table 0: its key and its value.
-#[derive(Clone, Copy, PartialEq, Eq)]
-pub struct Change {
-    pub key: i32,
-    pub value: i64,
-}
-
-/// The changes of one transaction, oldest first.
-#[derive(Drop)]
-pub struct ChangeSet {
-    pub changes: List<Change>,
-}
-
-/// A transaction that is live. It holds the keys that it has changed, and its locks.
+/// A transaction that is live.
 #[derive(Drop)]
 pub struct Work {
     /// The sets that were committed at its snapshot, oldest first.
-    pub base: List<ChangeSet>,
-    pub changes: List<Change>,
+    pub base: Vec<ChangeSet>,
+    /// Its own changes.
+    pub own: ChangeSet,
+    /// The places that its statements wanted: it holds them.
+    pub held: Vec<Spot>,
     /// The tables that it has locked.
     pub tables: List<u8>,
     /// The sets that were committed since its snapshot.
-    pub stale: List<ChangeSet>,
+    pub stale: Vec<ChangeSet>,
 }
 
 /// A session's transaction.
@@ -44,19 +37,15 @@ pub enum Phase {
     Dead,
 }
 
-/// The next number of a table's serial column.
-#[derive(Clone, Copy, PartialEq, Eq)]
-pub struct Number {
-    pub table: u8,
-    pub next: i64,
-}
-
-/// A store: the sets that were committed, the serial numbers as they were set, and for each session
-/// by its number the transaction, the request that waits, and whether that one is crossed.
+/// A store: its tables, the next numbers of their serial columns, the sets that were committed, and
+/// for each session by its number the transaction, the request that waits, and whether that one is
+/// crossed.
 #[derive(Drop)]
 pub struct Database {
-    pub log: List<ChangeSet>,
-    pub numbers: List<Number>,
+    pub(crate) alloc: Global,
+    pub catalogue: Catalogue,
+    pub numbers: NextNumbers,
+    pub log: Vec<ChangeSet>,
     pub phases: Vec<Phase>,
     pub requests: Vec<Option<Request>>,
     pub crossed: Vec<bool>,
@@ -64,4 +53,10 @@ pub struct Database {
     ghost phased: { length phases.items ≡ 65 },
     ghost requested: { length requests.items ≡ 65 },
     ghost marked: { length crossed.items ≡ 65 },
+    // A statement that waits can be run, and a number that is to be set is 1 at least.
+    ghost kept: { AreKept catalogue requests.items } by { AreKept-prop catalogue requests.items },
+    // What was committed, and what a transaction sees, stands in its tables: statements keep it so.
+    ghost committed: { AreRowsIn catalogue log.items } by { AreRowsIn-prop catalogue log.items },
+    ghost stored: { AreSeenIn catalogue phases.items } by { AreSeenIn-prop catalogue phases.items },
+    ghost keeping: { KeepsRows catalogue } by { KeepsRows-prop catalogue },
 }

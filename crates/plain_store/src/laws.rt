@@ -2,7 +2,7 @@
 ghost use Rattle.std.specs.Prelude.{◌≡◌, ℕ, false, None, codes};
 ghost use Rattle.std.specs.FinMap.{get};
 ghost use Rattle.pool_base.specs.declared.code.Code.{Code};
-ghost use Rattle.backend_trait.specs.declared.checked.Checked.{Checked};
+ghost use Rattle.catalogue.specs.declared.checked.Checked.{Checked};
 ghost use Rattle.backend_trait.specs.declared.answer.Answer.{Answer};
 ghost use Rattle.backend_trait.specs.declared.request.Request.TheVariants as requests;
 ghost use Rattle.backend_trait.specs.declared.answer.Answer.TheVariants as answers;

@@ -1,7 +1,15 @@
 pub mod ScriptLemmas
-pub mod Sessions
 pub mod SendingLemmas
-pub mod Effects
+pub mod RowLemmas
+pub mod Short
+pub mod Refusing
+pub mod Sure
+pub mod Named
+pub mod Ready
+pub mod Said
 pub mod Asking
 pub mod Replying
+pub mod Telling
+pub mod Sessions
 pub mod Playing
+pub mod Steps

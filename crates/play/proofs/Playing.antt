@@ -1,123 +1,154 @@
 -- A script, played line by line.
-use Rattle.std.proofs.Common.{◌≡◌, ℕ, Bool, true, false, List, [], ◌∷◌, ◌++◌, refl, sym, ap, ◌∙◌, subst}
+use Rattle.std.proofs.Common.{◌≡◌, ℕ, suc, zero, List, [], ◌∷◌, ◌++◌, map, take, drop, length, get_or, refl, sym, ap, ◌∙◌, subst, ◌+◌, ◌<◌}
 use Rattle.std.specs.Prelude.{Option}
 use Rattle.std.specs.List.{AllByRecursion}
-use Rattle.std.proofs.lemmas.List.{append_assoc}
+use Rattle.std.proofs.lemmas.List.{append_assoc, append-nil, take_more, map-append}
 use Rattle.pool_base.specs.Outside.{Appends, AppendsFront}
-use Rattle.pool_base.proofs.Sinking.{appends_nothing, appends_on, front_on, front_of_more}
+use Rattle.pool_base.proofs.Sinking.{appends_nothing, appends_on, front_on}
+use Rattle.schema.specs.declared.catalogue.TableDef.{TableDef}
 use Rattle.backend_trait.specs.Rows.{Rows}
 use Rattle.pgproto.specs.Line.{Line}
-use Rattle.pgproto.specs.Spelling.{IsOfGrammar}
-use Rattle.play.specs.Script.{Deed, Does, AreDone, IsPlayed, ArePlayed}
-use Rattle.play.specs.Transcript.{connected, rows_then, echo, shown, closing, transcript_from, final_from, transcript_of, final_rows}
+use Rattle.pgproto.specs.Spelling.{IsOfGrammar, echoed}
+use Rattle.play.specs.Script.{Deed, Does, AreDone, IsPlayed, set, connect, ask, leave, Part, IsNext, moment_set, connected, asked, left, IsSessionFrom, Scene, first_scene, scene_after}
+use Rattle.play.specs.Transcript.{ended, closing, IsShown, IsPart, AreParts, ArePlayed, ArePlayedInPart, none_beyond, echo_beyond, closing_beyond}
+use Rattle.play.specs.Showing.{IsShownOf, IsShownInPart, none_shown, part_shown}
 
--- after some lines: what is written, what is left to do, and what that adds to the transcript
-pub record Going (online : Bool) (first now : Rows) (deeds : List Deed) (left : List Line) (a b : Option (List ℕ)) : Type 0 where
-  pub ahead : List Deed
-  pub done : AreDone left ahead
-  pub gone : List ℕ
-  pub wrote : Appends a b gone
-  pub rest : gone ++ transcript_from online now ahead ≡ transcript_from false first deeds
-  pub rows : final_from online now ahead ≡ final_from false first deeds
+-- ---- one deed more
 
--- the same of whatever the lines have the session do
-abbrev pub Plays : Bool → Rows → Rows → List Line → List Line → Option (List ℕ) → Option (List ℕ) → Type 0
-Plays online first now lines left a b = (deeds : List Deed) → AreDone lines deeds → Going online first now deeds left a b
+done_more : (tables : List TableDef) (scene last : Scene) (lines : List Line) (deeds : List Deed) (bytes : List ℕ) (line : Line) (deed : Deed)
+    → AreDone tables scene lines deeds → AreParts tables scene deeds bytes last → Does tables last line deed → AreDone tables scene (lines ++ line ∷ []) (deeds ++ deed ∷ [])
+done_more tables scene last [] [] bytes line deed done parts does = (subst (λ (s : Scene). Does tables s line deed) parts.1 does, tt)
+done_more tables scene last [] (d ∷ deeds) bytes line deed done parts does = absurd done
+done_more tables scene last (l ∷ lines) [] bytes line deed done parts does = absurd done
+done_more tables scene last (l ∷ lines) (d ∷ deeds) bytes line deed done (first, rest, one, others, is) does =
+    (done.0, done_more tables (scene_after tables scene d) last lines deeds rest line deed done.1 others does)
 
-pub plays_none : (first : Rows) (lines : List Line) (a : Option (List ℕ)) → Plays false first first lines lines a a
-plays_none first lines a = λ deeds done. record { ahead = deeds; done = done; gone = []; wrote = appends_nothing a; rest = refl; rows = refl }
+parts_more : (tables : List TableDef) (scene last : Scene) (deeds : List Deed) (bytes more : List ℕ) (deed : Deed)
+    → AreParts tables scene deeds bytes last → IsPart tables last deed more → AreParts tables scene (deeds ++ deed ∷ []) (bytes ++ more) (scene_after tables last deed)
+parts_more tables scene last [] bytes more deed parts part =
+    (more, [], subst (λ (s : Scene). IsPart tables s deed more) parts.1 part, (refl, ap (λ (s : Scene). scene_after tables s deed) parts.1), ap (λ (z : List ℕ). z ++ more) parts.0 ∙ sym (append-nil more))
+parts_more tables scene last (d ∷ deeds) bytes more deed (first, rest, one, others, is) part =
+    (first, rest ++ more, one, parts_more tables (scene_after tables scene d) last deeds rest more deed others part, ap (λ (z : List ℕ). z ++ more) is ∙ append_assoc first rest more)
 
-abbrev pub part : Bool → Rows → Deed → List ℕ
-part online now deed = echo deed ++ shown online now deed
+-- ---- the lines so far
+pub record Going (tables : List TableDef) (lines : List Line) (rows : Rows) (a b : Option (List ℕ)) (scene : Scene) : Type 0 where
+  pub deeds : List Deed
+  pub done : AreDone tables (first_scene rows) lines deeds
+  pub bytes : List ℕ
+  pub parts : AreParts tables (first_scene rows) deeds bytes scene
+  pub wrote : Appends a b bytes
 
--- ---- one line more
-goes_on : (online : Bool) {after : Bool} (first now next : Rows) (deeds : List Deed) (line : Line) (others : List Line) (ahead : List Deed) (gone : List ℕ) (a b c : Option (List ℕ))
-    → ((deed : Deed) → Does line deed → after ≡ connected online deed)
-    → ((deed : Deed) → Does line deed → Appends b c (part online now deed))
-    → ((deed : Deed) → Does line deed → next ≡ rows_then online now deed)
-    → AreDone (line ∷ others) ahead → Appends a b gone → gone ++ transcript_from online now ahead ≡ transcript_from false first deeds → final_from online now ahead ≡ final_from false first deeds
-    → Going after first next deeds others a c
-goes_on online {after} first now next deeds line others [] gone a b c is_after writes is_next done wrote rest rows = absurd done
-goes_on online {after} first now next deeds line others (deed ∷ ahead) gone a b c is_after writes is_next done wrote rest rows =
-    let on : after ≡ connected online deed = is_after deed done.0 in
-    let then : next ≡ rows_then online now deed = is_next deed done.0 in
-    record {
-      ahead = ahead;
-      done = done.1;
-      gone = gone ++ part online now deed;
-      wrote = appends_on a b c gone (part online now deed) wrote (writes deed done.0);
-      rest = ap (λ o. (gone ++ part online now deed) ++ transcript_from o next ahead) on ∙ ap (λ r. (gone ++ part online now deed) ++ transcript_from (connected online deed) r ahead) then
-          ∙ append_assoc gone (part online now deed) (transcript_from (connected online deed) (rows_then online now deed) ahead) ∙ rest;
-      rows = ap (λ o. final_from o next ahead) on ∙ ap (λ r. final_from (connected online deed) r ahead) then ∙ rows;
-    }
+pub going_none : (tables : List TableDef) (rows : Rows) (a : Option (List ℕ)) → Going tables [] rows a a (first_scene rows)
+going_none tables rows a = record { deeds = []; done = tt; bytes = []; parts = (refl, refl); wrote = appends_nothing a }
 
-pub plays_on : (online : Bool) {after : Bool} (first now next : Rows) (lines left : List Line) (line : Line) (others : List Line) (a b c : Option (List ℕ)) → left ≡ line ∷ others
-    → ((deed : Deed) → Does line deed → after ≡ connected online deed)
-    → ((deed : Deed) → Does line deed → Appends b c (part online now deed))
-    → ((deed : Deed) → Does line deed → next ≡ rows_then online now deed)
-    → Plays online first now lines left a b → Plays after first next lines others a c
-plays_on online first now next lines left line others a b c is is_after writes is_next plays = λ deeds done.
-    let g : Going online first now deeds left a b = plays deeds done in
-    goes_on online first now next deeds line others g.ahead g.gone a b c is_after writes is_next (subst (λ ls. AreDone ls g.ahead) is g.done) g.wrote g.rest g.rows
+part_of : (tables : List TableDef) (scene : Scene) (line : Line) (deed : Deed) (shown : List ℕ) → Does tables scene line deed → IsShown tables scene deed shown → IsPart tables scene deed (ended (echoed line) ++ shown)
+part_of tables scene line deed shown does is_shown = record { shown = shown; is_shown = is_shown; are = ap (λ (l : Line). ended (echoed l) ++ shown) does.0 }
 
--- ---- a fault in a line
-breaks : (online : Bool) (first now : Rows) (deeds : List Deed) (line : Line) (others : List Line) (ahead : List Deed) (gone : List ℕ) (a b c : Option (List ℕ))
-    → ((deed : Deed) → Does line deed → AppendsFront b c (part online now deed)) → AreDone (line ∷ others) ahead → Appends a b gone → gone ++ transcript_from online now ahead ≡ transcript_from false first deeds
-    → AppendsFront a c (transcript_of first deeds)
-unfolding transcript_of
-breaks online first now deeds line others [] gone a b c writes done wrote rest = absurd done
-breaks online first now deeds line others (deed ∷ ahead) gone a b c writes done wrote rest =
-    let later : List ℕ = transcript_from (connected online deed) (rows_then online now deed) ahead in
-    subst (AppendsFront a c) rest (front_on a b c gone (part online now deed ++ later) wrote (front_of_more b c (part online now deed) later (writes deed done.0)))
-
-pub breaks_off : (online : Bool) (first now : Rows) (lines left : List Line) (line : Line) (others : List Line) (a b c : Option (List ℕ)) → left ≡ line ∷ others
-    → ((deed : Deed) → Does line deed → AppendsFront b c (part online now deed)) → Plays online first now lines left a b → (deeds : List Deed) → AreDone lines deeds → AppendsFront a c (transcript_of first deeds)
-breaks_off online first now lines left line others a b c is writes plays deeds done =
-    let g : Going online first now deeds left a b = plays deeds done in
-    breaks online first now deeds line others g.ahead g.gone a b c writes (subst (λ ls. AreDone ls g.ahead) is g.done) g.wrote g.rest
+pub going_on : (tables : List TableDef) (lines : List Line) (line : Line) (rows : Rows) (a b c d : Option (List ℕ)) (scene after : Scene)
+    → Going tables lines rows a b scene → Appends b c (ended (echoed line)) → IsShownOf tables scene line c d after → Going tables (lines ++ line ∷ []) rows a d after
+going_on tables lines line rows a b c d scene after g echoes s =
+    let part = part_of tables scene line s.deed s.shown s.does s.is_shown in
+    let more : List ℕ = ended (echoed line) ++ s.shown in
+    subst (Going tables (lines ++ line ∷ []) rows a d) (sym s.leads) (record {
+      deeds = g.deeds ++ s.deed ∷ [];
+      done = done_more tables (first_scene rows) scene lines g.deeds g.bytes line s.deed g.done g.parts s.does;
+      bytes = g.bytes ++ more;
+      parts = parts_more tables (first_scene rows) scene g.deeds g.bytes more s.deed g.parts part;
+      wrote = appends_on a b d g.bytes more g.wrote (appends_on b c d (ended (echoed line)) s.shown echoes s.wrote);
+    })
 
 -- ---- the end
-at_end : (online : Bool) (first now : Rows) (deeds ahead : List Deed) (gone : List ℕ) (a b c : Option (List ℕ)) → AreDone [] ahead → Appends b c (closing online) → Appends a b gone
-    → gone ++ transcript_from online now ahead ≡ transcript_from false first deeds → Appends a c (transcript_of first deeds)
-unfolding transcript_of
-at_end online first now deeds [] gone a b c done writes wrote rest = subst (Appends a c) rest (appends_on a b c gone (closing online) wrote writes)
-at_end online first now deeds (deed ∷ ahead) gone a b c done writes wrote rest = absurd done
+pub all_played : (tables : List TableDef) (lines : List Line) (rows : Rows) (a b c : Option (List ℕ)) (scene : Scene) → Going tables lines rows a b scene → Appends b c (closing scene.online) → ArePlayed tables lines rows a c scene.rows
+all_played tables lines rows a b c scene g closes = record {
+  deeds = g.deeds;
+  done = g.done;
+  bytes = g.bytes;
+  last = scene;
+  parts = g.parts;
+  wrote = appends_on a b c g.bytes (closing scene.online) g.wrote closes;
+  rows_left = refl;
+}
 
-pub all_played : (online : Bool) (first now : Rows) (lines left : List Line) (a b c : Option (List ℕ)) → left ≡ [] → Appends b c (closing online) → Plays online first now lines left a b
-    → (deeds : List Deed) → AreDone lines deeds → Appends a c (transcript_of first deeds)
-all_played online first now lines left a b c is writes plays deeds done =
-    let g : Going online first now deeds left a b = plays deeds done in
-    at_end online first now deeds g.ahead g.gone a b c (subst (λ ls. AreDone ls g.ahead) is g.done) writes g.wrote g.rest
+-- ---- faults
+pub fails_at_echo : (tables : List TableDef) (lines before : List Line) (line : Line) (others : List Line) (rows : Rows) (a b c : Option (List ℕ)) (scene : Scene) → lines ≡ before ++ line ∷ others
+    → Going tables before rows a b scene → AppendsFront b c (ended (echoed line)) → ArePlayedInPart tables lines rows a c
+fails_at_echo tables lines before line others rows a b c scene is g echoes = record {
+  front = before;
+  rest = line ∷ others;
+  all = is;
+  deeds = g.deeds;
+  done = g.done;
+  bytes = g.bytes;
+  last = scene;
+  parts = g.parts;
+  beyond = ended (echoed line);
+  is_beyond = echo_beyond line others refl refl;
+  wrote = front_on a b c g.bytes (ended (echoed line)) g.wrote echoes;
+}
 
-front_at_end : (online : Bool) (first now : Rows) (deeds ahead : List Deed) (gone : List ℕ) (a b c : Option (List ℕ)) → AreDone [] ahead → AppendsFront b c (closing online) → Appends a b gone
-    → gone ++ transcript_from online now ahead ≡ transcript_from false first deeds → AppendsFront a c (transcript_of first deeds)
-unfolding transcript_of
-front_at_end online first now deeds [] gone a b c done writes wrote rest = subst (AppendsFront a c) rest (front_on a b c gone (closing online) wrote writes)
-front_at_end online first now deeds (deed ∷ ahead) gone a b c done writes wrote rest = absurd done
+all_front : (a b : Option (List ℕ)) (bytes : List ℕ) → Appends a b bytes → AppendsFront a b bytes
+all_front a b bytes wrote = record { front = bytes; rest = []; parts = sym (append-nil bytes); has = wrote }
 
-pub front_played : (online : Bool) (first now : Rows) (lines left : List Line) (a b c : Option (List ℕ)) → left ≡ [] → AppendsFront b c (closing online) → Plays online first now lines left a b
-    → (deeds : List Deed) → AreDone lines deeds → AppendsFront a c (transcript_of first deeds)
-front_played online first now lines left a b c is writes plays deeds done =
-    let g : Going online first now deeds left a b = plays deeds done in
-    front_at_end online first now deeds g.ahead g.gone a b c (subst (λ ls. AreDone ls g.ahead) is g.done) writes g.wrote g.rest
+pub fails_behind_echo : (tables : List TableDef) (lines before : List Line) (line : Line) (others : List Line) (rows : Rows) (a b c d : Option (List ℕ)) (scene : Scene) → lines ≡ before ++ line ∷ others
+    → Going tables before rows a b scene → Appends b c (ended (echoed line)) → IsShownInPart tables scene line c d → ArePlayedInPart tables lines rows a d
+fails_behind_echo tables lines before line others rows a b c d scene is g echoes (none_shown same) =
+    fails_at_echo tables lines before line others rows a b d scene is g (subst (λ (o : Option (List ℕ)). AppendsFront b o (ended (echoed line))) (sym same) (all_front b c (ended (echoed line)) echoes))
+fails_behind_echo tables lines before line others rows a b c d scene is g echoes (part_shown deed shown does is_shown wrote) =
+    let more : List ℕ = ended (echoed line) ++ shown in record {
+      front = before ++ line ∷ [];
+      rest = others;
+      all = is ∙ sym (append_assoc before (line ∷ []) others);
+      deeds = g.deeds ++ deed ∷ [];
+      done = done_more tables (first_scene rows) scene before g.deeds g.bytes line deed g.done g.parts does;
+      bytes = g.bytes ++ more;
+      last = scene_after tables scene deed;
+      parts = parts_more tables (first_scene rows) scene g.deeds g.bytes more deed g.parts (part_of tables scene line deed shown does is_shown);
+      beyond = [];
+      is_beyond = none_beyond refl;
+      wrote = subst (AppendsFront a d) (sym (append-nil (g.bytes ++ more))) (front_on a b d g.bytes more g.wrote (front_on b c d (ended (echoed line)) shown echoes wrote));
+    }
 
-rows_at_end : (online : Bool) (first now : Rows) (deeds ahead : List Deed) → AreDone [] ahead → final_from online now ahead ≡ final_from false first deeds → now ≡ final_rows first deeds
-unfolding final_rows
-rows_at_end online first now deeds [] done rows = rows
-rows_at_end online first now deeds (deed ∷ ahead) done rows = absurd done
+pub fails_at_end : (tables : List TableDef) (lines : List Line) (rows : Rows) (a b c : Option (List ℕ)) (scene : Scene) → Going tables lines rows a b scene → AppendsFront b c (closing scene.online) → ArePlayedInPart tables lines rows a c
+fails_at_end tables lines rows a b c scene g closes = record {
+  front = lines;
+  rest = [];
+  all = sym (append-nil lines);
+  deeds = g.deeds;
+  done = g.done;
+  bytes = g.bytes;
+  last = scene;
+  parts = g.parts;
+  beyond = closing scene.online;
+  is_beyond = closing_beyond refl refl;
+  wrote = front_on a b c g.bytes (closing scene.online) g.wrote closes;
+}
 
-pub rows_played : (online : Bool) (first now : Rows) (lines left : List Line) (a b : Option (List ℕ)) → left ≡ [] → Plays online first now lines left a b → (deeds : List Deed) → AreDone lines deeds → now ≡ final_rows first deeds
-rows_played online first now lines left a b is plays deeds done =
-    let g : Going online first now deeds left a b = plays deeds done in
-    rows_at_end online first now deeds g.ahead (subst (λ ls. AreDone ls g.ahead) is g.done) g.rows
+-- ---- the lines that are left
+pub split : {A : Type 0} (f : A → Line) (xs : List A) (i : ℕ) → map f xs ≡ map f (take i xs) ++ map f (drop i xs)
+split f xs zero = refl
+split f [] (suc i) = refl
+split f (x ∷ xs) (suc i) = ap (λ (z : List Line). f x ∷ z) (split f xs i)
 
--- ---- the lines that are left can be played too
-first_done : (line : Line) (others : List Line) (deeds : List Deed) → AreDone (line ∷ others) deeds → IsPlayed line × ArePlayed others
-first_done line others [] done = absurd done
-first_done line others (deed ∷ deeds) done = (record { deed = deed; does = done.0 }, record { deeds = deeds; done = done.1 })
+pub taken : {A : Type 0} (f : A → Line) (xs : List A) (i : ℕ) (x : A) → i < length xs → x ≡ get_or xs i x → map f (take (i + 1) xs) ≡ map f (take i xs) ++ f x ∷ []
+taken f xs i x below is =
+    ap (map f) (take_more xs i x below ∙ ap (λ y. take i xs ++ y ∷ []) (sym is)) ∙ map-append f (take i xs) (x ∷ [])
 
-pub here_played : (left : List Line) (line : Line) (others : List Line) → left ≡ line ∷ others → ArePlayed left → IsPlayed line × ArePlayed others
-here_played left line others is played = first_done line others played.deeds (subst (λ ls. AreDone ls played.deeds) is played.done)
+-- from some part on they are those of a session
+pub record IsTail (lines : List Line) : Type 0 where
+  pub part : Part
+  pub from : IsSessionFrom part lines
 
-pub here_of_grammar : (left : List Line) (line : Line) (others : List Line) → left ≡ line ∷ others → AllByRecursion IsOfGrammar left → IsOfGrammar line × AllByRecursion IsOfGrammar others
-here_of_grammar left line others is all = subst (AllByRecursion IsOfGrammar) is all
+next_played : (part next : Part) (line : Line) → IsNext part line next → IsPlayed line
+next_played part next line (moment_set text micros e m n) = set text micros e m
+next_played part next line (connected e p n) = connect e
+next_played part next line (asked text e p n) = ask text e
+next_played part next line (left e p n) = leave e
+
+first_played : (line : Line) (others : List Line) (part : Part) → IsSessionFrom part (line ∷ others) → IsPlayed line × IsTail others
+first_played line others part from = (next_played part from.0 line from.1, record { part = from.0; from = from.2 })
+
+pub here_played : (rest : List Line) (line : Line) (others : List Line) → rest ≡ line ∷ others → IsTail rest → IsPlayed line × IsTail others
+here_played rest line others is tail = first_played line others tail.part (subst (IsSessionFrom tail.part) is tail.from)
+
+pub here_of_grammar : (rest : List Line) (line : Line) (others : List Line) → rest ≡ line ∷ others → AllByRecursion IsOfGrammar rest → IsOfGrammar line × AllByRecursion IsOfGrammar others
+here_of_grammar rest line others is all = subst (AllByRecursion IsOfGrammar) is all

@@ -1,16 +1,15 @@
 -- The lines of the messages in some bytes, written one after another.
-use Rattle.std.proofs.Common.{◌≡◌, ℕ, ◌+◌, ◌<◌, ◌≤◌, List, [], ◌∷◌, ◌++◌, length, drop, refl, sym, ap, ◌∙◌, subst, arith}
-use Rattle.std.specs.Prelude.{Option, Some, None, Result, Ok, Err, OnOk, OnErr}
+use Rattle.std.proofs.Common.{◌≡◌, ℕ, List, [], ◌∷◌, ◌++◌, length, drop, refl, sym, ap, ◌∙◌, subst, arith}
+use Rattle.std.specs.Prelude.{Option}
 use Rattle.std.proofs.lemmas.List.{append_assoc, append-nil}
 use Rattle.std.proofs.Math.Seq.{drop-append_seam}
 use Rattle.pool_base.specs.Outside.{Appends, AppendsFront}
 use Rattle.pool_base.proofs.Sinking.{appends_nothing, appends_on, front_on, front_of_more}
 use Rattle.pg_messages.specs.declared.server.ServerMessage.{ServerMessage}
-use Rattle.pg_messages.specs.declared.read.Read.{Read}
 use Rattle.pg_messages.specs.declared.read.Read.TheVariants.{Whole}
 use Rattle.pg_messages.specs.Server.{spelling}
 use Rattle.pg_messages.specs.Fronts.{server_front}
-use Rattle.play.specs.Replies.{spelled_all, IsReadAgain, AreReadAgain}
+use Rattle.play.specs.Replies.{spelled_all, AreReadAgain}
 use Rattle.play.specs.Transcript.{reply_line, lines_of}
 
 pub front_nothing : (a : Option (List ℕ)) (x : List ℕ) → AppendsFront a a x

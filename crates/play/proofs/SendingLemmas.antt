@@ -1,26 +1,27 @@
 -- Messages sent one after another, and which messages can be sent.
-use Rattle.std.proofs.Common.{◌≡◌, ℕ, ◌+◌, ◌-◌, ◌^◌, ◌%◌, ◌<◌, ◌≤◌, suc, zero, Bool, true, false, ltb, leb, List, [], ◌∷◌, ◌++◌, length, map, take, get_or, refl, sym, ap, ◌∙◌, subst, arith, codes, lit<, lit≤, inl, inr}
-use Rattle.pg_messages.specs.declared.server.Field.{Field}
+use Rattle.std.proofs.Common.{◌≡◌, ◌≢◌, ℕ, ◌+◌, ◌^◌, ◌%◌, ◌<◌, ◌≤◌, suc, zero, Bool, true, false, ltb, leb, List, [], ◌∷◌, ◌++◌, length, refl, sym, ap, ◌∙◌, arith, codes, lit<, lit≤, inl, inr}
 use Rattle.pg_messages.specs.declared.server.Part.{Part}
-use Rattle.std.specs.Prelude.{pos, ◌&&◌, bytes_eq, if◌then◌else◌}
+use Rattle.std.specs.Prelude.{◌&&◌}
 use Rattle.std.proofs.Props.{props}
-use Rattle.std.specs.List.{All, flat_map}
+use Rattle.std.specs.List.{All}
 use Rattle.std.specs.Fmt.{decimal}
 use Rattle.std.proofs.Math.Logic.{∥∥₁_elim}
-use Rattle.std.proofs.lemmas.List.{append_assoc, append-nil, length-append, take_more, take_all, map-append}
+use Rattle.std.proofs.lemmas.List.{append_assoc, append-nil, length-append}
 use Rattle.std.proofs.lemmas.List.Concat.{flat_map-append}
-use Rattle.std.proofs.lemmas.List.Elements.{All-nil, All-cons, All-append, All-head, All-tail}
+use Rattle.std.proofs.lemmas.List.Elements.{All-nil, All-cons, All-append}
 use Rattle.std.proofs.lemmas.Fmt.{decimal_by_steps, length-decimal-le}
 use Rattle.std.proofs.lemmas.Bool.{false≢true}
 use borrow.Author.Tests.{ltb-true, leb-true}
 use Rattle.pg_messages.specs.declared.server.ServerMessage.{ServerMessage}
-use Rattle.pg_messages.specs.declared.server.ServerMessage.TheVariants.{ParameterStatus, Complete, Empty, RowDescription, Error, Ready}
-use Rattle.pg_messages.specs.Fields.{IsString}
+use Rattle.pg_messages.specs.declared.server.ServerMessage.TheVariants.{ParameterStatus, Complete, Empty, Ready}
+use Rattle.pg_messages.specs.Fields.{IsString, PartFits}
 use Rattle.pg_messages.specs.Server.{spelling, Fits}
+use Rattle.pg_values.specs.Range.{HasNoZero}
 use Rattle.pool_base.specs.Codes.{IsCodeByte, IsCode}
-use Rattle.backend_trait.specs.declared.row.Row.{Row}
-use Rattle.pg_messages.specs.Fields.{PartFits, FieldFits}
-use Rattle.play.specs.Replies.{spelled_all, IsReadAgain, AreReadAgain, Sent, row_message, error_message, text_of_code, columns, column, part, RowFits}
+use Rattle.catalogue.specs.declared.checked.CheckedBody.{CheckedBody}
+use Rattle.catalogue.specs.declared.checked.CheckedBody.TheVariants as body
+use Rattle.play.specs.Answering.{IsShort}
+use Rattle.play.specs.Replies.{spelled_all, IsReadAgain, AreReadAgain, Sent, error_message, part, tag_of}
 use Rattle.play.specs.Opening.{is_string, is_label}
 
 pub sent_none : (a : List ℕ) → Sent a a []
@@ -57,6 +58,13 @@ pub string_is : (text : List ℕ) → is_string text ≡ true → IsString text
 string_is [] h = All-nil (λ b. 0 < b)
 string_is (byte ∷ bytes) h = All-cons (λ b. 0 < b) byte bytes (ltb-true 0 byte (left_of (ltb 0 byte) (is_string bytes) h)) (string_is bytes (right_of (ltb 0 byte) (is_string bytes) h))
 
+positive : (b : ℕ) → b ≢ 0 → 0 < b
+positive zero other = absurd (other refl)
+positive (suc b) other = omega arith
+
+pub no_zero_is : (text : List ℕ) → HasNoZero text → IsString text
+no_zero_is text all = λ k d below. positive _ (all k d below)
+
 pub digits_are : (n : ℕ) → n < 2 ^ 64 → IsString (decimal n)
 digits_are n small = decimal_by_steps (λ n ds. IsString ds) (λ n below. All-cons (λ b. 0 < b) (48 + n) [] (omega arith) (All-nil (λ b. 0 < b)))
     (λ n ds low is. All-append (λ b. 0 < b) ds ((48 + n % 10) ∷ []) is (All-cons (λ b. 0 < b) (48 + n % 10) [] (omega arith) (All-nil (λ b. 0 < b)))) n small
@@ -64,7 +72,7 @@ digits_are n small = decimal_by_steps (λ n ds. IsString ds) (λ n below. All-co
 pub short_digits : (n : ℕ) → n < 2 ^ 64 → length (decimal n) ≤ 20
 short_digits n small = let big : 2 ^ 64 ≤ 10 ^ 20 = lit≤ tt in length-decimal-le 20 n (lit< tt) (omega arith) small
 
-pub tag_fits : (name : List ℕ) (n : ℕ) → is_label name ≡ true → n < 2 ^ 64 → Fits (Complete (name ++ decimal n))
+tag_fits : (name : List ℕ) (n : ℕ) → is_label name ≡ true → n < 2 ^ 64 → Fits (Complete (name ++ decimal n))
 tag_fits name n label small =
     let short : length name ≤ 100 = leb-true (length name) 100 (left_of (leb (length name) 100) (is_string name) label) in
     let digits : length (decimal n) ≤ 20 = short_digits n small in (
@@ -72,6 +80,12 @@ tag_fits name n label small =
       tt,
       simp length-append (omega arith),
     )
+
+pub done_fits : (body : CheckedBody) (n : ℕ) → n < 2 ^ 64 → Fits (Complete (tag_of body n))
+done_fits (body.Read read) n small = tag_fits (codes "SELECT ") n refl small
+done_fits (body.Insert insert) n small = tag_fits (codes "INSERT 0 ") n refl small
+done_fits (body.Change change) n small = tag_fits (codes "UPDATE ") n refl small
+done_fits (body.Remove remove) n small = tag_fits (codes "DELETE ") n refl small
 
 pub setting_fits : (name setting : List ℕ) → is_label name ≡ true → is_label setting ≡ true → Fits (ParameterStatus name setting)
 setting_fits name setting a b =
@@ -82,62 +96,32 @@ setting_fits name setting a b =
       simp length-append (omega arith),
     )
 
--- ---- a row more of a loop
-pub rows_more : (a b c : List ℕ) (rows : List Row) (i : ℕ) (row : Row) (message : ServerMessage) → i < length rows → row ≡ get_or rows i row → message ≡ row_message row
-    → Sent a b (map row_message (take i rows)) → Sent b c (message ∷ []) → Sent a c (map row_message (take (i + 1) rows))
-rows_more a b c rows i row message below is made p q =
-    let at : get_or rows i row ≡ row = sym is in
-    let taken : take (i + 1) rows ≡ take i rows ++ row ∷ [] = take_more rows i row below ∙ ap (λ r. take i rows ++ r ∷ []) at in
-    subst (Sent a c) (sym (ap (map row_message) taken ∙ map-append row_message (take i rows) (row ∷ [])))
-    (sent_on a b c (map row_message (take i rows)) (row_message row ∷ []) p (subst (λ m. Sent b c (m ∷ [])) made q))
-
-pub rows_all : (a b : List ℕ) (rows : List Row) (i : ℕ) → length rows ≤ i → Sent a b (map row_message (take i rows)) → Sent a b (map row_message rows)
-rows_all a b rows i past p = subst (λ rs. Sent a b (map row_message rs)) (take_all i rows past) p
-
 -- ---- errors
 byte_is : (byte : ℕ) → IsCodeByte byte → 0 < byte
 byte_is byte (inl digit) = omega arith
 byte_is byte (inr letter) = omega arith
 
 pub code_is : (code : List ℕ) → ∥ IsCode code ∥₁ → IsString code
-code_is code spelled = λ k d below. ∥∥₁_elim spelled (hlevel props) (λ is. byte_is (get_or code k d) (is k d below))
-
-label_of_code : (b : Bool) → is_label (if b then codes "duplicate key" else codes "refused by the backends") ≡ true
-label_of_code true = refl
-label_of_code false = refl
+code_is code spelled = λ k d below. ∥∥₁_elim spelled (hlevel props) (λ is. byte_is _ (is k d below))
 
 four_parts : (a b c d : Part) → PartFits a → PartFits b → PartFits c → PartFits d → All PartFits (a ∷ b ∷ c ∷ d ∷ [])
 four_parts a b c d p q r t = All-cons PartFits a (b ∷ c ∷ d ∷ []) p (All-cons PartFits b (c ∷ d ∷ []) q (All-cons PartFits c (d ∷ []) r (All-cons PartFits d [] t (All-nil PartFits))))
 
-piece : (tag : ℕ) (text : List ℕ) → length text ≤ 100 → length (tag ∷ (text ++ 0 ∷ [])) ≤ 200
+piece : (tag : ℕ) (text : List ℕ) → length text ≤ 1000 → length (tag ∷ (text ++ 0 ∷ [])) ≤ 2000
 piece tag text short = simp length-append (omega arith)
 
-short_parts : (a b c d : List ℕ) → length a ≤ 200 → length b ≤ 200 → length c ≤ 200 → length d ≤ 200 → length ((a ++ (b ++ (c ++ (d ++ [])))) ++ 0 ∷ []) + 4 ≤ 1048576
+short_parts : (a b c d : List ℕ) → length a ≤ 2000 → length b ≤ 2000 → length c ≤ 2000 → length d ≤ 2000 → length ((a ++ (b ++ (c ++ (d ++ [])))) ++ 0 ∷ []) + 4 ≤ 1048576
 short_parts a b c d p q r t = simp length-append (omega arith)
 
-pub error_fits : (code : List ℕ) → length code ≡ 5 → IsString code → Fits (error_message code)
+pub error_fits : (code text : List ℕ) → length code ≡ 5 → IsString code → IsShort text → Fits (error_message code text)
 unfolding error_message
-error_fits code five is =
-    let text = text_of_code code in
-    let label : is_label text ≡ true = label_of_code (bytes_eq code (codes "23505")) in
-    let short : length text ≤ 100 = leb-true (length text) 100 (left_of (leb (length text) 100) (is_string text) label) in
+error_fits code text five is short =
     let severity : IsString (codes "ERROR") = string_is (codes "ERROR") refl in (
       four_parts (part 83 (codes "ERROR")) (part 86 (codes "ERROR")) (part 67 code) (part 77 text) (lit< tt, severity) (lit< tt, severity) (lit< tt, is)
-          (lit< tt, string_is text (right_of (leb (length text) 100) (is_string text) label)),
+          (lit< tt, no_zero_is text short.1),
       lit< tt,
-      short_parts (83 ∷ (codes "ERROR" ++ 0 ∷ [])) (86 ∷ (codes "ERROR" ++ 0 ∷ [])) (67 ∷ (code ++ 0 ∷ [])) (77 ∷ (text ++ 0 ∷ [])) (lit≤ tt) (lit≤ tt) (piece 67 code (omega arith)) (piece 77 text short),
+      short_parts (83 ∷ (codes "ERROR" ++ 0 ∷ [])) (86 ∷ (codes "ERROR" ++ 0 ∷ [])) (67 ∷ (code ++ 0 ∷ [])) (77 ∷ (text ++ 0 ∷ [])) (lit≤ tt) (lit≤ tt) (piece 67 code (omega arith)) (piece 77 text short.0),
     )
-
-two_fields : (a b : Field) → FieldFits a → FieldFits b → All FieldFits (a ∷ b ∷ [])
-two_fields a b p q = All-cons FieldFits a (b ∷ []) p (All-cons FieldFits b [] q (All-nil FieldFits))
-
-pub columns_fit : Fits (RowDescription columns)
-unfolding columns
-columns_fit = ((lit< tt, two_fields (column (codes "id") 23 (pos 4)) (column (codes "v") 20 (pos 8)) (string_is (codes "id") refl) (string_is (codes "v") refl)), tt, lit≤ tt)
-
--- the row of a loop's step
-pub row_at : (rows : List Row) (i : ℕ) (row : Row) → All RowFits rows → i < length rows → row ≡ get_or rows i row → RowFits row
-row_at rows i row fits below is = subst RowFits (sym is) (fits i row below)
 
 pub empty_fits : Fits Empty
 empty_fits = (tt, tt, lit≤ tt)

@@ -1,4 +1,10 @@
+pub mod Codes
+pub mod Asked
+pub mod Told
 pub mod Replies
+pub mod Answering
 pub mod Opening
 pub mod Script
+pub mod Parts
 pub mod Transcript
+pub mod Showing

@@ -1,6 +1,5 @@
 -- The first message of the session, and short strings.
 use Rattle.std.specs.Prelude.{◌≡◌, ℕ, Bool, true, false, ◌&&◌, ◌==◌, Option, Some, None, nat_lt, nat_le, List, [], ◌∷◌, length, codes}
-use Rattle.pg_messages.specs.declared.start.Pair.{Pair}
 use Rattle.pg_messages.specs.declared.start.StartMessage.{StartMessage}
 use Rattle.pg_messages.specs.declared.start.StartMessage.TheVariants.{Start, Ssl, Gss, Cancel}
 use Rattle.pg_messages.specs.declared.client.ClientMessage.{ClientMessage}

@@ -1,26 +1,31 @@
--- What the server sends: when a session starts, and for a statement.
-use Rattle.std.specs.Prelude.{◌≡◌, ℕ, ◌+◌, ◌≤◌, ℤ, pos, negsuc, List, [], ◌∷◌, ◌++◌, map, length, Option, Some, None, All, bytes_eq, if◌then◌else◌, codes, Bool, true, false}
-use Rattle.std.specs.FinMap as fin
-use Rattle.std.specs.List.{flat_map}
-use Rattle.std.specs.Fmt.{decimal, signed_decimal}
-use Rattle.pg_values.specs.declared.value.Value.{Value}
-use Rattle.pg_values.specs.declared.value.Value.TheVariants as values
-use Rattle.played_sql.specs.declared.statement.Statement.{Statement}
-use Rattle.pool_base.specs.declared.code.Code.{Code}
-use Rattle.backend_trait.specs.declared.row.Row.{Row}
+-- What the server sends: when a session starts, and for a text.
+use Rattle.std.specs.Prelude.{◌≡◌, ℕ, ℤ, pos, negsuc, List, [], ◌∷◌, ◌++◌, map, length, Option, codes}
+use Rattle.std.specs.List.{flat_map, AllZip}
+use Rattle.std.specs.Fmt.{decimal}
+use Rattle.pg_values.specs.declared.col_type.ColType.{ColType}
+use Rattle.pg_values.specs.declared.col_type.ColType.TheVariants as kind
+use Rattle.pg_values.specs.Text.{IsTextOf}
+use Rattle.pg_values.specs.Kinds.{oid_number}
+use Rattle.schema.specs.declared.catalogue.TableDef.{TableDef}
+use Rattle.catalogue.specs.declared.checked.Checked.{Checked}
+use Rattle.catalogue.specs.declared.checked.CheckedBody.{CheckedBody}
+use Rattle.catalogue.specs.declared.checked.CheckedBody.TheVariants as body
+use Rattle.catalogue.specs.declared.checked.ColumnDesc.{ColumnDesc}
+use Rattle.sql_eval.specs.declared.row.Row.{Row}
 use Rattle.backend_trait.specs.declared.answer.Answer.{Answer}
 use Rattle.backend_trait.specs.declared.answer.Answer.TheVariants as answers
-use Rattle.backend_trait.specs.Keys.{Place}
 use Rattle.backend_trait.specs.Rows.{Rows}
-use Rattle.backend_trait.specs.Effect.{Given, Fails, Gives, checked_of}
+use Rattle.backend_trait.specs.Effect.{Given, Fails, Gives}
 use Rattle.backend_trait.specs.Alone as alone
 use Rattle.pg_messages.specs.declared.server.Field.{Field}
 use Rattle.pg_messages.specs.declared.server.Part.{Part}
 use Rattle.pg_messages.specs.declared.server.ServerMessage.{ServerMessage}
 use Rattle.pg_messages.specs.declared.server.ServerMessage.TheVariants.{AuthOk, ParameterStatus, BackendKey, Ready, RowDescription, DataRow, Complete, Empty, Error}
-use Rattle.pg_messages.specs.Server.{spelling, Fits}
+use Rattle.pg_messages.specs.Server.{spelling}
 use Rattle.pg_messages.specs.Fronts.{server_front}
 use Rattle.pg_messages.specs.declared.read.Read.TheVariants.{Whole}
+use Rattle.play.specs.Asked.{Asked, nothing, refused, runs}
+use Rattle.play.specs.Codes.{text_of_code}
 
 -- the settings that are told when a session starts
 abbrev pub settings : List ServerMessage
@@ -37,30 +42,24 @@ settings =
 unfoldable pub start_up : ℕ → List ServerMessage
 start_up session = AuthOk ∷ (settings ++ (BackendKey (pos session) (pos 0) ∷ Ready 73 ∷ []))
 
+-- the size of a type's values in bytes; -1 where they have no one size
+abbrev pub size_of : ColType → ℤ
+size_of kind.Bool = pos 1
+size_of kind.Int4 = pos 4
+size_of kind.Int8 = pos 8
+size_of kind.Text = negsuc 0
+size_of kind.Moment = pos 8
+
 -- a column of a result in text form: its name, the OID of its type, the size of its type
-abbrev pub column : List ℕ → ℕ → ℤ → Field
-column name kind size = record { name = name; table = 0; column = pos 0; kind = kind; size = size; modifier = negsuc 0; format = 0 }
+abbrev pub field_of : ColumnDesc → Field
+field_of column = record { name = column.name; table = 0; column = pos 0; kind = oid_number column.kind; size = size_of column.kind; modifier = negsuc 0; format = 0 }
 
--- the columns of t: id of int4, v of int8
-unfoldable pub columns : List Field
-columns = column (codes "id") 23 (pos 4) ∷ column (codes "v") 20 (pos 8) ∷ []
+abbrev pub fields_of : List ColumnDesc → List Field
+fields_of columns = map field_of columns
 
--- a value as text
-abbrev pub cell_text : Value → Option (List ℕ)
-cell_text values.Null = None
-cell_text (values.Bool true) = Some (codes "t")
-cell_text (values.Bool false) = Some (codes "f")
-cell_text (values.Int4 n) = Some (signed_decimal n)
-cell_text (values.Int8 n) = Some (signed_decimal n)
-cell_text (values.Text text) = Some text
-cell_text (values.Moment n) = Some (signed_decimal n)
-
-abbrev pub row_message : Row → ServerMessage
-row_message row = DataRow (map cell_text row.cells)
-
--- the text of a code
-abbrev pub text_of_code : List ℕ → List ℕ
-text_of_code code = if bytes_eq code (codes "23505") then codes "duplicate key" else codes "refused by the backends"
+-- a row in text form: the one text of each value, none for Null
+abbrev pub IsRowMessage : Row → ServerMessage → Type 0
+IsRowMessage row message = (texts : List (Option (List ℕ))) × AllZip IsTextOf row.cells texts × (message ≡ DataRow texts)
 
 abbrev pub part : ℕ → List ℕ → Part
 part tag text = record { tag = tag; text = text }
@@ -69,58 +68,56 @@ part tag text = record { tag = tag; text = text }
 abbrev pub error_parts : List ℕ → List ℕ → List Part
 error_parts code text = part 83 (codes "ERROR") ∷ part 86 (codes "ERROR") ∷ part 67 code ∷ part 77 text ∷ []
 
-unfoldable pub error_message : List ℕ → ServerMessage
-error_message code = Error (error_parts code (text_of_code code))
+unfoldable pub error_message : List ℕ → List ℕ → ServerMessage
+error_message code text = Error (error_parts code text)
+
+-- the tag of a statement that is done, with its count
+abbrev pub tag_of : CheckedBody → ℕ → List ℕ
+tag_of (body.Read read) count = codes "SELECT " ++ decimal count
+tag_of (body.Insert insert) count = codes "INSERT 0 " ++ decimal count
+tag_of (body.Change change) count = codes "UPDATE " ++ decimal count
+tag_of (body.Remove remove) count = codes "DELETE " ++ decimal count
+
+-- the rows, in text form, behind the description of their columns
+pub record AreRows (checked : Checked) (rows : List Row) (messages : List ServerMessage) : Type 0 where
+  pub sent : List ServerMessage
+  pub each : AllZip IsRowMessage rows sent
+  pub are : messages ≡ RowDescription (fields_of checked.columns) ∷ (sent ++ Complete (tag_of checked.body (length rows)) ∷ [])
 
 -- the messages for an answer to a statement
-unfoldable pub answer_messages : Answer → List ServerMessage
-answer_messages answers.Began = []
-answer_messages (answers.Rows rows) = RowDescription columns ∷ (map row_message rows ++ Complete (codes "SELECT " ++ decimal (length rows)) ∷ [])
-answer_messages (answers.Count n) = Complete (codes "INSERT 0 " ++ decimal n) ∷ []
-answer_messages answers.Locked = []
-answer_messages answers.Done = []
-answer_messages (answers.Serial n) = []
-answer_messages (answers.Refused code) = error_message code.bytes ∷ []
+abbrev pub AreAnswers : Checked → Answer → List ServerMessage → Type 0
+AreAnswers checked answers.Began messages = messages ≡ []
+AreAnswers checked (answers.Rows rows) messages = AreRows checked rows messages
+AreAnswers checked (answers.Count n) messages = messages ≡ Complete (tag_of checked.body n) ∷ []
+AreAnswers checked answers.Locked messages = messages ≡ []
+AreAnswers checked answers.Done messages = messages ≡ []
+AreAnswers checked (answers.Serial n) messages = messages ≡ []
+AreAnswers checked (answers.Refused code) messages = messages ≡ error_message code.bytes (text_of_code code.bytes) ∷ []
 
 -- what a statement that runs alone gives on the committed rows, and the rows that it leaves
-unfoldable pub given_on : Rows → Statement → Given
-given_on rows statement = alone.given_on rows (checked_of statement)
+unfoldable pub given_on : List TableDef → Rows → Checked → Given
+given_on tables rows statement = alone.given_on tables rows statement
 
-unfoldable pub rows_after : Rows → Statement → Rows
-rows_after rows statement = alone.rows_after rows (checked_of statement)
+unfoldable pub rows_after : List TableDef → Rows → Checked → Rows
+rows_after tables rows statement = alone.rows_after tables rows statement
 
--- the messages that an effect gives
-abbrev pub messages_given : Given → List ServerMessage
-messages_given (Fails code) = error_message code ∷ []
-messages_given (Gives result changes wants) = answer_messages result
+-- the messages for what a statement gives
+abbrev pub AreGiven : Checked → Given → List ServerMessage → Type 0
+AreGiven checked (Fails code) messages = messages ≡ error_message code (text_of_code code) ∷ []
+AreGiven checked (Gives answer changes places) messages = AreAnswers checked answer messages
 
--- all that the server sends for a text: for the empty one, and for one that asks for a statement
-unfoldable pub replies_to : Rows → Option Statement → List ServerMessage
-replies_to rows None = Empty ∷ Ready 73 ∷ []
-replies_to rows (Some statement) = messages_given (given_on rows statement) ++ Ready 73 ∷ []
+-- all that the server sends for a text, by what it asks for, on these rows
+abbrev pub AreReplies : List TableDef → Rows → Asked → List ServerMessage → Type 0
+AreReplies tables rows nothing messages = messages ≡ Empty ∷ Ready 73 ∷ []
+AreReplies tables rows (refused code text) messages = messages ≡ error_message code text ∷ Ready 73 ∷ []
+AreReplies tables rows (runs checked) messages =
+    (front : List ServerMessage) × AreGiven checked (given_on tables rows checked) front × (messages ≡ front ++ Ready 73 ∷ [])
 
 -- the rows afterwards
-unfoldable pub rows_left_by : Rows → Option Statement → Rows
-rows_left_by rows None = rows
-rows_left_by rows (Some statement) = rows_after rows statement
-
--- a row can be sent
-abbrev pub RowFits : Row → Type 0
-RowFits row = Fits (row_message row)
-
--- each row can be sent
-abbrev pub RowsFit : Rows → Type 0
-RowsFit rows = (place : Place) (row : Row) → fin.get rows place ≡ Some row → RowFits row
-
--- the rows of an answer can be sent
-abbrev pub AnswerFits : Answer → Type 0
-AnswerFits answers.Began = Unit {0}
-AnswerFits (answers.Rows rows) = All RowFits rows
-AnswerFits (answers.Count n) = Unit {0}
-AnswerFits answers.Locked = Unit {0}
-AnswerFits answers.Done = Unit {0}
-AnswerFits (answers.Serial n) = Unit {0}
-AnswerFits (answers.Refused code) = Unit {0}
+unfoldable pub rows_left_by : List TableDef → Rows → Asked → Rows
+rows_left_by tables rows nothing = rows
+rows_left_by tables rows (refused code text) = rows
+rows_left_by tables rows (runs checked) = rows_after tables rows checked
 
 -- bytes that messages spell, one after another
 abbrev pub spelled_all : List ServerMessage → List ℕ

@@ -1,6 +1,8 @@
 //! One session, played from a script: lines in, bytes fed, statements run, and the transcript out.
 #![tactic(auto)]
 
+mod asked;
+mod codes;
 mod database;
 mod play_fault;
 mod player;

@@ -5,7 +5,7 @@ ghost use Rattle.play.specs.declared.play_fault.PlayFault.TheVariants as faults;
 use pool_base::{NoMemory, SinkFailed};
 
 /// Why a script was not played to its end.
-#[derive(Clone, Copy, PartialEq, Eq, Drop)]
+#[derive(Clone, Copy, Debug, PartialEq, Eq, Drop)]
 pub enum PlayFault {
     /// Memory was refused.
     NoMemory,

@@ -1,5 +1,5 @@
 //! A script, played over one session.
-ghost use Rattle.std.specs.Prelude.{◌≡◌, ◌≤◌, ◌++◌, ◌∷◌, [], ℕ, Bool, List as Sequence, Option, true, false, length, codes, map, IfOk, IfErr, OnOk, OnErr};
+ghost use Rattle.std.specs.Prelude.{◌≡◌, ◌≤◌, ◌++◌, ◌∷◌, [], ℕ, ℤ, Bool, List as Sequence, true, false, length, codes, map, IfOk, IfErr, OnOk, OnErr};
 ghost use Rattle.std.specs.List.{AllByRecursion};
 ghost use Rattle.pg_messages.specs.Fronts.{server_front};
 ghost use Rattle.pg_messages.specs.declared.read.Read.TheVariants.{Whole};
@@ -7,19 +7,21 @@ ghost use Rattle.pgproto.specs.Line.{line_of};
 ghost use Rattle.pgproto.specs.Spelling.{IsOfGrammar, echoed};
 ghost use Rattle.play.specs.Opening.{HoldsClient};
 ghost use Rattle.pool_base.specs.Outside.{Appends, AppendsFront, Rose};
-ghost use Rattle.played_sql.specs.declared.statement.Statement.{Statement};
 ghost use Rattle.pg_messages.specs.declared.server.ServerMessage.{ServerMessage};
 ghost use Rattle.pg_messages.specs.declared.client.ClientMessage.TheVariants as sent;
 ghost use Rattle.pg_messages.specs.Client.{Fits};
 ghost use Rattle.play.specs.declared.play_fault.PlayFault.TheVariants as faults;
-ghost use Rattle.play.specs.Replies.{RowsFit, AreReadAgain, spelled_all, start_up};
-ghost use Rattle.play.specs.Script.{ArePlayed, AreDone, Deed, Does, IsAsked, IsPlayed};
-ghost use Rattle.play.specs.Transcript.{connected, rows_then, rows_then_query, echo, shown, shown_connect, shown_query, shown_leave, ended, reply_line, lines_of, closing, transcript_of, final_rows};
+ghost use Rattle.schema_print.specs.Allowed.{AreAllowed};
+ghost use Rattle.play.specs.Replies.{AreReadAgain, spelled_all, start_up};
+ghost use Rattle.play.specs.Script.{IsMomentOf, IsPlayed, IsSession};
+ghost use Rattle.play.specs.Transcript.{ArePlayed, ArePlayedInPart, shown_connect, shown_leave, ended, reply_line, lines_of, closing};
+ghost use Rattle.play.specs.Showing.{scene_of, IsShownOf, IsShownInPart, IsQueryShown, IsQueryShownInPart};
 
 use crate::database::Database;
 use crate::play_fault::PlayFault;
-use crate::script::{Step, step_of};
+use crate::script::{Step, moment_of, step_of};
 use crate::session::{connect, serve};
+use backend_trait::Catalogue;
 use pg_messages::{ClientMessage, Read, ServerMessage, read_server, write_client};
 use pgproto::{ScriptLine, echo, render};
 use pool_base::{List, NoMemory, SessionId, Sink, write_all};
@@ -34,108 +36,110 @@ const START: [u8; 33] = [
     b't', b'a', b'b', b'a', b's', b'e', 0, b'p', b'o', b'o', b'l', 0, 0,
 ];
 
-/// Plays a script: what is written is its transcript.
+/// What stands before a line: whether the session is connected, and the moment.
+///
+/// Units: the moment is in microseconds since 2000-01-01 00:00 UTC.
+#[derive(Clone, Copy, Debug)]
+struct Scene {
+    online: bool,
+    moment: i64,
+}
+
+/// Plays a script over the tables of a catalogue: what is written is its transcript.
 pub fn play<D: Database, O: Sink>(
     alloc: Global,
+    catalogue: &Catalogue,
     script: &[ScriptLine],
     database: &mut D,
     out: &mut O,
 ) -> Result<(), PlayFault>
     requires grammar { AllByRecursion IsOfGrammar (map line_of script.now) }
-    requires played { ArePlayed (map line_of script.now) }
-    requires fits { RowsFit (D.rows database.old) }
+    requires played { IsSession (map line_of script.now) }
+    requires allowed { AreAllowed catalogue.now }
+    requires tables { D.tables database.old ≡ catalogue.now }
     requires ready { D.is_ready database.old }
     // Its whole transcript, and the rows that it leaves.
-    ensures all { OnOk result ((deeds : Sequence Deed) → AreDone (map line_of script.now) deeds
-        → Appends (O.taken out.old) (O.taken out.new) (transcript_of (D.rows database.old) deeds)) }
-    ensures rows { OnOk result ((deeds : Sequence Deed) → AreDone (map line_of script.now) deeds
-        → D.rows database.new ≡ final_rows (D.rows database.old) deeds) }
+    ensures all { OnOk result (ArePlayed catalogue.now (map line_of script.now)
+        (D.rows database.old) (O.taken out.old) (O.taken out.new) (D.rows database.new)) }
+    ensures tables { OnOk result (D.tables database.new ≡ D.tables database.old) }
     ensures copies { OnOk result (D.copies database.new ≡ D.copies database.old) }
     ensures ready { OnOk result (D.is_ready database.new) }
 
     // After a fault a front of it was written.
-    ensures front { OnErr result ((deeds : Sequence Deed) → AreDone (map line_of script.now) deeds
-        → AppendsFront (O.taken out.old) (O.taken out.new)
-        (transcript_of (D.rows database.old) deeds)) }
+    ensures front { OnErr result (ArePlayedInPart catalogue.now (map line_of script.now)
+        (D.rows database.old) (O.taken out.old) (O.taken out.new)) }
     ensures cause { IfErr result (λ e. e ≡ faults.SinkFailed
         → Rose (O.fault_count out.old) (O.fault_count out.new)) }
     ensures later { O.fault_count out.old ≤ O.fault_count out.new }
 {
-    let mut online = false;
+    let mut scene = Scene {
+        online: false,
+        moment: 0,
+    };
     for line in script {
-        online = play_line(alloc, online, line, database, out)?;
+        put_echo(alloc, line, out)?;
+        scene = show(alloc, catalogue, scene, line, database, out)?;
     }
-    close(online, out)?;
+    close(scene.online, out)?;
     Ok(())
-}
-
-/// Plays one line. Says whether the session is connected then.
-fn play_line<D: Database, O: Sink>(
-    alloc: Global,
-    online: bool,
-    line: &ScriptLine,
-    database: &mut D,
-    out: &mut O,
-) -> Result<bool, PlayFault>
-    requires grammar { IsOfGrammar (line_of line.now) }
-    requires played { IsPlayed (line_of line.now) }
-    requires fits { RowsFit (D.rows database.old) }
-    requires ready { D.is_ready database.old }
-    ensures online { IfOk result (λ after. (deed : Deed) → Does (line_of line.now) deed
-        → after ≡ connected online deed) }
-    ensures all { OnOk result ((deed : Deed) → Does (line_of line.now) deed
-        → Appends (O.taken out.old) (O.taken out.new) (echo deed ++ shown online (D.rows
-        database.old) deed)) }
-    ensures rows { OnOk result ((deed : Deed) → Does (line_of line.now) deed
-        → D.rows database.new ≡ rows_then online (D.rows database.old) deed) }
-    ensures fits { OnOk result (RowsFit (D.rows database.new)) }
-    ensures copies { OnOk result (D.copies database.new ≡ D.copies database.old) }
-    ensures ready { OnOk result (D.is_ready database.new) }
-    ensures front { OnErr result ((deed : Deed) → Does (line_of line.now) deed
-        → AppendsFront (O.taken out.old) (O.taken out.new) (echo deed ++ shown online (D.rows
-        database.old) deed)) }
-    ensures cause { IfErr result (λ e. e ≡ faults.SinkFailed
-        → Rose (O.fault_count out.old) (O.fault_count out.new)) }
-    ensures later { O.fault_count out.old ≤ O.fault_count out.new }
-{
-    put_echo(alloc, line, out)?;
-    let after = show(alloc, online, line, database, out)?;
-    Ok(after)
 }
 
 /// Does what a line asks, and writes what stands behind its echo.
 fn show<D: Database, O: Sink>(
     alloc: Global,
-    online: bool,
+    catalogue: &Catalogue,
+    scene: Scene,
     line: &ScriptLine,
     database: &mut D,
     out: &mut O,
-) -> Result<bool, PlayFault>
+) -> Result<Scene, PlayFault>
     requires grammar { IsOfGrammar (line_of line.now) }
     requires played { IsPlayed (line_of line.now) }
-    requires fits { RowsFit (D.rows database.old) }
+    requires allowed { AreAllowed catalogue.now }
+    requires tables { D.tables database.old ≡ catalogue.now }
     requires ready { D.is_ready database.old }
-    ensures online { IfOk result (λ after. (deed : Deed) → Does (line_of line.now) deed
-        → after ≡ connected online deed) }
-    ensures all { OnOk result ((deed : Deed) → Does (line_of line.now) deed
-        → Appends (O.taken out.old) (O.taken out.new) (shown online (D.rows database.old) deed)) }
-    ensures rows { OnOk result ((deed : Deed) → Does (line_of line.now) deed
-        → D.rows database.new ≡ rows_then online (D.rows database.old) deed) }
-    ensures fits { OnOk result (RowsFit (D.rows database.new)) }
+    ensures all { IfOk result (λ after. IsShownOf catalogue.now
+        (scene_of (D.rows database.old) scene) (line_of line.now) (O.taken out.old)
+        (O.taken out.new) (scene_of (D.rows database.new) after)) }
+    ensures tables { OnOk result (D.tables database.new ≡ D.tables database.old) }
     ensures copies { OnOk result (D.copies database.new ≡ D.copies database.old) }
     ensures ready { OnOk result (D.is_ready database.new) }
-    ensures front { OnErr result ((deed : Deed) → Does (line_of line.now) deed
-        → AppendsFront (O.taken out.old) (O.taken out.new) (shown online (D.rows database.old)
-        deed)) }
+    ensures front { OnErr result (IsShownInPart catalogue.now
+        (scene_of (D.rows database.old) scene) (line_of line.now) (O.taken out.old)
+        (O.taken out.new)) }
     ensures cause { IfErr result (λ e. e ≡ faults.SinkFailed
         → Rose (O.fault_count out.old) (O.fault_count out.new)) }
     ensures later { O.fault_count out.old ≤ O.fault_count out.new }
 {
     match step_of(line) {
-        Step::Connect => start(alloc, online, out),
-        Step::Ask(text) => ask(alloc, online, text, database, out),
-        Step::Leave => leave(alloc, online, database, out),
+        Step::Set(text) => Ok(Scene {
+            online: scene.online,
+            moment: moment_set(alloc, text),
+        }),
+        Step::Connect => Ok(Scene {
+            online: start(alloc, scene.online, out)?,
+            moment: scene.moment,
+        }),
+        Step::Ask(text) => Ok(Scene {
+            online: ask(alloc, catalogue, scene, text, database, out)?,
+            moment: scene.moment,
+        }),
+        Step::Leave => Ok(Scene {
+            online: leave(alloc, catalogue, scene, database, out)?,
+            moment: scene.moment,
+        }),
         Step::Other => unreachable!(),
+    }
+}
+
+/// The moment of a text that is one.
+fn moment_set(alloc: Global, text: &[u8]) -> i64
+    requires { (micros : ℤ) × IsMomentOf text.now micros }
+    ensures { IsMomentOf text.now result }
+{
+    match moment_of(alloc, text) {
+        Some(moment) => moment,
+        None => unreachable!(),
     }
 }
 
@@ -188,38 +192,78 @@ fn start<O: Sink>(alloc: Global, online: bool, out: &mut O) -> Result<bool, Play
 /// The session sends a Query.
 fn ask<D: Database, O: Sink>(
     alloc: Global,
-    online: bool,
+    catalogue: &Catalogue,
+    scene: Scene,
     text: &[u8],
     database: &mut D,
     out: &mut O,
 ) -> Result<bool, PlayFault>
     requires query { Fits (sent.Query text.now) }
-    requires fits { RowsFit (D.rows database.old) }
+    requires allowed { AreAllowed catalogue.now }
+    requires tables { D.tables database.old ≡ catalogue.now }
     requires ready { D.is_ready database.old }
-    ensures online { IfOk result (λ after. (asked : Option Statement) → IsAsked text.now asked
-        → after ≡ online) }
-    ensures all { OnOk result ((asked : Option Statement) → IsAsked text.now asked
-        → Appends (O.taken out.old) (O.taken out.new) (shown_query online (D.rows database.old)
-        asked)) }
-    ensures rows { OnOk result ((asked : Option Statement) → IsAsked text.now asked
-        → D.rows database.new ≡ rows_then_query online (D.rows database.old) asked) }
-    ensures fits { OnOk result (RowsFit (D.rows database.new)) }
+    ensures online { IfOk result (λ after. after ≡ scene.online) }
+    ensures all { OnOk result (IsQueryShown scene.online catalogue.now (D.rows database.old)
+        scene.moment text.now (O.taken out.old) (O.taken out.new) (D.rows database.new)) }
+    ensures tables { OnOk result (D.tables database.new ≡ D.tables database.old) }
     ensures copies { OnOk result (D.copies database.new ≡ D.copies database.old) }
     ensures ready { OnOk result (D.is_ready database.new) }
-    ensures front { OnErr result ((asked : Option Statement) → IsAsked text.now asked
-        → AppendsFront (O.taken out.old) (O.taken out.new) (shown_query online (D.rows
-        database.old) asked)) }
+    ensures front { OnErr result (IsQueryShownInPart scene.online catalogue.now
+        (D.rows database.old) scene.moment text.now (O.taken out.old) (O.taken out.new)) }
     ensures cause { IfErr result (λ e. e ≡ faults.SinkFailed
         → Rose (O.fault_count out.old) (O.fault_count out.new)) }
     ensures later { O.fault_count out.old ≤ O.fault_count out.new }
 {
-    if !online {
-        say(out, b"1 gone\n")?;
-        return Ok(false);
+    if scene.online {
+        return query(alloc, catalogue, scene.moment, text, database, out);
     }
+    gone(out)
+}
+
+/// The session is not connected.
+fn gone<O: Sink>(out: &mut O) -> Result<bool, PlayFault>
+    ensures online { IfOk result (λ after. after ≡ false) }
+    ensures all { OnOk result (Appends (O.taken out.old) (O.taken out.new) (ended
+        (codes "1 gone"))) }
+    ensures front { OnErr result (AppendsFront (O.taken out.old) (O.taken out.new) (ended
+        (codes "1 gone"))) }
+    ensures cause { IfErr result (λ e. e ≡ faults.SinkFailed
+        → Rose (O.fault_count out.old) (O.fault_count out.new)) }
+    ensures later { O.fault_count out.old ≤ O.fault_count out.new }
+{
+    say(out, b"1 gone\n")?;
+    Ok(false)
+}
+
+/// The session, which is connected, sends a Query.
+fn query<D: Database, O: Sink>(
+    alloc: Global,
+    catalogue: &Catalogue,
+    moment: i64,
+    text: &[u8],
+    database: &mut D,
+    out: &mut O,
+) -> Result<bool, PlayFault>
+    requires query { Fits (sent.Query text.now) }
+    requires allowed { AreAllowed catalogue.now }
+    requires tables { D.tables database.old ≡ catalogue.now }
+    requires ready { D.is_ready database.old }
+    ensures online { IfOk result (λ after. after ≡ true) }
+    ensures all { OnOk result (IsQueryShown true catalogue.now (D.rows database.old) moment
+        text.now (O.taken out.old) (O.taken out.new) (D.rows database.new)) }
+    ensures tables { OnOk result (D.tables database.new ≡ D.tables database.old) }
+    ensures copies { OnOk result (D.copies database.new ≡ D.copies database.old) }
+    ensures ready { OnOk result (D.is_ready database.new) }
+    ensures front { OnErr result (IsQueryShownInPart true catalogue.now (D.rows database.old) moment
+        text.now (O.taken out.old) (O.taken out.new)) }
+    ensures cause { IfErr result (λ e. e ≡ faults.SinkFailed
+        → Rose (O.fault_count out.old) (O.fault_count out.new)) }
+    ensures later { O.fault_count out.old ≤ O.fault_count out.new }
+{
     let input = query_bytes(alloc, text)?;
     let mut output = List::new(alloc);
-    let connected = serve(alloc, input.as_slice(), database, &mut output)?;
+    let bytes = input.as_slice();
+    let connected = serve(alloc, catalogue, moment, bytes, database, &mut output)?;
     put_replies(alloc, output.as_slice(), out)?;
     Ok(connected)
 }
@@ -231,42 +275,72 @@ fn query_bytes(alloc: Global, text: &[u8]) -> Result<List<u8>, NoMemory>
 {
     let text = List::from_slice(alloc, text)?;
     let mut input = List::new(alloc);
-    write_client(&ClientMessage::Query { text }, &mut input)?;
+    let message = ClientMessage::Query { text };
+    let written = write_client(&message, &mut input);
+    drop(message);
+    written?;
     Ok(input)
 }
 
 /// The session says that it leaves.
 fn leave<D: Database, O: Sink>(
     alloc: Global,
-    online: bool,
+    catalogue: &Catalogue,
+    scene: Scene,
     database: &mut D,
     out: &mut O,
 ) -> Result<bool, PlayFault>
-    requires fits { RowsFit (D.rows database.old) }
+    requires allowed { AreAllowed catalogue.now }
+    requires tables { D.tables database.old ≡ catalogue.now }
     requires ready { D.is_ready database.old }
     ensures online { IfOk result (λ after. after ≡ false) }
     ensures all { OnOk result (Appends (O.taken out.old) (O.taken out.new) (shown_leave
-        online)) }
+        scene.online)) }
     ensures rows { OnOk result (D.rows database.new ≡ D.rows database.old) }
-    ensures fits { OnOk result (RowsFit (D.rows database.new)) }
+    ensures tables { OnOk result (D.tables database.new ≡ D.tables database.old) }
     ensures copies { OnOk result (D.copies database.new ≡ D.copies database.old) }
     ensures ready { OnOk result (D.is_ready database.new) }
     ensures front { OnErr result (AppendsFront (O.taken out.old) (O.taken out.new) (shown_leave
-        online)) }
+        scene.online)) }
     ensures cause { IfErr result (λ e. e ≡ faults.SinkFailed
         → Rose (O.fault_count out.old) (O.fault_count out.new)) }
     ensures later { O.fault_count out.old ≤ O.fault_count out.new }
 {
-    if !online {
-        say(out, b"1 gone\n")?;
-        return Ok(false);
+    if scene.online {
+        return terminate(alloc, catalogue, scene.moment, database, out);
     }
+    gone(out)
+}
+
+/// The session, which is connected, says that it leaves.
+fn terminate<D: Database, O: Sink>(
+    alloc: Global,
+    catalogue: &Catalogue,
+    moment: i64,
+    database: &mut D,
+    out: &mut O,
+) -> Result<bool, PlayFault>
+    requires allowed { AreAllowed catalogue.now }
+    requires tables { D.tables database.old ≡ catalogue.now }
+    requires ready { D.is_ready database.old }
+    ensures online { IfOk result (λ after. after ≡ false) }
+    ensures all { OnOk result (Appends (O.taken out.old) (O.taken out.new) (ended
+        (codes "1 closed"))) }
+    ensures rows { OnOk result (D.rows database.new ≡ D.rows database.old) }
+    ensures tables { OnOk result (D.tables database.new ≡ D.tables database.old) }
+    ensures copies { OnOk result (D.copies database.new ≡ D.copies database.old) }
+    ensures ready { OnOk result (D.is_ready database.new) }
+    ensures front { OnErr result (AppendsFront (O.taken out.old) (O.taken out.new) (ended
+        (codes "1 closed"))) }
+    ensures cause { IfErr result (λ e. e ≡ faults.SinkFailed
+        → Rose (O.fault_count out.old) (O.fault_count out.new)) }
+    ensures later { O.fault_count out.old ≤ O.fault_count out.new }
+{
     let input = terminate_bytes(alloc)?;
     let mut output = List::new(alloc);
-    let connected = serve(alloc, input.as_slice(), database, &mut output)?;
-    if !connected {
-        say(out, b"1 closed\n")?;
-    }
+    let bytes = input.as_slice();
+    let connected = serve(alloc, catalogue, moment, bytes, database, &mut output)?;
+    close(!connected, out)?;
     Ok(connected)
 }
 
@@ -279,15 +353,15 @@ fn terminate_bytes(alloc: Global) -> Result<List<u8>, NoMemory>
     Ok(input)
 }
 
-/// At the end of the script, a session that is connected is closed.
-fn close<O: Sink>(online: bool, out: &mut O) -> Result<(), PlayFault>
-    ensures all { OnOk result (Appends (O.taken out.old) (O.taken out.new) (closing online)) }
+/// Writes that the session is closed, where it is.
+fn close<O: Sink>(closes: bool, out: &mut O) -> Result<(), PlayFault>
+    ensures all { OnOk result (Appends (O.taken out.old) (O.taken out.new) (closing closes)) }
     ensures front { OnErr result (AppendsFront (O.taken out.old) (O.taken out.new) (closing
-        online)) }
+        closes)) }
     ensures cause { OnErr result (Rose (O.fault_count out.old) (O.fault_count out.new)) }
     ensures later { O.fault_count out.old ≤ O.fault_count out.new }
 {
-    if online {
+    if closes {
         say(out, b"1 closed\n")
     } else {
         Ok(())

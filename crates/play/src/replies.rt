@@ -1,14 +1,18 @@
 //! The messages that the server makes.
-ghost use Rattle.std.specs.Prelude.{◌≡◌, ◌++◌, ◌∷◌, [], IfOk, length, map, codes};
-ghost use Rattle.std.specs.Fmt.{decimal, signed_decimal};
+ghost use Rattle.std.specs.Prelude.{◌≡◌, ◌≤◌, IfOk, length, All};
+ghost use Rattle.std.specs.List.{AllZip};
+ghost use Rattle.pg_values.specs.Range.{IsInRange};
 ghost use Rattle.pg_messages.specs.declared.server.ServerMessage.TheVariants as messages;
 ghost use Rattle.pg_messages.specs.Server.{Fits};
-ghost use Rattle.play.specs.Replies.{columns, column, cell_text, row_message, error_message, error_parts, part, text_of_code};
+ghost use Rattle.sql_eval.specs.Reads.{row_size};
+ghost use Rattle.play.specs.Answering.{IsCellText, IsHeld, IsRowInRange, IsShort};
+ghost use Rattle.play.specs.Replies.{field_of, fields_of, size_of, tag_of, IsRowMessage, error_message, error_parts, part};
 
 use backend_trait::Row;
+use catalogue::{CheckedBody, ColumnDesc};
 use pg_messages::{Field, Part, ServerMessage};
-use pg_values::Value;
-use pool_base::{Code, List, NoMemory};
+use pg_values::{ColType, Value, oid_of, text_of};
+use pool_base::{Code, List, NoMemory, Text};
 use std::alloc::Global;
 
 /// A setting that is told at the start.
@@ -20,27 +24,42 @@ pub(crate) fn setting(alloc: Global, name: &[u8], value: &[u8]) -> Result<Server
     Ok(ServerMessage::ParameterStatus { name, value })
 }
 
-/// The columns of t.
-#[tactic(auto, unfolding(crate::specs::Replies::columns))]
-pub(crate) fn row_description(alloc: Global) -> Result<ServerMessage, NoMemory>
-    ensures { IfOk result (λ message. message ≡ messages.RowDescription columns) }
+/// The columns of a result, in text form.
+pub(crate) fn row_description(
+    alloc: Global,
+    columns: &[ColumnDesc],
+) -> Result<ServerMessage, NoMemory>
+    ensures { IfOk result (λ message. message ≡ messages.RowDescription (fields_of columns.now)) }
 {
     let mut fields = List::new(alloc);
-    fields.push(column(alloc, b"id", 23, 4)?)?;
-    fields.push(column(alloc, b"v", 20, 8)?)?;
+    for one in columns {
+        fields.push(column(alloc, one)?)?;
+    }
     Ok(ServerMessage::RowDescription { fields })
 }
 
+/// The size of a type's values in bytes; -1 where they have no one size.
+fn size_of(kind: ColType) -> i16
+    ensures { result ≡ size_of kind }
+{
+    match kind {
+        ColType::Bool => 1,
+        ColType::Int4 => 4,
+        ColType::Int8 | ColType::Moment => 8,
+        ColType::Text => -1,
+    }
+}
+
 /// A column in text form: its name, the OID and the size of its type.
-fn column(alloc: Global, name: &[u8], kind: u32, size: i16) -> Result<Field, NoMemory>
-    ensures { IfOk result (λ field. field ≡ column name.now kind size) }
+fn column(alloc: Global, column: &ColumnDesc) -> Result<Field, NoMemory>
+    ensures { IfOk result (λ field. field ≡ field_of column.now) }
 {
     Ok(Field {
-        name: List::from_slice(alloc, name)?,
+        name: List::from_slice(alloc, column.name.as_bytes())?,
         table: 0,
         column: 0,
-        kind,
-        size,
+        kind: oid_of(column.kind),
+        size: size_of(column.kind),
         modifier: -1,
         format: 0,
     })
@@ -48,14 +67,18 @@ fn column(alloc: Global, name: &[u8], kind: u32, size: i16) -> Result<Field, NoM
 
 /// A row in text form.
 pub(crate) fn row_message(alloc: Global, row: &Row) -> Result<ServerMessage, NoMemory>
-    ensures { IfOk result (λ message. message ≡ row_message row.now) }
+    requires { IsRowInRange row.now }
+    ensures row { IfOk result (IsRowMessage row.now) }
+    ensures fits { IfOk result (λ message. length row.now.cells ≤ 1664 → row_size row.now ≤ 1048000
+        → Fits message) }
 {
     let values = row_values(alloc, row.cells.as_slice())?;
     Ok(ServerMessage::DataRow { values })
 }
 
 fn row_values(alloc: Global, cells: &[Value]) -> Result<List<Option<List<u8>>>, NoMemory>
-    ensures { IfOk result (λ texts. texts ≡ map cell_text cells.now) }
+    requires { All IsInRange cells.now }
+    ensures { IfOk result (AllZip IsCellText cells.now) }
 {
     let mut values = List::new(alloc);
     for value in cells {
@@ -66,66 +89,67 @@ fn row_values(alloc: Global, cells: &[Value]) -> Result<List<Option<List<u8>>>, 
 
 /// A value as text; None is null.
 fn cell_text(alloc: Global, value: &Value) -> Result<Option<List<u8>>, NoMemory>
-    ensures { IfOk result (λ text. text ≡ cell_text value.now) }
+    requires { IsInRange value.now }
+    ensures { IfOk result (IsCellText value.now) }
 {
-    match value {
-        Value::Null => Ok(None),
-        Value::Bool(true) => Ok(Some(List::from_slice(alloc, b"t")?)),
-        Value::Bool(false) => Ok(Some(List::from_slice(alloc, b"f")?)),
-        Value::Int4(number) => Ok(Some(number_text(alloc, i64::from(*number))?)),
-        Value::Int8(number) => Ok(Some(number_text(alloc, *number)?)),
-        Value::Text(text) => Ok(Some(List::from_slice(alloc, text.as_bytes())?)),
-        Value::Moment(micros) => Ok(Some(number_text(alloc, *micros)?)),
+    is_held(value);
+    match text_of(alloc, value)? {
+        None => Ok(None),
+        Some(text) => Ok(Some(List::from_slice(alloc, text.as_bytes())?)),
     }
 }
 
-fn number_text(alloc: Global, number: i64) -> Result<List<u8>, NoMemory>
-    ensures { IfOk result (λ text. text ≡ signed_decimal number) }
+/// A whole number is in the range of its type.
+fn is_held(value: &Value)
+    ensures { IsHeld value.now }
 {
-    let text = format!(in alloc; "{number}")?;
-    List::from_slice(alloc, text.as_bytes())
+    match value {
+        Value::Int4(number) => {
+            let _number = *number;
+        }
+        Value::Int8(number) => {
+            let _number = *number;
+        }
+        Value::Null | Value::Bool(_) | Value::Text(_) | Value::Moment(_) => {}
+    }
 }
 
-/// The end of a SELECT that gave so many rows.
-pub(crate) fn selected(alloc: Global, count: usize) -> Result<ServerMessage, NoMemory>
-    ensures tag { IfOk result
-        (λ message. message ≡ messages.Complete (codes "SELECT " ++ decimal count)) }
+/// The tag of a statement that is done, with the count of its rows.
+fn tag_text(alloc: Global, body: &CheckedBody, count: u64) -> Result<Text, NoMemory>
+    ensures { IfOk result (λ text. text ≡ tag_of body.now count) }
+{
+    Ok(Text::from_string(match body {
+        CheckedBody::Read(_) => format!(in alloc; "SELECT {count}")?,
+        CheckedBody::Insert(_) => format!(in alloc; "INSERT 0 {count}")?,
+        CheckedBody::Change(_) => format!(in alloc; "UPDATE {count}")?,
+        CheckedBody::Remove(_) => format!(in alloc; "DELETE {count}")?,
+    }))
+}
+
+/// The end of a statement that is done, with the count of its rows.
+pub(crate) fn written(
+    alloc: Global,
+    body: &CheckedBody,
+    count: u64,
+) -> Result<ServerMessage, NoMemory>
+    ensures tag { IfOk result (λ message. message ≡ messages.Complete (tag_of body.now count)) }
     ensures fits { IfOk result Fits }
 {
-    let tag = selected_tag(alloc, count)?;
+    let text = tag_text(alloc, body, count)?;
+    let tag = List::from_slice(alloc, text.as_bytes())?;
     Ok(ServerMessage::Complete { tag })
 }
 
-fn selected_tag(alloc: Global, count: usize) -> Result<List<u8>, NoMemory>
-    ensures { IfOk result (λ tag. tag ≡ codes "SELECT " ++ decimal count) }
+/// The error of a code, with this text.
+pub(crate) fn error_message(
+    alloc: Global,
+    code: Code,
+    text: &[u8],
+) -> Result<ServerMessage, NoMemory>
+    ensures error { IfOk result (λ message. message ≡ error_message code.bytes text.now) }
+    ensures fits { IfOk result (λ message. IsShort text.now → Fits message) }
 {
-    let text = format!(in alloc; "SELECT {count}")?;
-    List::from_slice(alloc, text.as_bytes())
-}
-
-/// The end of an INSERT of so many rows.
-pub(crate) fn inserted(alloc: Global, count: u64) -> Result<ServerMessage, NoMemory>
-    ensures tag { IfOk result
-        (λ message. message ≡ messages.Complete (codes "INSERT 0 " ++ decimal count)) }
-    ensures fits { IfOk result Fits }
-{
-    let tag = inserted_tag(alloc, count)?;
-    Ok(ServerMessage::Complete { tag })
-}
-
-fn inserted_tag(alloc: Global, count: u64) -> Result<List<u8>, NoMemory>
-    ensures { IfOk result (λ tag. tag ≡ codes "INSERT 0 " ++ decimal count) }
-{
-    let text = format!(in alloc; "INSERT 0 {count}")?;
-    List::from_slice(alloc, text.as_bytes())
-}
-
-/// The error of a code.
-pub(crate) fn error_message(alloc: Global, code: Code) -> Result<ServerMessage, NoMemory>
-    ensures error { IfOk result (λ message. message ≡ error_message code.bytes) }
-    ensures fits { IfOk result Fits }
-{
-    let parts = error_parts(alloc, code_bytes(&code.bytes), text_of_code(code))?;
+    let parts = error_parts(alloc, code_bytes(&code.bytes), text)?;
     Ok(ServerMessage::Error { parts })
 }
 
@@ -154,14 +178,4 @@ fn part(alloc: Global, tag: u8, text: &[u8]) -> Result<Part, NoMemory>
         tag,
         text: List::from_slice(alloc, text)?,
     })
-}
-
-fn text_of_code(code: Code) -> &'static [u8]
-    ensures { result.now ≡ text_of_code code.bytes }
-{
-    if code.bytes.as_slice() == b"23505".as_slice() {
-        b"duplicate key"
-    } else {
-        b"refused by the backends"
-    }
 }

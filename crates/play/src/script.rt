@@ -1,15 +1,19 @@
 //! Which scripts are played.
-ghost use Rattle.std.specs.Prelude.{◌≡◌, ◌↔◌, IsTrue, map};
-ghost use Rattle.pgproto.specs.Line.{Line, line_of, query, session, terminate};
-ghost use Rattle.play.specs.Script.{Deed, IsAnyAsked, IsSession, IsStep, IsTailOf, line_for};
+ghost use Rattle.std.specs.Prelude.{◌≡◌, ◌↔◌, ℕ, IsTrue, IsSome, List, map};
+ghost use Rattle.pgproto.specs.Line.{Line, line_of, moment, query, session, terminate};
+ghost use Rattle.play.specs.Script.{IsSession, IsSessionFrom, IsStep};
+ghost use Rattle.play.specs.Parts.{IsMomentRead, IsNextOr, part_of};
 
+use pg_values::{ColType, Value, ValueFault, from_text};
 use pgproto::ScriptLine;
-use played_sql::read_statement;
+use std::alloc::Global;
 
-/// What a line has session 1 do.
+/// What a line does.
 #[derive(Clone, Copy)]
 pub(crate) enum Step<'a> {
-    /// It connects.
+    /// It sets the moment.
+    Set(&'a [u8]),
+    /// Session 1 connects.
     Connect,
     /// It sends this text in a Query.
     Ask(&'a [u8]),
@@ -19,18 +23,18 @@ pub(crate) enum Step<'a> {
     Other,
 }
 
-/// What the line has session 1 do.
+/// What the line does.
 pub(crate) fn step_of(line: &ScriptLine) -> Step<'_>
     ensures { IsStep (line_of line.now) result }
 {
     match line {
+        ScriptLine::Moment(text) => Step::Set(text.as_bytes()),
         ScriptLine::Session(s) if s.number == 1 => Step::Connect,
         ScriptLine::Query(s, text) if s.number == 1 => Step::Ask(text.as_bytes()),
         ScriptLine::Terminate(s) if s.number == 1 => Step::Leave,
         ScriptLine::Session(_)
         | ScriptLine::Lose(_)
         | ScriptLine::Cut(_)
-        | ScriptLine::Moment(_)
         | ScriptLine::Hold(_)
         | ScriptLine::Go(_)
         | ScriptLine::Until(_, _)
@@ -47,38 +51,97 @@ pub(crate) fn step_of(line: &ScriptLine) -> Step<'_>
     }
 }
 
-/// Whether the script is one of session 1 that is played: no line, or `session 1`, then Query lines
-/// whose text is empty or a statement, then at most one `1 'X'`.
-pub fn is_session(script: &[ScriptLine]) -> bool
-    ensures { IsTrue result ↔ IsSession (map line_of script.now) }
+/// The moment of a text, if it is a text form of one.
+pub(crate) fn moment_of(alloc: Global, text: &[u8]) -> Option<i64>
+    ensures { IsMomentRead text.now result }
 {
-    match script {
-        [] => true,
-        [first, rest @ ..] => match step_of(first) {
-            Step::Connect => is_tail(rest),
-            Step::Ask(_) | Step::Leave | Step::Other => false,
-        },
+    match from_text(alloc, ColType::Moment, text) {
+        Ok(Value::Moment(micros)) => Some(micros),
+        Ok(_) => None,
+        Err(ValueFault::Bad(_)) => None,
+        // Memory is refused for a text alone.
+        Err(ValueFault::NoMemory) => unreachable!(),
     }
 }
 
-/// Whether the lines are what may follow `session 1`.
-fn is_tail(lines: &[ScriptLine]) -> bool
-    ensures { IsTrue result ↔ IsTailOf (map line_of lines.now) }
+/// Where the lines of a script are.
+#[derive(Clone, Copy, Debug, PartialEq, Eq)]
+enum Part {
+    /// No session yet.
+    Before,
+    /// Session 1.
+    Within,
+    /// No session any more.
+    Behind,
+}
+
+/// Where the lines are behind one more line. None: it may not stand there.
+fn next_part(alloc: Global, part: Part, line: &ScriptLine) -> Option<Part>
+    ensures { IsNextOr (part_of part) (line_of line.now) result }
 {
-    let mut rest = lines;
-    while let [line, after @ ..] = rest {
-        match step_of(line) {
-            Step::Ask(text) if is_asked(text) => rest = after,
-            Step::Leave => return after.is_empty(),
-            Step::Ask(_) | Step::Connect | Step::Other => return false,
+    match step_of(line) {
+        Step::Set(text) => behind_moment(alloc, part, text),
+        Step::Connect => behind_session(part),
+        Step::Ask(_) => behind_query(part),
+        Step::Leave => behind_leaving(part),
+        Step::Other => None,
+    }
+}
+
+/// Where they are behind a line that sets the moment.
+fn behind_moment(alloc: Global, part: Part, text: &[u8]) -> Option<Part>
+    ensures { IsNextOr (part_of part) (moment text.now) result }
+{
+    match moment_of(alloc, text) {
+        Some(_) => Some(part),
+        None => None,
+    }
+}
+
+/// Where they are behind the line by which session 1 connects.
+fn behind_session(part: Part) -> Option<Part>
+    ensures { IsNextOr (part_of part) (session 1) result }
+{
+    match part {
+        Part::Before => Some(Part::Within),
+        Part::Within => None,
+        Part::Behind => None,
+    }
+}
+
+/// Where they are behind a Query.
+fn behind_query(part: Part) -> Option<Part>
+    ensures { (text : List ℕ) → IsNextOr (part_of part) (query 1 text) result }
+{
+    match part {
+        Part::Before => None,
+        Part::Within => Some(Part::Within),
+        Part::Behind => None,
+    }
+}
+
+/// Where they are behind the line by which session 1 leaves.
+fn behind_leaving(part: Part) -> Option<Part>
+    ensures { IsNextOr (part_of part) (terminate 1) result }
+{
+    match part {
+        Part::Before => None,
+        Part::Within => Some(Part::Behind),
+        Part::Behind => None,
+    }
+}
+
+/// Whether the script is one of session 1 that is played: `session 1`, then Query lines, then at
+/// most one `1 'X'`, and moments between them.
+pub fn is_session(alloc: Global, script: &[ScriptLine]) -> bool
+    ensures { IsTrue result ↔ IsSession (map line_of script.now) }
+{
+    let mut part = Part::Before;
+    for line in script {
+        match next_part(alloc, part, line) {
+            Some(next) => part = next,
+            None => return false,
         }
     }
     true
-}
-
-/// Whether the text asks for a statement, or for nothing.
-fn is_asked(text: &[u8]) -> bool
-    ensures { IsTrue result ↔ IsAnyAsked text.now }
-{
-    text.is_empty() || read_statement(text).is_some()
 }

@@ -1,22 +1,26 @@
 //! The server's side of one session: a message's bytes in, the bytes of the replies out.
-ghost use Rattle.std.specs.Prelude.{◌≡◌, ◌++◌, ◌∷◌, [], ℕ, List, Option, Some, None, option_map, pos, true, false, IfOk, OnOk, All, map, codes, length};
-ghost use Rattle.std.specs.Fmt.{decimal};
+ghost use Rattle.std.specs.Prelude.{◌≡◌, ◌<◌, ◌^◌, ◌++◌, ◌∷◌, [], ℕ, List, option_map, pos, true, false, IfOk, OnOk, length};
 ghost use Rattle.pg_messages.specs.Server.{Fits};
 ghost use Rattle.pg_messages.specs.declared.client.ClientMessage.TheVariants as sent;
 ghost use Rattle.pg_messages.specs.declared.server.ServerMessage.TheVariants as messages;
-ghost use Rattle.played_sql.specs.Grammar.{Spells};
-ghost use Rattle.played_sql.specs.declared.statement.Statement.{Statement};
-ghost use Rattle.play.specs.Replies.{Sent, settings, start_up, columns, row_message, error_message, answer_messages, replies_to, rows_left_by, RowFits, RowsFit, AnswerFits};
-ghost use Rattle.play.specs.Script.{IsAsked};
+ghost use Rattle.std.specs.List.{list_all};
+ghost use Rattle.pg_messages.specs.declared.server.ServerMessage.{ServerMessage};
+ghost use Rattle.schema_print.specs.Allowed.{AreAllowed};
+ghost use Rattle.typed_effects.specs.Typed.{has_columns};
+ghost use Rattle.backend_trait.specs.Runnable.{is_of_run};
+ghost use Rattle.play.specs.Replies.{Sent, AreAnswers, AreReplies, AreRows, rows_left_by, settings, start_up, error_message};
+ghost use Rattle.play.specs.Answering.{AreNamed, IsAnswered, IsReady, IsShort};
+ghost use Rattle.play.specs.Told.{asked_of};
 ghost use Rattle.play.specs.Opening.{HoldsStart, HoldsClient, is_start, query_in, is_label};
 
+use crate::asked::{Asked, asked_by};
+use crate::codes::text_of_code;
 use crate::database::Database;
-use crate::replies::{error_message, inserted, row_description, row_message, selected, setting};
-use backend_trait::{Answer, Row};
+use crate::replies::{error_message, row_description, row_message, setting, written};
+use backend_trait::{Answer, Catalogue, Checked, Row};
 use pg_messages::{
     ClientMessage, Read, ServerMessage, StartMessage, read_client, read_start, write_server,
 };
-use played_sql::read_statement;
 use pool_base::{Code, List, NoMemory, SessionId};
 use std::alloc::Global;
 
@@ -54,29 +58,39 @@ fn is_start(read: &Read<StartMessage>) -> bool
     }
 }
 
-/// Reads a message of the client, and does what it asks. Says whether the client stays connected.
+/// Reads a message of the client, and does what it asks at a moment. Says whether the client stays
+/// connected.
 pub(crate) fn serve<S: Database>(
     alloc: Global,
+    catalogue: &Catalogue,
+    moment: i64,
     input: &[u8],
     database: &mut S,
     output: &mut List<u8>,
 ) -> Result<bool, NoMemory>
-    requires fits { RowsFit (S.rows database.old) }
+    requires allowed { AreAllowed catalogue.now }
+    requires tables { S.tables database.old ≡ catalogue.now }
     requires ready { S.is_ready database.old }
-    ensures query { IfOk result (λ online. (text : List ℕ) (asked : Option Statement)
-        → HoldsClient input.now (sent.Query text) → IsAsked text asked
-        → (online ≡ true) × Sent output.old output.new (replies_to (S.rows database.old) asked)
-        × (S.rows database.new ≡ rows_left_by (S.rows database.old) asked)) }
+    ensures query { IfOk result (λ online. (text : List ℕ) → HoldsClient input.now (sent.Query text)
+        → (online ≡ true) × IsAnswered catalogue.now (S.rows database.old) moment text output.old
+        output.new (S.rows database.new)) }
     ensures terminate { IfOk result (λ online. HoldsClient input.now sent.Terminate
         → (online ≡ false) × (S.rows database.new ≡ S.rows database.old)) }
-    ensures kept { OnOk result (RowsFit (S.rows database.new)) }
+    ensures tables { OnOk result (S.tables database.new ≡ S.tables database.old) }
     ensures copies { OnOk result (S.copies database.new ≡ S.copies database.old) }
     ensures ready { OnOk result (S.is_ready database.new) }
 {
     let read = read_client(alloc, input)?;
     match query_in(&read) {
-        Some(text) => answer_query(alloc, text, database, output),
-        None => Ok(false),
+        Some(text) => {
+            let online = answer_query(alloc, catalogue, moment, text, database, output);
+            drop(read);
+            online
+        }
+        None => {
+            drop(read);
+            Ok(false)
+        }
     }
 }
 
@@ -93,62 +107,84 @@ fn query_in(read: &Read<ClientMessage>) -> Option<&[u8]>
     }
 }
 
-/// Does what a Query's text asks, and answers.
+/// Does what a Query's text asks for at a moment, and answers.
 fn answer_query<S: Database>(
     alloc: Global,
+    catalogue: &Catalogue,
+    moment: i64,
     text: &[u8],
     database: &mut S,
     output: &mut List<u8>,
 ) -> Result<bool, NoMemory>
-    requires fits { RowsFit (S.rows database.old) }
+    requires allowed { AreAllowed catalogue.now }
+    requires short { length text.now < 2 ^ 32 }
+    requires tables { S.tables database.old ≡ catalogue.now }
     requires ready { S.is_ready database.old }
-    ensures query { IfOk result (λ online. (asked : Option Statement) → IsAsked text.now asked
-        → (online ≡ true) × Sent output.old output.new (replies_to (S.rows database.old) asked)
-        × (S.rows database.new ≡ rows_left_by (S.rows database.old) asked)) }
-    ensures kept { OnOk result (RowsFit (S.rows database.new)) }
+    ensures online { IfOk result (λ online. online ≡ true) }
+    ensures query { OnOk result (IsAnswered catalogue.now (S.rows database.old) moment text.now
+        output.old output.new (S.rows database.new)) }
+    ensures tables { OnOk result (S.tables database.new ≡ S.tables database.old) }
     ensures copies { OnOk result (S.copies database.new ≡ S.copies database.old) }
     ensures ready { OnOk result (S.is_ready database.new) }
 {
-    if text.is_empty() {
-        answer_nothing(output)?;
-        return Ok(true);
-    }
-    answer_statement(alloc, text, database, output)
+    let asked = asked_by(alloc, catalogue, moment, text)?;
+    let online = answer_fully(alloc, &asked, database, output);
+    drop(asked);
+    online
 }
 
-/// Answers the empty text.
-fn answer_nothing(output: &mut List<u8>) -> Result<(), NoMemory>
-    ensures { OnOk result (Sent output.old output.new (messages.Empty ∷ messages.Ready 73 ∷ [])) }
-{
-    send(ServerMessage::Empty, output)?;
-    send(ServerMessage::Ready { status: IDLE }, output)?;
-    Ok(())
-}
-
-/// Runs the statement of a text, and answers.
-fn answer_statement<S: Database>(
+/// Does what was asked for, and sends what it gives and that the session is idle again.
+fn answer_fully<S: Database>(
     alloc: Global,
-    text: &[u8],
+    asked: &Asked,
     database: &mut S,
     output: &mut List<u8>,
 ) -> Result<bool, NoMemory>
-    requires fits { RowsFit (S.rows database.old) }
+    requires asked { IsReady (S.tables database.old) (asked_of asked.now) }
     requires ready { S.is_ready database.old }
-    ensures query { IfOk result (λ online. (statement : Statement) → Spells text.now statement
-        → (online ≡ true)
-        × Sent output.old output.new (replies_to (S.rows database.old) (Some statement))
-        × (S.rows database.new ≡ rows_left_by (S.rows database.old) (Some statement))) }
-    ensures kept { OnOk result (RowsFit (S.rows database.new)) }
+    ensures online { IfOk result (λ online. online ≡ true) }
+    ensures replies { OnOk result ((all : List ServerMessage)
+        × AreReplies (S.tables database.old) (S.rows database.old) (asked_of asked.now) all
+        × Sent output.old output.new all) }
+    ensures rows { OnOk result (S.rows database.new ≡ rows_left_by (S.tables database.old)
+        (S.rows database.old) (asked_of asked.now)) }
+    ensures tables { OnOk result (S.tables database.new ≡ S.tables database.old) }
     ensures copies { OnOk result (S.copies database.new ≡ S.copies database.old) }
     ensures ready { OnOk result (S.is_ready database.new) }
 {
-    let Some(statement) = read_statement(text) else {
-        return Ok(false);
-    };
-    let answer = database.run(statement)?;
-    send_answer(alloc, answer, output)?;
+    answer_asked(alloc, asked, database, output)?;
     send(ServerMessage::Ready { status: IDLE }, output)?;
     Ok(true)
+}
+
+/// Does what was asked for, and sends what it gives.
+#[tactic(auto, unfolding(crate::specs::Replies::rows_left_by))]
+fn answer_asked<S: Database>(
+    alloc: Global,
+    asked: &Asked,
+    database: &mut S,
+    output: &mut List<u8>,
+) -> Result<(), NoMemory>
+    requires asked { IsReady (S.tables database.old) (asked_of asked.now) }
+    requires ready { S.is_ready database.old }
+    // All that is sent, but that the session is idle again.
+    ensures replies { OnOk result ((all : List ServerMessage)
+        × AreReplies (S.tables database.old) (S.rows database.old) (asked_of asked.now)
+        (all ++ messages.Ready 73 ∷ []) × Sent output.old output.new all) }
+    ensures rows { OnOk result (S.rows database.new ≡ rows_left_by (S.tables database.old)
+        (S.rows database.old) (asked_of asked.now)) }
+    ensures tables { OnOk result (S.tables database.new ≡ S.tables database.old) }
+    ensures copies { OnOk result (S.copies database.new ≡ S.copies database.old) }
+    ensures ready { OnOk result (S.is_ready database.new) }
+{
+    match asked {
+        Asked::Nothing => send(ServerMessage::Empty, output),
+        Asked::Refused { code, message } => send_error(alloc, *code, message.as_bytes(), output),
+        Asked::Runs(statement) => {
+            let answer = database.run(statement)?;
+            send_answer(alloc, statement, answer, output)
+        }
+    }
 }
 
 /// Sends the messages that let a client in.
@@ -202,50 +238,60 @@ fn send_setting(
 }
 
 /// Sends the messages for an answer to a statement.
-#[tactic(auto, unfolding(crate::specs::Replies::answer_messages))]
-fn send_answer(alloc: Global, answer: Answer, output: &mut List<u8>) -> Result<(), NoMemory>
-    requires { AnswerFits answer }
-    ensures { OnOk result (Sent output.old output.new (answer_messages answer)) }
+fn send_answer(
+    alloc: Global,
+    statement: &Checked,
+    answer: Answer,
+    output: &mut List<u8>,
+) -> Result<(), NoMemory>
+    requires form { is_of_run statement.now answer ≡ true }
+    requires named { AreNamed statement.now.columns }
+    ensures { OnOk result ((messages : List ServerMessage)
+        × AreAnswers statement.now answer messages
+        × Sent output.old output.new messages) }
 {
     match answer {
-        Answer::Rows(rows) => send_rows(alloc, rows.as_slice(), output)?,
-        Answer::Count(count) => send_count(alloc, count, output)?,
-        Answer::Refused(code) => send_error(alloc, code, output)?,
+        Answer::Rows(rows) => send_rows(alloc, statement, rows.as_slice(), output)?,
+        Answer::Count(count) => {
+            let message = written(alloc, &statement.body, count)?;
+            send(message, output)?;
+        }
+        Answer::Refused(code) => {
+            send_error(alloc, code, text_of_code(code).as_bytes(), output)?;
+        }
         Answer::Began | Answer::Locked | Answer::Done | Answer::Serial(_) => {}
     }
     Ok(())
 }
 
-fn send_rows(alloc: Global, rows: &[Row], output: &mut List<u8>) -> Result<(), NoMemory>
-    requires { All RowFits rows.now }
-    ensures { OnOk result (Sent output.old output.new (messages.RowDescription columns ∷ (map
-        row_message rows.now ++ messages.Complete (codes "SELECT " ++ decimal (length
-        rows.now)) ∷ []))) }
+fn send_rows(
+    alloc: Global,
+    statement: &Checked,
+    rows: &[Row],
+    output: &mut List<u8>,
+) -> Result<(), NoMemory>
+    requires form { list_all (has_columns statement.now.columns) rows.now ≡ true }
+    requires named { AreNamed statement.now.columns }
+    ensures { OnOk result ((messages : List ServerMessage) × AreRows statement.now rows.now messages
+        × Sent output.old output.new messages) }
 {
-    let description = row_description(alloc)?;
+    let description = row_description(alloc, statement.columns.as_slice())?;
     send(description, output)?;
     for row in rows {
         let message = row_message(alloc, row)?;
         send(message, output)?;
     }
-    let tag = selected(alloc, rows.len())?;
+    let tag = written(alloc, &statement.body, rows.len() as u64)?;
     send(tag, output)?;
     Ok(())
 }
 
-fn send_count(alloc: Global, count: u64, output: &mut List<u8>) -> Result<(), NoMemory>
-    ensures { OnOk result (Sent output.old output.new (messages.Complete (codes "INSERT 0 " ++
-        decimal count) ∷ [])) }
+/// Sends an error with this text.
+fn send_error(alloc: Global, code: Code, text: &[u8], output: &mut List<u8>) -> Result<(), NoMemory>
+    requires { IsShort text.now }
+    ensures { OnOk result (Sent output.old output.new (error_message code.bytes text.now ∷ [])) }
 {
-    let message = inserted(alloc, count)?;
-    send(message, output)?;
-    Ok(())
-}
-
-fn send_error(alloc: Global, code: Code, output: &mut List<u8>) -> Result<(), NoMemory>
-    ensures { OnOk result (Sent output.old output.new (error_message code.bytes ∷ [])) }
-{
-    let message = error_message(alloc, code)?;
+    let message = error_message(alloc, code, text)?;
     send(message, output)?;
     Ok(())
 }

@@ -1,15 +1,13 @@
 -- What each stage says of the end of the run.
-use Rattle.std.proofs.Common.{◌≡◌, ◌≢◌, ℕ, ◌<◌, ◌≤◌, length, true, List, refl, sym, ◌∙◌, subst}
+use Rattle.std.proofs.Common.{◌≡◌, ◌≢◌, ℕ, ◌<◌, ◌≤◌, length, true, List, [], refl, subst}
 use Rattle.std.specs.Prelude.{Option, Some, None, Err}
-use Rattle.std.specs.FinMap as fin
 use Rattle.pool_base.specs.Outside.{Appends}
-use Rattle.pool_base.proofs.Sinking.{rose_after}
-use Rattle.backend_trait.specs.Rows.{no_rows}
+use Rattle.pool_base.proofs.Sinking.{rose_after, front_nothing}
+use Rattle.backend_trait.specs.Rows.{Rows}
 use Rattle.backend_trait.specs.Store.{Store}
-use Rattle.backend_trait.specs.Keys.{place_order}
 use Rattle.pgproto.specs.Line.{Line}
-use Rattle.play.specs.Script.{IsSession, ArePlayed}
-use Rattle.play.specs.Replies.{RowsFit}
+use Rattle.play.specs.Script.{IsSession, first_scene}
+use Rattle.play.specs.Transcript.{ArePlayedInPart, none_beyond}
 use Rattle.pool.specs.declared.status.Status.{Status}
 use Rattle.pool.specs.declared.status.Status.TheVariants.{Done, NoCommand, Refused, ScriptRefused, FilesFailed, SinkFailed, NoMemory, NotBuilt}
 use Rattle.pool_base.specs.Outside.{Told}
@@ -23,10 +21,10 @@ use Rattle.pool.specs.Scripts.{IsReadAs}
 use Rattle.schema.specs.declared.catalogue.TableDef.{TableDef}
 use Rattle.pool.specs.declared.schemas.SchemaStop.{SchemaStop}
 use Rattle.pool.specs.declared.schemas.SchemaStop.TheVariants as schemas
-use Rattle.pool.specs.Schemas.{built_tables, IsSchemaAnswer, schema_too_long, bad_schema_line}
+use Rattle.pool.specs.Schemas.{IsSchemaAnswer, schema_too_long, bad_schema_line}
 use Rattle.pool.specs.Texts.{IsBuilt, IsRead, config_name, schema_name, is_plain}
 use Rattle.pool.specs.Reading.{IsFault}
-use Rattle.pool.specs.Ends.{Outside, outside, Says, IsSchemaRefusal, NoCommandEnds, RefusedEnds, UnbuiltEnds, UnreadEnds, no_command, not_built, fault_line}
+use Rattle.pool.specs.Ends.{Outside, outside, Says, IsSchemaRefusal, NoCommandEnds, RefusedEnds, UnbuiltEnds, UnreadEnds, ScriptEnds, no_command, not_built, fault_line}
 use Rattle.pool.specs.Ends.{ScriptStageEnds, script_unread, script_read, SchemaEnds, schema_stands, schema_refused, schema_unparsed, RestEnds, schema_unread, schema_read, ConfigEnds, configured, faulty, unparsed, CommandEnds, unread, read, WordsEnd}
 
 pub said : (s : Status) (bytes : List ℕ) (a b : Option (List ℕ)) (n m : ℕ) → s ≢ SinkFailed → Appends a b bytes → Says s s bytes a b n m
@@ -112,25 +110,25 @@ unread_after NotBuilt a b c o h p = p
 -- the same of an earlier count
 script_after : (contents : List ℕ → Told) (a b c : ℕ) (command : Command) (config : Config) (tables : List TableDef) (s : Status) (o : Outside) → a ≤ b
     → ScriptStageEnds contents b c command config tables s o → ScriptStageEnds contents a c command config tables s o
-script_after contents a b c command config tables s o h (script_unread e) = script_unread (unread_after s a b c o h e)
+script_after contents a b c command config tables s o h (script_unread kept e) = script_unread kept (unread_after s a b c o h e)
 script_after contents a b c command config tables s o h (script_read script e f) = script_read script e f
 
 schema_after : (contents : List ℕ → Told) (a b c : ℕ) (command : Command) (config : Config) (schema : Option (List ℕ)) (s : Status) (o : Outside) → a ≤ b
     → SchemaEnds contents b c command config schema s o → SchemaEnds contents a c command config schema s o
 schema_after contents a b c command config schema s o h (schema_stands tables says e) = schema_stands tables says (script_after contents a b c command config tables s o h e)
 schema_after contents a b c command config schema s o h (schema_refused bytes why rows e) = schema_refused bytes why rows e
-schema_after contents a b c command config schema s o h (schema_unparsed memory same) = schema_unparsed memory same
+schema_after contents a b c command config schema s o h (schema_unparsed memory same kept) = schema_unparsed memory same kept
 
 rest_after : (contents : List ℕ → Told) (a b c : ℕ) (command : Command) (config : Config) (s : Status) (o : Outside) → a ≤ b
     → RestEnds contents b c command config s o → RestEnds contents a c command config s o
-rest_after contents a b c command config s o h (schema_unread e) = schema_unread (unread_after s a b c o h e)
+rest_after contents a b c command config s o h (schema_unread kept e) = schema_unread kept (unread_after s a b c o h e)
 rest_after contents a b c command config s o h (schema_read schema d e) = schema_read schema d (schema_after contents a b c command config schema s o h e)
 
 config_after : (contents : List ℕ → Told) (a b c : ℕ) (command : Command) (text : List ℕ) (s : Status) (o : Outside) → a ≤ b
     → ConfigEnds contents b c command text s o → ConfigEnds contents a c command text s o
 config_after contents a b c command text s o h (configured config is e) = configured config is (rest_after contents a b c command config s o h e)
 config_after contents a b c command text s o h (faulty fault is none rows e) = faulty fault is none rows e
-config_after contents a b c command text s o h (unparsed memory same) = unparsed memory same
+config_after contents a b c command text s o h (unparsed memory same kept) = unparsed memory same kept
 
 -- the files tell the same after the configuration was read
 pub config_read : (contents later : List ℕ → Told) (a b c : ℕ) (command : Command) (text : List ℕ) (s : Status) (o : Outside) → later ≡ contents → a ≤ b
@@ -148,7 +146,7 @@ rest_read contents later a b c command config schema s o same h is e =
 pub config_fault : (fault : ConfigFault) (contents : List ℕ → Told) (before : ℕ) (command : Command) (text : List ℕ) (s : Status) (o : Outside) → configuration.Says text (Err fault)
     → ((config : Config) → IsConfiguration text config → IsAnswer config (Err fault)) → o.stores_after ≡ o.stores_before
     → (fault ≡ faults.NoMemory → (s ≡ NoMemory) × (o.has ≡ o.had)) → (fault ≢ faults.NoMemory → RefusedEnds Refused (fault_line fault) s o) → ConfigEnds contents before before command text s o
-config_fault faults.NoMemory contents before command text s o says found rows memory refuses = let m = memory refl in unparsed m.0 m.1
+config_fault faults.NoMemory contents before command text s o says found rows memory refuses = let m = memory refl in unparsed m.0 m.1 rows
 config_fault (faults.BadLine n) contents before command text s o says found rows memory refuses =
     faulty (faults.BadLine n) says (λ config is. let e : faults.BadLine n ≡ faults.NoMemory = found config is in absurd (cc)) rows (refuses (λ e. absurd (cc)))
 config_fault (faults.UnknownName n) contents before command text s o says found rows memory refuses =
@@ -163,22 +161,42 @@ pub schema_stop : (stop : SchemaStop) (contents : List ℕ → Told) (before : �
     → IsSchemaRefusal stop s o → SchemaEnds contents before before command config schema s o
 schema_stop schemas.TooLong contents before command config schema s o why rows e = schema_refused schema_too_long why rows e
 schema_stop (schemas.BadLine n) contents before command config schema s o why rows e = schema_refused (bad_schema_line n) why rows e
-schema_stop schemas.NoMemory contents before command config schema s o why rows (memory, same) = schema_unparsed memory same
+schema_stop schemas.NoMemory contents before command config schema s o why rows (memory, same) = schema_unparsed memory same rows
 
 -- memory was refused before anything was done
 pub memory_ends : (command : Option Command) (contents : List ℕ → Told) (before n : ℕ) (a : Option (List ℕ)) (x : List Store) → WordsEnd command contents before before NoMemory (outside n n a a x x)
-memory_ends None contents before n a x = refl
-memory_ends (Some command) contents before n a x = unread refl
+memory_ends None contents before n a x = (refl, refl)
+memory_ends (Some command) contents before n a x = unread refl refl
 
--- a script of one session can be played
-pub session_played : (lines : List Line) → IsSession lines → ArePlayed lines
-session_played lines is = record { deeds = is.deeds; done = is.done }
+-- nothing was played
+pub none_played : (tables : List TableDef) (lines : List Line) (rows : Rows) (a : Option (List ℕ)) → ArePlayedInPart tables lines rows a a
+none_played tables lines rows a = record {
+  front = [];
+  rest = lines;
+  all = refl;
+  deeds = [];
+  done = tt;
+  bytes = [];
+  last = first_scene rows;
+  parts = (refl, refl);
+  beyond = [];
+  is_beyond = none_beyond refl;
+  wrote = front_nothing a [];
+}
 
--- a store without rows has none that cannot be sent
-pub none_fit : RowsFit no_rows
-none_fit = λ place row found. let never : None ≡ Some row = sym (fin.get-empty place_order place) ∙ found in absurd (cc)
+-- how a script ends says nothing of the stores before
+pub ends_from : (count : ℕ) (tables : List TableDef) (lines : List Line) (s : Status) (n m : ℕ) (a b : Option (List ℕ)) (x y z : List Store) → ScriptEnds count tables lines s (outside n m a b x z)
+    → ScriptEnds count tables lines s (outside n m a b y z)
+ends_from count tables lines Done n m a b x y z p = p
+ends_from count tables lines NoCommand n m a b x y z p = p
+ends_from count tables lines Refused n m a b x y z p = p
+ends_from count tables lines ScriptRefused n m a b x y z p = p
+ends_from count tables lines FilesFailed n m a b x y z p = p
+ends_from count tables lines SinkFailed n m a b x y z p = p
+ends_from count tables lines NoMemory n m a b x y z p = p
+ends_from count tables lines NotBuilt n m a b x y z p = p
 
 -- what is built is asked for
-pub is_built : (command : Command) (config : Config) (tables : List TableDef) (script : Option (List ℕ)) (lines : List Line) → (is_plain command ≡ true) × (((0 < length config.nodes) × (length config.nodes ≤ 3)) × (tables ≡ built_tables)) → IsReadAs script lines
-    → (is : IsSession lines) → IsBuilt command config tables script is.deeds
-is_built command config tables script lines b reads is = record { plain = b.0; some_backend = b.1.0.0; few_backends = b.1.0.1; tables_are = b.1.1; lines = lines; reads = reads; done = is.done; one = is.one }
+pub is_built : (command : Command) (config : Config) (script : Option (List ℕ)) (lines : List Line) → (is_plain command ≡ true) × ((0 < length config.nodes) × (length config.nodes ≤ 8)) → IsReadAs script lines
+    → IsSession lines → IsBuilt command config script lines
+is_built command config script lines b reads is = record { plain = b.0; some_backend = b.1.0; few_backends = b.1.1; reads = reads; session = is }

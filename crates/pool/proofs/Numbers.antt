@@ -83,35 +83,35 @@ is_sink NotBuilt h = cc
 -- status 4
 files_texts : (command : Command) (config : Config) (tables : List TableDef) (script : Option (List ℕ)) (s : Status) (o : Outside) → s ≡ FilesFailed → TextsEnds command config tables script s o → ⊥
 files_texts command config tables script s o is (refused bytes why rows f) = subst (λ s. RefusedEnds ScriptRefused bytes s o) is f
-files_texts command config tables script s o is (built deeds b f) = subst (λ s. ScriptEnds (length config.nodes) deeds s o) is f
-files_texts command config tables script s o is (unbuilt stands none f) = subst (λ s. UnbuiltEnds s o) is f
-files_texts command config tables script s o is (unchecked memory same) = let never : FilesFailed ≡ NoMemory = sym is ∙ memory in absurd (cc)
+files_texts command config tables script s o is (built lines b f) = subst (λ s. ScriptEnds (length config.nodes) tables lines s o) is f
+files_texts command config tables script s o is (unbuilt stands none kept f) = subst (λ s. UnbuiltEnds s o) is f
+files_texts command config tables script s o is (unchecked memory same kept) = let never : FilesFailed ≡ NoMemory = sym is ∙ memory in absurd (cc)
 
 files_script : (contents : List ℕ → Told) (x y : ℕ) (command : Command) (config : Config) (tables : List TableDef) (s : Status) (o : Outside) → s ≡ FilesFailed → ScriptStageEnds contents x y command config tables s o → Rose x y
-files_script contents x y command config tables s o is (script_unread e) = (subst (λ s. UnreadEnds x y s o) is e).0
+files_script contents x y command config tables s o is (script_unread kept e) = (subst (λ s. UnreadEnds x y s o) is e).0
 files_script contents x y command config tables s o is (script_read script e f) = absurd (files_texts command config tables script s o is f)
 
 files_schema : (contents : List ℕ → Told) (x y : ℕ) (command : Command) (config : Config) (schema : Option (List ℕ)) (s : Status) (o : Outside) → s ≡ FilesFailed → SchemaEnds contents x y command config schema s o → Rose x y
 files_schema contents x y command config schema s o is (schema_stands tables says e) = files_script contents x y command config tables s o is e
 files_schema contents x y command config schema s o is (schema_refused bytes why rows e) = absurd (subst (λ s. RefusedEnds Refused bytes s o) is e)
-files_schema contents x y command config schema s o is (schema_unparsed memory same) = let never : FilesFailed ≡ NoMemory = sym is ∙ memory in absurd (cc)
+files_schema contents x y command config schema s o is (schema_unparsed memory same kept) = let never : FilesFailed ≡ NoMemory = sym is ∙ memory in absurd (cc)
 
 files_rest : (contents : List ℕ → Told) (x y : ℕ) (command : Command) (config : Config) (s : Status) (o : Outside) → s ≡ FilesFailed → RestEnds contents x y command config s o → Rose x y
-files_rest contents x y command config s o is (schema_unread e) = (subst (λ s. UnreadEnds x y s o) is e).0
+files_rest contents x y command config s o is (schema_unread kept e) = (subst (λ s. UnreadEnds x y s o) is e).0
 files_rest contents x y command config s o is (schema_read schema c e) = files_schema contents x y command config schema s o is e
 
 files_config : (contents : List ℕ → Told) (x y : ℕ) (command : Command) (text : List ℕ) (s : Status) (o : Outside) → s ≡ FilesFailed → ConfigEnds contents x y command text s o → Rose x y
 files_config contents x y command text s o is (configured config c e) = files_rest contents x y command config s o is e
 files_config contents x y command text s o is (faulty fault c none rows e) = absurd (subst (λ s. RefusedEnds Refused (fault_line fault) s o) is e)
-files_config contents x y command text s o is (unparsed memory same) = let never : FilesFailed ≡ NoMemory = sym is ∙ memory in absurd (cc)
+files_config contents x y command text s o is (unparsed memory same kept) = let never : FilesFailed ≡ NoMemory = sym is ∙ memory in absurd (cc)
 
 files_command : (contents : List ℕ → Told) (x y : ℕ) (command : Command) (s : Status) (o : Outside) → s ≡ FilesFailed → CommandEnds contents x y command s o → Rose x y
-files_command contents x y command s o is (unread e) = (subst (λ s. UnreadEnds x y s o) is e).0
+files_command contents x y command s o is (unread kept e) = (subst (λ s. UnreadEnds x y s o) is e).0
 files_command contents x y command s o is (long c rows e) = absurd (subst (λ s. RefusedEnds Refused config_too_long s o) is e)
 files_command contents x y command s o is (read text c e) = files_config contents x y command text s o is e
 
 files_words : (command : Option Command) (contents : List ℕ → Told) (x y : ℕ) (s : Status) (o : Outside) → s ≡ FilesFailed → WordsEnd command contents x y s o → Rose x y
-files_words None contents x y s o is e = absurd (subst (λ s. NoCommandEnds s o) is e)
+files_words None contents x y s o is e = absurd (subst (λ s. NoCommandEnds s o) is e.1)
 files_words (Some command) contents x y s o is e = files_command contents x y command s o is e
 
 pub files_rose : (words : List (List ℕ)) (contents : List ℕ → Told) (x y number : ℕ) (o : Outside) → Returns words contents x y number o → number ≡ 4 → Rose x y
@@ -120,35 +120,35 @@ files_rose words contents x y number o r four = files_words (command_of words) c
 -- status 5
 sink_texts : (command : Command) (config : Config) (tables : List TableDef) (script : Option (List ℕ)) (s : Status) (o : Outside) → s ≡ SinkFailed → TextsEnds command config tables script s o → Rose o.faults_before o.faults_after
 sink_texts command config tables script s o is (refused bytes why rows f) = (subst (λ s. RefusedEnds ScriptRefused bytes s o) is f).0
-sink_texts command config tables script s o is (built deeds b f) = (subst (λ s. ScriptEnds (length config.nodes) deeds s o) is f).0
-sink_texts command config tables script s o is (unbuilt stands none f) = (subst (λ s. UnbuiltEnds s o) is f).0
-sink_texts command config tables script s o is (unchecked memory same) = let never : SinkFailed ≡ NoMemory = sym is ∙ memory in absurd (cc)
+sink_texts command config tables script s o is (built lines b f) = (subst (λ s. ScriptEnds (length config.nodes) tables lines s o) is f).0
+sink_texts command config tables script s o is (unbuilt stands none kept f) = (subst (λ s. UnbuiltEnds s o) is f).0
+sink_texts command config tables script s o is (unchecked memory same kept) = let never : SinkFailed ≡ NoMemory = sym is ∙ memory in absurd (cc)
 
 sink_script : (contents : List ℕ → Told) (x y : ℕ) (command : Command) (config : Config) (tables : List TableDef) (s : Status) (o : Outside) → s ≡ SinkFailed → ScriptStageEnds contents x y command config tables s o → Rose o.faults_before o.faults_after
-sink_script contents x y command config tables s o is (script_unread e) = absurd (subst (λ s. UnreadEnds x y s o) is e)
+sink_script contents x y command config tables s o is (script_unread kept e) = absurd (subst (λ s. UnreadEnds x y s o) is e)
 sink_script contents x y command config tables s o is (script_read script e f) = sink_texts command config tables script s o is f
 
 sink_schema : (contents : List ℕ → Told) (x y : ℕ) (command : Command) (config : Config) (schema : Option (List ℕ)) (s : Status) (o : Outside) → s ≡ SinkFailed → SchemaEnds contents x y command config schema s o → Rose o.faults_before o.faults_after
 sink_schema contents x y command config schema s o is (schema_stands tables says e) = sink_script contents x y command config tables s o is e
 sink_schema contents x y command config schema s o is (schema_refused bytes why rows e) = (subst (λ s. RefusedEnds Refused bytes s o) is e).0
-sink_schema contents x y command config schema s o is (schema_unparsed memory same) = let never : SinkFailed ≡ NoMemory = sym is ∙ memory in absurd (cc)
+sink_schema contents x y command config schema s o is (schema_unparsed memory same kept) = let never : SinkFailed ≡ NoMemory = sym is ∙ memory in absurd (cc)
 
 sink_rest : (contents : List ℕ → Told) (x y : ℕ) (command : Command) (config : Config) (s : Status) (o : Outside) → s ≡ SinkFailed → RestEnds contents x y command config s o → Rose o.faults_before o.faults_after
-sink_rest contents x y command config s o is (schema_unread e) = absurd (subst (λ s. UnreadEnds x y s o) is e)
+sink_rest contents x y command config s o is (schema_unread kept e) = absurd (subst (λ s. UnreadEnds x y s o) is e)
 sink_rest contents x y command config s o is (schema_read schema c e) = sink_schema contents x y command config schema s o is e
 
 sink_config : (contents : List ℕ → Told) (x y : ℕ) (command : Command) (text : List ℕ) (s : Status) (o : Outside) → s ≡ SinkFailed → ConfigEnds contents x y command text s o → Rose o.faults_before o.faults_after
 sink_config contents x y command text s o is (configured config c e) = sink_rest contents x y command config s o is e
 sink_config contents x y command text s o is (faulty fault c none rows e) = (subst (λ s. RefusedEnds Refused (fault_line fault) s o) is e).0
-sink_config contents x y command text s o is (unparsed memory same) = let never : SinkFailed ≡ NoMemory = sym is ∙ memory in absurd (cc)
+sink_config contents x y command text s o is (unparsed memory same kept) = let never : SinkFailed ≡ NoMemory = sym is ∙ memory in absurd (cc)
 
 sink_command : (contents : List ℕ → Told) (x y : ℕ) (command : Command) (s : Status) (o : Outside) → s ≡ SinkFailed → CommandEnds contents x y command s o → Rose o.faults_before o.faults_after
-sink_command contents x y command s o is (unread e) = absurd (subst (λ s. UnreadEnds x y s o) is e)
+sink_command contents x y command s o is (unread kept e) = absurd (subst (λ s. UnreadEnds x y s o) is e)
 sink_command contents x y command s o is (long c rows e) = (subst (λ s. RefusedEnds Refused config_too_long s o) is e).0
 sink_command contents x y command s o is (read text c e) = sink_config contents x y command text s o is e
 
 sink_words : (command : Option Command) (contents : List ℕ → Told) (x y : ℕ) (s : Status) (o : Outside) → s ≡ SinkFailed → WordsEnd command contents x y s o → Rose o.faults_before o.faults_after
-sink_words None contents x y s o is e = (subst (λ s. NoCommandEnds s o) is e).0
+sink_words None contents x y s o is e = (subst (λ s. NoCommandEnds s o) is e.1).0
 sink_words (Some command) contents x y s o is e = sink_command contents x y command s o is e
 
 pub sink_rose : (words : List (List ℕ)) (contents : List ℕ → Told) (x y number : ℕ) (o : Outside) → Returns words contents x y number o → number ≡ 5 → Rose o.faults_before o.faults_after
@@ -157,30 +157,30 @@ sink_rose words contents x y number o r five = sink_words (command_of words) con
 -- status 1
 none_texts : (command : Command) (config : Config) (tables : List TableDef) (script : Option (List ℕ)) (s : Status) (o : Outside) → s ≡ NoCommand → TextsEnds command config tables script s o → ⊥
 none_texts command config tables script s o is (refused bytes why rows f) = subst (λ s. RefusedEnds ScriptRefused bytes s o) is f
-none_texts command config tables script s o is (built deeds b f) = subst (λ s. ScriptEnds (length config.nodes) deeds s o) is f
-none_texts command config tables script s o is (unbuilt stands none f) = subst (λ s. UnbuiltEnds s o) is f
-none_texts command config tables script s o is (unchecked memory same) = let never : NoCommand ≡ NoMemory = sym is ∙ memory in absurd (cc)
+none_texts command config tables script s o is (built lines b f) = subst (λ s. ScriptEnds (length config.nodes) tables lines s o) is f
+none_texts command config tables script s o is (unbuilt stands none kept f) = subst (λ s. UnbuiltEnds s o) is f
+none_texts command config tables script s o is (unchecked memory same kept) = let never : NoCommand ≡ NoMemory = sym is ∙ memory in absurd (cc)
 
 none_script : (contents : List ℕ → Told) (x y : ℕ) (command : Command) (config : Config) (tables : List TableDef) (s : Status) (o : Outside) → s ≡ NoCommand → ScriptStageEnds contents x y command config tables s o → ⊥
-none_script contents x y command config tables s o is (script_unread e) = subst (λ s. UnreadEnds x y s o) is e
+none_script contents x y command config tables s o is (script_unread kept e) = subst (λ s. UnreadEnds x y s o) is e
 none_script contents x y command config tables s o is (script_read script e f) = none_texts command config tables script s o is f
 
 none_schema : (contents : List ℕ → Told) (x y : ℕ) (command : Command) (config : Config) (schema : Option (List ℕ)) (s : Status) (o : Outside) → s ≡ NoCommand → SchemaEnds contents x y command config schema s o → ⊥
 none_schema contents x y command config schema s o is (schema_stands tables says e) = none_script contents x y command config tables s o is e
 none_schema contents x y command config schema s o is (schema_refused bytes why rows e) = subst (λ s. RefusedEnds Refused bytes s o) is e
-none_schema contents x y command config schema s o is (schema_unparsed memory same) = let never : NoCommand ≡ NoMemory = sym is ∙ memory in absurd (cc)
+none_schema contents x y command config schema s o is (schema_unparsed memory same kept) = let never : NoCommand ≡ NoMemory = sym is ∙ memory in absurd (cc)
 
 none_rest : (contents : List ℕ → Told) (x y : ℕ) (command : Command) (config : Config) (s : Status) (o : Outside) → s ≡ NoCommand → RestEnds contents x y command config s o → ⊥
-none_rest contents x y command config s o is (schema_unread e) = subst (λ s. UnreadEnds x y s o) is e
+none_rest contents x y command config s o is (schema_unread kept e) = subst (λ s. UnreadEnds x y s o) is e
 none_rest contents x y command config s o is (schema_read schema c e) = none_schema contents x y command config schema s o is e
 
 none_config : (contents : List ℕ → Told) (x y : ℕ) (command : Command) (text : List ℕ) (s : Status) (o : Outside) → s ≡ NoCommand → ConfigEnds contents x y command text s o → ⊥
 none_config contents x y command text s o is (configured config c e) = none_rest contents x y command config s o is e
 none_config contents x y command text s o is (faulty fault c none rows e) = subst (λ s. RefusedEnds Refused (fault_line fault) s o) is e
-none_config contents x y command text s o is (unparsed memory same) = let never : NoCommand ≡ NoMemory = sym is ∙ memory in absurd (cc)
+none_config contents x y command text s o is (unparsed memory same kept) = let never : NoCommand ≡ NoMemory = sym is ∙ memory in absurd (cc)
 
 none_command : (contents : List ℕ → Told) (x y : ℕ) (command : Command) (s : Status) (o : Outside) → s ≡ NoCommand → CommandEnds contents x y command s o → ⊥
-none_command contents x y command s o is (unread e) = subst (λ s. UnreadEnds x y s o) is e
+none_command contents x y command s o is (unread kept e) = subst (λ s. UnreadEnds x y s o) is e
 none_command contents x y command s o is (long c rows e) = subst (λ s. RefusedEnds Refused config_too_long s o) is e
 none_command contents x y command s o is (read text c e) = none_config contents x y command text s o is e
 
@@ -205,17 +205,17 @@ pub no_command_always : (words : List (List ℕ)) (contents : List ℕ → Told)
     → (number ≡ 1) ⊎ (((number ≡ 5) × Rose o.faults_before o.faults_after) ⊎ (number ≡ 7))
 no_command_always words contents x y number o r is =
     let all : ℕ → Type 0 = λ n. (n ≡ 1) ⊎ (((n ≡ 5) × Rose o.faults_before o.faults_after) ⊎ (n ≡ 7)) in
-    subst all (sym r.is) (no_command_ends r.status o (subst (λ c. WordsEnd c contents x y r.status o) is r.ends))
+    subst all (sym r.is) (no_command_ends r.status o (subst (λ c. WordsEnd c contents x y r.status o) is r.ends).1)
 
 -- status 2: the configuration or the schema is refused
 refused_texts : (command : Command) (config : Config) (tables : List TableDef) (script : Option (List ℕ)) (s : Status) (o : Outside) → s ≡ Refused → TextsEnds command config tables script s o → ⊥
 refused_texts command config tables script s o is (refused bytes why rows f) = let e : RefusedEnds ScriptRefused bytes Refused o = subst (λ s. RefusedEnds ScriptRefused bytes s o) is f in let never : ScriptRefused ≡ Refused = e.0 in absurd (cc)
-refused_texts command config tables script s o is (built deeds b f) = subst (λ s. ScriptEnds (length config.nodes) deeds s o) is f
-refused_texts command config tables script s o is (unbuilt stands none f) = subst (λ s. UnbuiltEnds s o) is f
-refused_texts command config tables script s o is (unchecked memory same) = let never : Refused ≡ NoMemory = sym is ∙ memory in absurd (cc)
+refused_texts command config tables script s o is (built lines b f) = subst (λ s. ScriptEnds (length config.nodes) tables lines s o) is f
+refused_texts command config tables script s o is (unbuilt stands none kept f) = subst (λ s. UnbuiltEnds s o) is f
+refused_texts command config tables script s o is (unchecked memory same kept) = let never : Refused ≡ NoMemory = sym is ∙ memory in absurd (cc)
 
 refused_script : (contents : List ℕ → Told) (x y : ℕ) (command : Command) (config : Config) (tables : List TableDef) (s : Status) (o : Outside) → s ≡ Refused → ScriptStageEnds contents x y command config tables s o → ⊥
-refused_script contents x y command config tables s o is (script_unread e) = subst (λ s. UnreadEnds x y s o) is e
+refused_script contents x y command config tables s o is (script_unread kept e) = subst (λ s. UnreadEnds x y s o) is e
 refused_script contents x y command config tables s o is (script_read script e f) = refused_texts command config tables script s o is f
 
 -- the schema is refused, where the configuration stands
@@ -224,11 +224,11 @@ refused_schema : (words : List (List ℕ)) (contents : List ℕ → Told) (x y :
 refused_schema words contents x y command text config schema s o named is c said d (schema_stands tables says e) = absurd (refused_script contents x y command config tables s o is e)
 refused_schema words contents x y command text config schema s o named is c said d (schema_refused bytes why rows e) =
     record { command = command; is = named; bytes = bytes; cause = by_schema text config schema c said d why; wrote = (subst (λ s. RefusedEnds Refused bytes s o) is e).1; rows = rows }
-refused_schema words contents x y command text config schema s o named is c said d (schema_unparsed memory same) = let never : Refused ≡ NoMemory = sym is ∙ memory in absurd (cc)
+refused_schema words contents x y command text config schema s o named is c said d (schema_unparsed memory same kept) = let never : Refused ≡ NoMemory = sym is ∙ memory in absurd (cc)
 
 refused_rest : (words : List (List ℕ)) (contents : List ℕ → Told) (x y : ℕ) (command : Command) (text : List ℕ) (config : Config) (s : Status) (o : Outside) → command_of words ≡ Some command → s ≡ Refused
     → IsRead (contents (config_name command)) 65536 (Some text) → IsConfiguration text config → RestEnds contents x y command config s o → TextIsRefused words contents o
-refused_rest words contents x y command text config s o named is c said (schema_unread e) = absurd (subst (λ s. UnreadEnds x y s o) is e)
+refused_rest words contents x y command text config s o named is c said (schema_unread kept e) = absurd (subst (λ s. UnreadEnds x y s o) is e)
 refused_rest words contents x y command text config s o named is c said (schema_read schema d e) = refused_schema words contents x y command text config schema s o named is c said d e
 
 refused_config : (words : List (List ℕ)) (contents : List ℕ → Told) (x y : ℕ) (command : Command) (text : List ℕ) (s : Status) (o : Outside) → command_of words ≡ Some command → s ≡ Refused
@@ -236,18 +236,18 @@ refused_config : (words : List (List ℕ)) (contents : List ℕ → Told) (x y :
 refused_config words contents x y command text s o named is c (configured config said e) = refused_rest words contents x y command text config s o named is c said e
 refused_config words contents x y command text s o named is c (faulty fault first none rows e) =
     record { command = command; is = named; bytes = fault_line fault; cause = by_config (has_fault text fault c.0 first none refl); wrote = (subst (λ s. RefusedEnds Refused (fault_line fault) s o) is e).1; rows = rows }
-refused_config words contents x y command text s o named is c (unparsed memory same) = let never : Refused ≡ NoMemory = sym is ∙ memory in absurd (cc)
+refused_config words contents x y command text s o named is c (unparsed memory same kept) = let never : Refused ≡ NoMemory = sym is ∙ memory in absurd (cc)
 
 refused_command : (words : List (List ℕ)) (contents : List ℕ → Told) (x y : ℕ) (command : Command) (s : Status) (o : Outside) → command_of words ≡ Some command → s ≡ Refused
     → CommandEnds contents x y command s o → TextIsRefused words contents o
-refused_command words contents x y command s o named is (unread e) = absurd (subst (λ s. UnreadEnds x y s o) is e)
+refused_command words contents x y command s o named is (unread kept e) = absurd (subst (λ s. UnreadEnds x y s o) is e)
 refused_command words contents x y command s o named is (long c rows e) =
     record { command = command; is = named; bytes = config_too_long; cause = by_config (too_long c refl); wrote = (subst (λ s. RefusedEnds Refused config_too_long s o) is e).1; rows = rows }
 refused_command words contents x y command s o named is (read text c e) = refused_config words contents x y command text s o named is c e
 
 refused_words : (words : List (List ℕ)) (command : Option Command) (contents : List ℕ → Told) (x y : ℕ) (s : Status) (o : Outside) → command_of words ≡ command → s ≡ Refused
     → WordsEnd command contents x y s o → TextIsRefused words contents o
-refused_words words None contents x y s o named is e = absurd (subst (λ s. NoCommandEnds s o) is e)
+refused_words words None contents x y s o named is e = absurd (subst (λ s. NoCommandEnds s o) is e.1)
 refused_words words (Some command) contents x y s o named is e = refused_command words contents x y command s o named is e
 
 pub refused_is : (words : List (List ℕ)) (contents : List ℕ → Told) (x y number : ℕ) (o : Outside) → Returns words contents x y number o → number ≡ 2 → TextIsRefused words contents o
@@ -310,11 +310,11 @@ config_refuses : (contents : List ℕ → Told) (x y : ℕ) (command : Command) 
     → ConfigEnds contents x y command text s o → Refuses x y (code_of s) o
 config_refuses contents x y command text s o short refuses (configured config said e) = absurd (none_said text config short said refuses)
 config_refuses contents x y command text s o short refuses (faulty fault first none rows e) = line_refuses x y (fault_line fault) s o e
-config_refuses contents x y command text s o short refuses (unparsed memory same) = inr (inr (inr (ap code_of memory)))
+config_refuses contents x y command text s o short refuses (unparsed memory same kept) = inr (inr (inr (ap code_of memory)))
 
 command_refuses : (contents : List ℕ → Told) (x y : ℕ) (command : Command) (text : List ℕ) (s : Status) (o : Outside) → contents (config_name command) ≡ content text → IsRefusedText text
     → CommandEnds contents x y command s o → Refuses x y (code_of s) o
-command_refuses contents x y command text s o tells refuses (unread e) = unread_refuses x y s o e
+command_refuses contents x y command text s o tells refuses (unread kept e) = unread_refuses x y s o e
 command_refuses contents x y command text s o tells refuses (long c rows e) = line_refuses x y config_too_long s o e
 command_refuses contents x y command text s o tells refuses (read got c e) =
     config_refuses contents x y command got s o c.1 (subst IsRefusedText (sym (subst (λ t. IsTold t got) tells c.0)) refuses) e
@@ -338,22 +338,22 @@ schema_comes : (contents : List ℕ → Told) (x y : ℕ) (command : Command) (c
     → IsRead (contents (schema_name command)) 262144 schema → SchemaEnds contents x y command config schema s o → Refuses x y (code_of s) o
 schema_comes contents x y command config schema text s o tells why r (schema_stands tables says e) = absurd (tables_none (contents (schema_name command)) schema text tables tells why r says)
 schema_comes contents x y command config schema text s o tells why r (schema_refused bytes cause rows e) = line_refuses x y bytes s o e
-schema_comes contents x y command config schema text s o tells why r (schema_unparsed memory same) = inr (inr (inr (ap code_of memory)))
+schema_comes contents x y command config schema text s o tells why r (schema_unparsed memory same kept) = inr (inr (inr (ap code_of memory)))
 
 rest_schema_comes : (contents : List ℕ → Told) (x y : ℕ) (command : Command) (config : Config) (text : List ℕ) (s : Status) (o : Outside) → contents (schema_name command) ≡ content text → IsRefusedSchema text
     → RestEnds contents x y command config s o → Refuses x y (code_of s) o
-rest_schema_comes contents x y command config text s o tells why (schema_unread e) = unread_refuses x y s o e
+rest_schema_comes contents x y command config text s o tells why (schema_unread kept e) = unread_refuses x y s o e
 rest_schema_comes contents x y command config text s o tells why (schema_read schema r e) = schema_comes contents x y command config schema text s o tells why r e
 
 config_schema_comes : (contents : List ℕ → Told) (x y : ℕ) (command : Command) (got text : List ℕ) (s : Status) (o : Outside) → contents (schema_name command) ≡ content text → IsRefusedSchema text
     → ConfigEnds contents x y command got s o → Refuses x y (code_of s) o
 config_schema_comes contents x y command got text s o tells why (configured config said e) = rest_schema_comes contents x y command config text s o tells why e
 config_schema_comes contents x y command got text s o tells why (faulty fault first none rows e) = line_refuses x y (fault_line fault) s o e
-config_schema_comes contents x y command got text s o tells why (unparsed memory same) = inr (inr (inr (ap code_of memory)))
+config_schema_comes contents x y command got text s o tells why (unparsed memory same kept) = inr (inr (inr (ap code_of memory)))
 
 command_schema_comes : (contents : List ℕ → Told) (x y : ℕ) (command : Command) (text : List ℕ) (s : Status) (o : Outside) → contents (schema_name command) ≡ content text → IsRefusedSchema text
     → CommandEnds contents x y command s o → Refuses x y (code_of s) o
-command_schema_comes contents x y command text s o tells why (unread e) = unread_refuses x y s o e
+command_schema_comes contents x y command text s o tells why (unread kept e) = unread_refuses x y s o e
 command_schema_comes contents x y command text s o tells why (long c rows e) = line_refuses x y config_too_long s o e
 command_schema_comes contents x y command text s o tells why (read got c e) = config_schema_comes contents x y command got text s o tells why e
 
@@ -363,14 +363,14 @@ schema_refuses words contents x y number o r command text named tells is =
     subst (λ n. Refuses x y n o) (sym r.is) (command_schema_comes contents x y command text r.status o tells is (subst (λ c. WordsEnd c contents x y r.status o) named r.ends))
 
 -- status 0
-done_texts : (command : Command) (config : Config) (tables : List TableDef) (script : Option (List ℕ)) (text : List ℕ) (s : Status) (o : Outside) → s ≡ Done → script ≡ Some text → TextsEnds command config tables script s o → PlayedOver config text o
+done_texts : (command : Command) (config : Config) (tables : List TableDef) (script : Option (List ℕ)) (text : List ℕ) (s : Status) (o : Outside) → s ≡ Done → script ≡ Some text → TextsEnds command config tables script s o → PlayedOver config tables text o
 done_texts command config tables script text s o is tells (refused bytes why rows f) = absurd (subst (λ s. RefusedEnds ScriptRefused bytes s o) is f)
-done_texts command config tables script text s o is tells (built deeds b f) =
-    let ends : ScriptEnds (length config.nodes) deeds Done o = subst (λ s. ScriptEnds (length config.nodes) deeds s o) is f in
+done_texts command config tables script text s o is tells (built lines b f) =
+    let ends : ScriptEnds (length config.nodes) tables lines Done o = subst (λ s. ScriptEnds (length config.nodes) tables lines s o) is f in
     let same : b.reads.text ≡ text = (let e : Some b.reads.text ≡ Some text = sym b.reads.is ∙ tells in cc) in
-    record { lines = b.lines; says = subst (λ t. IsScript t b.lines) same b.reads.says; deeds = deeds; done = b.done; one = b.one; some = b.some_backend; wrote = ends.0; rows = ends.1 }
-done_texts command config tables script text s o is tells (unbuilt stands none f) = absurd (subst (λ s. UnbuiltEnds s o) is f)
-done_texts command config tables script text s o is tells (unchecked memory same) = let never : Done ≡ NoMemory = sym is ∙ memory in absurd (cc)
+    record { lines = lines; says = subst (λ t. IsScript t lines) same b.reads.says; one = b.session; some = b.some_backend; left = ends.0; wrote = ends.1; rows = ends.2 }
+done_texts command config tables script text s o is tells (unbuilt stands none kept f) = absurd (subst (λ s. UnbuiltEnds s o) is f)
+done_texts command config tables script text s o is tells (unchecked memory same kept) = let never : Done ≡ NoMemory = sym is ∙ memory in absurd (cc)
 
 read_some : (told : Told) (limit : ℕ) (got : Option (List ℕ)) (text : List ℕ) → told ≡ content text → (got ≡ None → ⊥) → IsRead told limit got → got ≡ Some text
 read_some told limit None text is some r = absurd (some refl)
@@ -378,42 +378,69 @@ read_some told limit (Some bytes) text is some r = ap Some (subst (λ t. IsTold 
 
 some_script : (command : Command) (config : Config) (tables : List TableDef) (script : Option (List ℕ)) (s : Status) (o : Outside) → s ≡ Done → TextsEnds command config tables script s o → script ≡ None → ⊥
 some_script command config tables script s o is (refused bytes why rows f) none = subst (λ s. RefusedEnds ScriptRefused bytes s o) is f
-some_script command config tables script s o is (built deeds b f) none = let never : None ≡ Some b.reads.text = sym none ∙ b.reads.is in absurd (cc)
-some_script command config tables script s o is (unbuilt stands nothing f) none = subst (λ s. UnbuiltEnds s o) is f
-some_script command config tables script s o is (unchecked memory same) none = let never : Done ≡ NoMemory = sym is ∙ memory in absurd (cc)
+some_script command config tables script s o is (built lines b f) none = let never : None ≡ Some b.reads.text = sym none ∙ b.reads.is in absurd (cc)
+some_script command config tables script s o is (unbuilt stands nothing kept f) none = subst (λ s. UnbuiltEnds s o) is f
+some_script command config tables script s o is (unchecked memory same kept) none = let never : Done ≡ NoMemory = sym is ∙ memory in absurd (cc)
 
 -- the command plays a script of that name
 done_script : (contents : List ℕ → Told) (x y : ℕ) (a b c : List ℕ) (journal : Bool) (config : Config) (tables : List TableDef) (text : List ℕ) (s : Status) (o : Outside) → s ≡ Done → contents c ≡ content text
-    → ScriptStageEnds contents x y (Play a b c journal) config tables s o → PlayedOver config text o
-done_script contents x y a b c journal config tables text s o is tells (script_unread e) = absurd (subst (λ s. UnreadEnds x y s o) is e)
+    → ScriptStageEnds contents x y (Play a b c journal) config tables s o → PlayedOver config tables text o
+done_script contents x y a b c journal config tables text s o is tells (script_unread kept e) = absurd (subst (λ s. UnreadEnds x y s o) is e)
 done_script contents x y a b c journal config tables text s o is tells (script_read script e f) =
     done_texts (Play a b c journal) config tables script text s o is (read_some (contents c) 4194304 script text tells (some_script (Play a b c journal) config tables script s o is f) e) f
 
+-- over the tables of the schema
+record Tabled (schema_told : Told) (config : Config) (text : List ℕ) (o : Outside) : Type 0 where
+  schema_text : List ℕ
+  tells_schema : IsTold schema_told schema_text
+  tables : List TableDef
+  says_tables : Says schema_text tables
+  over : PlayedOver config tables text o
+
 done_schema : (contents : List ℕ → Told) (x y : ℕ) (a b c : List ℕ) (journal : Bool) (config : Config) (schema : Option (List ℕ)) (text : List ℕ) (s : Status) (o : Outside) → s ≡ Done → contents c ≡ content text
-    → SchemaEnds contents x y (Play a b c journal) config schema s o → PlayedOver config text o
-done_schema contents x y a b c journal config schema text s o is tells (schema_stands tables says e) = done_script contents x y a b c journal config tables text s o is tells e
-done_schema contents x y a b c journal config schema text s o is tells (schema_refused bytes why rows e) = absurd (subst (λ s. RefusedEnds Refused bytes s o) is e)
-done_schema contents x y a b c journal config schema text s o is tells (schema_unparsed memory same) = let never : Done ≡ NoMemory = sym is ∙ memory in absurd (cc)
+    → IsRead (contents b) 262144 schema → SchemaEnds contents x y (Play a b c journal) config schema s o → Tabled (contents b) config text o
+done_schema contents x y a b c journal config schema text s o is tells was (schema_stands tables says e) = record {
+  schema_text = says.text;
+  tells_schema = (subst (IsRead (contents b) 262144) says.is was).0;
+  tables = tables;
+  says_tables = says.says;
+  over = done_script contents x y a b c journal config tables text s o is tells e;
+}
+done_schema contents x y a b c journal config schema text s o is tells was (schema_refused bytes why rows e) = absurd (subst (λ s. RefusedEnds Refused bytes s o) is e)
+done_schema contents x y a b c journal config schema text s o is tells was (schema_unparsed memory same kept) = let never : Done ≡ NoMemory = sym is ∙ memory in absurd (cc)
 
 done_rest : (contents : List ℕ → Told) (x y : ℕ) (a b c : List ℕ) (journal : Bool) (config : Config) (text : List ℕ) (s : Status) (o : Outside) → s ≡ Done → contents c ≡ content text
-    → RestEnds contents x y (Play a b c journal) config s o → PlayedOver config text o
-done_rest contents x y a b c journal config text s o is tells (schema_unread e) = absurd (subst (λ s. UnreadEnds x y s o) is e)
-done_rest contents x y a b c journal config text s o is tells (schema_read schema d e) = done_schema contents x y a b c journal config schema text s o is tells e
+    → RestEnds contents x y (Play a b c journal) config s o → Tabled (contents b) config text o
+done_rest contents x y a b c journal config text s o is tells (schema_unread kept e) = absurd (subst (λ s. UnreadEnds x y s o) is e)
+done_rest contents x y a b c journal config text s o is tells (schema_read schema d e) = done_schema contents x y a b c journal config schema text s o is tells d e
+
+played_so : (config_told schema_told : Told) (got : List ℕ) (config : Config) (text : List ℕ) (o : Outside) → IsTold config_told got → IsConfiguration got config → Tabled schema_told config text o → Played config_told schema_told text o
+played_so config_told schema_told got config text o told said t = record {
+  config_text = got;
+  tells = told;
+  config = config;
+  configured = said;
+  schema_text = t.schema_text;
+  tells_schema = t.tells_schema;
+  tables = t.tables;
+  says_tables = t.says_tables;
+  over = t.over;
+}
 
 done_config : (contents : List ℕ → Told) (x y : ℕ) (a b c : List ℕ) (journal : Bool) (got text : List ℕ) (s : Status) (o : Outside) → s ≡ Done → contents c ≡ content text → IsTold (contents a) got
-    → ConfigEnds contents x y (Play a b c journal) got s o → Played (contents a) text o
+    → ConfigEnds contents x y (Play a b c journal) got s o → Played (contents a) (contents b) text o
 done_config contents x y a b c journal got text s o is tells read_so (configured config said e) =
-    record { config_text = got; tells = read_so; config = config; configured = said; over = done_rest contents x y a b c journal config text s o is tells e }
+    played_so (contents a) (contents b) got config text o read_so said (done_rest contents x y a b c journal config text s o is tells e)
 done_config contents x y a b c journal got text s o is tells read_so (faulty fault first none rows e) = absurd (subst (λ s. RefusedEnds Refused (fault_line fault) s o) is e)
-done_config contents x y a b c journal got text s o is tells read_so (unparsed memory same) = let never : Done ≡ NoMemory = sym is ∙ memory in absurd (cc)
+done_config contents x y a b c journal got text s o is tells read_so (unparsed memory same kept) = let never : Done ≡ NoMemory = sym is ∙ memory in absurd (cc)
 
 done_command : (contents : List ℕ → Told) (x y : ℕ) (a b c : List ℕ) (journal : Bool) (text : List ℕ) (s : Status) (o : Outside) → s ≡ Done → contents c ≡ content text
-    → CommandEnds contents x y (Play a b c journal) s o → Played (contents a) text o
-done_command contents x y a b c journal text s o is tells (unread e) = absurd (subst (λ s. UnreadEnds x y s o) is e)
+    → CommandEnds contents x y (Play a b c journal) s o → Played (contents a) (contents b) text o
+done_command contents x y a b c journal text s o is tells (unread kept e) = absurd (subst (λ s. UnreadEnds x y s o) is e)
 done_command contents x y a b c journal text s o is tells (long d rows e) = absurd (subst (λ s. RefusedEnds Refused config_too_long s o) is e)
 done_command contents x y a b c journal text s o is tells (read got d e) = done_config contents x y a b c journal got text s o is tells d.0 e
 
 pub played : (words : List (List ℕ)) (contents : List ℕ → Told) (x y number : ℕ) (o : Outside) → Returns words contents x y number o → number ≡ 0
-    → (config schema script text : List ℕ) (journal : Bool) → command_of words ≡ Some (Play config schema script journal) → contents script ≡ content text → Played (contents config) text o
+    → (config schema script text : List ℕ) (journal : Bool) → command_of words ≡ Some (Play config schema script journal) → contents script ≡ content text → Played (contents config) (contents schema) text o
 played words contents x y number o r zero_is config schema script text journal is tells =
     done_command contents x y config schema script journal text r.status o (is_done r.status (sym r.is ∙ zero_is)) tells (subst (λ c. WordsEnd c contents x y r.status o) is r.ends)

@@ -23,9 +23,9 @@ texts_refused : (words : List (List ℕ)) (contents : List ℕ → Told) (comman
     → IsScriptRead contents command script → TextsEnds command config tables script s o → ScriptIsRefused words contents o
 texts_refused words contents command config tables script s o named is r (refused bytes why rows f) =
     record { command = command; is = named; script = script; read = r; bytes = bytes; cause = why; wrote = (subst (λ s. RefusedEnds ScriptRefused bytes s o) is f).1; rows = rows }
-texts_refused words contents command config tables script s o named is r (built deeds b f) = absurd (subst (λ s. ScriptEnds (length config.nodes) deeds s o) is f)
-texts_refused words contents command config tables script s o named is r (unbuilt stands none f) = absurd (subst (λ s. UnbuiltEnds s o) is f)
-texts_refused words contents command config tables script s o named is r (unchecked memory same) = let never : ScriptRefused ≡ NoMemory = sym is ∙ memory in absurd (cc)
+texts_refused words contents command config tables script s o named is r (built lines b f) = absurd (subst (λ s. ScriptEnds (length config.nodes) tables lines s o) is f)
+texts_refused words contents command config tables script s o named is r (unbuilt stands none kept f) = absurd (subst (λ s. UnbuiltEnds s o) is f)
+texts_refused words contents command config tables script s o named is r (unchecked memory same kept) = let never : ScriptRefused ≡ NoMemory = sym is ∙ memory in absurd (cc)
 
 -- a configuration or a schema that is refused has another number
 not_config : (bytes : List ℕ) (s : Status) (o : Outside) → s ≡ ScriptRefused → RefusedEnds Refused bytes s o → ⊥
@@ -33,35 +33,35 @@ not_config bytes s o is e = let never : Refused ≡ ScriptRefused = (subst (λ s
 
 script_refused : (words : List (List ℕ)) (contents : List ℕ → Told) (x y : ℕ) (command : Command) (config : Config) (tables : List TableDef) (s : Status) (o : Outside) → command_of words ≡ Some command → s ≡ ScriptRefused
     → ScriptStageEnds contents x y command config tables s o → ScriptIsRefused words contents o
-script_refused words contents x y command config tables s o named is (script_unread e) = absurd (subst (λ s. UnreadEnds x y s o) is e)
+script_refused words contents x y command config tables s o named is (script_unread kept e) = absurd (subst (λ s. UnreadEnds x y s o) is e)
 script_refused words contents x y command config tables s o named is (script_read script r f) = texts_refused words contents command config tables script s o named is r f
 
 schema_stage_refused : (words : List (List ℕ)) (contents : List ℕ → Told) (x y : ℕ) (command : Command) (config : Config) (schema : Option (List ℕ)) (s : Status) (o : Outside) → command_of words ≡ Some command → s ≡ ScriptRefused
     → SchemaEnds contents x y command config schema s o → ScriptIsRefused words contents o
 schema_stage_refused words contents x y command config schema s o named is (schema_stands tables says e) = script_refused words contents x y command config tables s o named is e
 schema_stage_refused words contents x y command config schema s o named is (schema_refused bytes why rows e) = absurd (not_config bytes s o is e)
-schema_stage_refused words contents x y command config schema s o named is (schema_unparsed memory same) = let never : ScriptRefused ≡ NoMemory = sym is ∙ memory in absurd (cc)
+schema_stage_refused words contents x y command config schema s o named is (schema_unparsed memory same kept) = let never : ScriptRefused ≡ NoMemory = sym is ∙ memory in absurd (cc)
 
 rest_refused : (words : List (List ℕ)) (contents : List ℕ → Told) (x y : ℕ) (command : Command) (config : Config) (s : Status) (o : Outside) → command_of words ≡ Some command → s ≡ ScriptRefused
     → RestEnds contents x y command config s o → ScriptIsRefused words contents o
-rest_refused words contents x y command config s o named is (schema_unread e) = absurd (subst (λ s. UnreadEnds x y s o) is e)
+rest_refused words contents x y command config s o named is (schema_unread kept e) = absurd (subst (λ s. UnreadEnds x y s o) is e)
 rest_refused words contents x y command config s o named is (schema_read schema d e) = schema_stage_refused words contents x y command config schema s o named is e
 
 config_refused : (words : List (List ℕ)) (contents : List ℕ → Told) (x y : ℕ) (command : Command) (text : List ℕ) (s : Status) (o : Outside) → command_of words ≡ Some command → s ≡ ScriptRefused
     → ConfigEnds contents x y command text s o → ScriptIsRefused words contents o
 config_refused words contents x y command text s o named is (configured config said e) = rest_refused words contents x y command config s o named is e
 config_refused words contents x y command text s o named is (faulty fault first none rows e) = absurd (not_config (fault_line fault) s o is e)
-config_refused words contents x y command text s o named is (unparsed memory same) = let never : ScriptRefused ≡ NoMemory = sym is ∙ memory in absurd (cc)
+config_refused words contents x y command text s o named is (unparsed memory same kept) = let never : ScriptRefused ≡ NoMemory = sym is ∙ memory in absurd (cc)
 
 command_refused : (words : List (List ℕ)) (contents : List ℕ → Told) (x y : ℕ) (command : Command) (s : Status) (o : Outside) → command_of words ≡ Some command → s ≡ ScriptRefused
     → CommandEnds contents x y command s o → ScriptIsRefused words contents o
-command_refused words contents x y command s o named is (unread e) = absurd (subst (λ s. UnreadEnds x y s o) is e)
+command_refused words contents x y command s o named is (unread kept e) = absurd (subst (λ s. UnreadEnds x y s o) is e)
 command_refused words contents x y command s o named is (long c rows e) = absurd (not_config config_too_long s o is e)
 command_refused words contents x y command s o named is (read text c e) = config_refused words contents x y command text s o named is e
 
 words_refused : (words : List (List ℕ)) (command : Option Command) (contents : List ℕ → Told) (x y : ℕ) (s : Status) (o : Outside) → command_of words ≡ command → s ≡ ScriptRefused
     → WordsEnd command contents x y s o → ScriptIsRefused words contents o
-words_refused words None contents x y s o named is e = absurd (subst (λ s. NoCommandEnds s o) is e)
+words_refused words None contents x y s o named is e = absurd (subst (λ s. NoCommandEnds s o) is e.1)
 words_refused words (Some command) contents x y s o named is e = command_refused words contents x y command s o named is e
 
 pub script_refused_is : (words : List (List ℕ)) (contents : List ℕ → Told) (x y number : ℕ) (o : Outside) → Returns words contents x y number o → number ≡ 3 → ScriptIsRefused words contents o
@@ -122,36 +122,36 @@ none_read told script text lines is why r reads =
 texts_come : (x y : ℕ) (a b : List ℕ) (name : List ℕ) (journal : Bool) (told : Told) (config : Config) (tables : List TableDef) (script : Option (List ℕ)) (text : List ℕ) (s : Status) (o : Outside) → told ≡ content text → IsRefusedScript text → IsRead told 4194304 script
     → TextsEnds (Play a b name journal) config tables script s o → RefusesScript x y (code_of s) o
 texts_come x y a b name journal told config tables script text s o is why r (refused bytes cause rows f) = line_comes x y ScriptRefused bytes s o f
-texts_come x y a b name journal told config tables script text s o is why r (built deeds t f) = absurd (none_read told script text t.lines is why r t.reads)
-texts_come x y a b name journal told config tables script text s o is why r (unbuilt (without never) none f) = absurd (cc)
-texts_come x y a b name journal told config tables script text s o is why r (unbuilt (with lines reads) none f) = absurd (none_read told script text lines is why r reads)
-texts_come x y a b name journal told config tables script text s o is why r (unchecked memory same) = inr (inr (inr (inr (ap code_of memory))))
+texts_come x y a b name journal told config tables script text s o is why r (built lines t f) = absurd (none_read told script text lines is why r t.reads)
+texts_come x y a b name journal told config tables script text s o is why r (unbuilt (without never) none kept f) = absurd (cc)
+texts_come x y a b name journal told config tables script text s o is why r (unbuilt (with lines reads) none kept f) = absurd (none_read told script text lines is why r reads)
+texts_come x y a b name journal told config tables script text s o is why r (unchecked memory same kept) = inr (inr (inr (inr (ap code_of memory))))
 
 script_comes : (contents : List ℕ → Told) (x y : ℕ) (a b name : List ℕ) (journal : Bool) (config : Config) (tables : List TableDef) (text : List ℕ) (s : Status) (o : Outside) → contents name ≡ content text → IsRefusedScript text
     → ScriptStageEnds contents x y (Play a b name journal) config tables s o → RefusesScript x y (code_of s) o
-script_comes contents x y a b name journal config tables text s o is why (script_unread e) = unread_comes x y s o e
+script_comes contents x y a b name journal config tables text s o is why (script_unread kept e) = unread_comes x y s o e
 script_comes contents x y a b name journal config tables text s o is why (script_read script r f) = texts_come x y a b name journal (contents name) config tables script text s o is why r f
 
 schema_comes : (contents : List ℕ → Told) (x y : ℕ) (a b name : List ℕ) (journal : Bool) (config : Config) (schema : Option (List ℕ)) (text : List ℕ) (s : Status) (o : Outside) → contents name ≡ content text → IsRefusedScript text
     → SchemaEnds contents x y (Play a b name journal) config schema s o → RefusesScript x y (code_of s) o
 schema_comes contents x y a b name journal config schema text s o is why (schema_stands tables says e) = script_comes contents x y a b name journal config tables text s o is why e
 schema_comes contents x y a b name journal config schema text s o is why (schema_refused bytes cause rows e) = line_comes x y Refused bytes s o e
-schema_comes contents x y a b name journal config schema text s o is why (schema_unparsed memory same) = inr (inr (inr (inr (ap code_of memory))))
+schema_comes contents x y a b name journal config schema text s o is why (schema_unparsed memory same kept) = inr (inr (inr (inr (ap code_of memory))))
 
 rest_comes : (contents : List ℕ → Told) (x y : ℕ) (a b name : List ℕ) (journal : Bool) (config : Config) (text : List ℕ) (s : Status) (o : Outside) → contents name ≡ content text → IsRefusedScript text
     → RestEnds contents x y (Play a b name journal) config s o → RefusesScript x y (code_of s) o
-rest_comes contents x y a b name journal config text s o is why (schema_unread e) = unread_comes x y s o e
+rest_comes contents x y a b name journal config text s o is why (schema_unread kept e) = unread_comes x y s o e
 rest_comes contents x y a b name journal config text s o is why (schema_read schema r e) = schema_comes contents x y a b name journal config schema text s o is why e
 
 config_comes : (contents : List ℕ → Told) (x y : ℕ) (a b name : List ℕ) (journal : Bool) (got text : List ℕ) (s : Status) (o : Outside) → contents name ≡ content text → IsRefusedScript text
     → ConfigEnds contents x y (Play a b name journal) got s o → RefusesScript x y (code_of s) o
 config_comes contents x y a b name journal got text s o is why (configured config said e) = rest_comes contents x y a b name journal config text s o is why e
 config_comes contents x y a b name journal got text s o is why (faulty fault first none rows e) = line_comes x y Refused (fault_line fault) s o e
-config_comes contents x y a b name journal got text s o is why (unparsed memory same) = inr (inr (inr (inr (ap code_of memory))))
+config_comes contents x y a b name journal got text s o is why (unparsed memory same kept) = inr (inr (inr (inr (ap code_of memory))))
 
 command_comes : (contents : List ℕ → Told) (x y : ℕ) (a b name : List ℕ) (journal : Bool) (text : List ℕ) (s : Status) (o : Outside) → contents name ≡ content text → IsRefusedScript text
     → CommandEnds contents x y (Play a b name journal) s o → RefusesScript x y (code_of s) o
-command_comes contents x y a b name journal text s o is why (unread e) = unread_comes x y s o e
+command_comes contents x y a b name journal text s o is why (unread kept e) = unread_comes x y s o e
 command_comes contents x y a b name journal text s o is why (long c rows e) = line_comes x y Refused config_too_long s o e
 command_comes contents x y a b name journal text s o is why (read got c e) = config_comes contents x y a b name journal got text s o is why e
 

@@ -7,15 +7,13 @@ use Rattle.pgproto.specs.declared.line.ScriptLine.{ScriptLine}
 use Rattle.pgproto.specs.Script.{IsScript, IsBadAt, IfBadLine, IsScriptOr}
 use Rattle.pgproto.specs.declared.script.ScriptFault.{ScriptFault}
 use Rattle.pgproto.specs.declared.script.ScriptFault.TheVariants as scripts
-use Rattle.play.specs.Script.{Deed, IsSession}
+use Rattle.play.specs.Script.{IsSession}
 use Rattle.pool_command.specs.declared.command.Command.{Command}
 use Rattle.pool_command.specs.declared.command.Command.TheVariants.{Play, Generate, Serve}
 use Rattle.pool_config.specs.declared.config.Config.{Config}
 use Rattle.pool.specs.declared.scripts.ScriptStop.{ScriptStop}
 use Rattle.pool.specs.declared.scripts.ScriptStop.TheVariants.{TooLong, BadLine}
 use Rattle.pool.specs.Scripts.{IsAnswer, IsReading, ScriptCause, SaysNoScript, bad_line, script_too_long, has_script, lines_in}
-use Rattle.schema.specs.declared.catalogue.TableDef.{TableDef}
-use Rattle.pool.specs.Schemas.{built_tables}
 use Rattle.pool.specs.Texts.{IsBuilt, is_plain}
 
 -- one text has one reading
@@ -26,20 +24,20 @@ reading script text lines some few says only = record {
 }
 
 -- a command without a script asks for what is not built
-pub none_without : (command : Command) (config : Config) (tables : List TableDef) (script : Option (List ℕ)) → has_script command ≡ false → (deeds : List Deed) → IsBuilt command config tables script deeds → ⊥
-none_without (Play x y z journal) config tables script none deeds b = absurd (false≢true (sym none))
-none_without (Generate x y number size) config tables script none deeds b = false≢true b.plain
-none_without (Serve x y) config tables script none deeds b = false≢true b.plain
+pub none_without : (command : Command) (config : Config) (script : Option (List ℕ)) → has_script command ≡ false → (lines : List Line) → IsBuilt command config script lines → ⊥
+none_without (Play x y z journal) config script none lines b = absurd (false≢true (sym none))
+none_without (Generate x y number size) config script none lines b = false≢true b.plain
+none_without (Serve x y) config script none lines b = false≢true b.plain
 
 -- what else is built, and that the lines are of one session
-abbrev pub Others : Command → Config → List TableDef → Type 0
-Others command config tables = (is_plain command ≡ true) × (((0 < length config.nodes) × (length config.nodes ≤ 3)) × (tables ≡ built_tables))
+abbrev pub Others : Command → Config → Type 0
+Others command config = (is_plain command ≡ true) × ((0 < length config.nodes) × (length config.nodes ≤ 8))
 
-pub others_of : (command : Command) (config : Config) (tables : List TableDef) (script : Option (List ℕ)) (deeds : List Deed) → IsBuilt command config tables script deeds → Others command config tables
-others_of command config tables script deeds b = (b.plain, ((b.some_backend, b.few_backends), b.tables_are))
+pub others_of : (command : Command) (config : Config) (script : Option (List ℕ)) (lines : List Line) → IsBuilt command config script lines → Others command config
+others_of command config script lines b = (b.plain, (b.some_backend, b.few_backends))
 
-pub session_of : (command : Command) (config : Config) (tables : List TableDef) (script : Option (List ℕ)) (lines : List Line) (deeds : List Deed) → IsReading script lines → IsBuilt command config tables script deeds → IsSession lines
-session_of command config tables script lines deeds r b = subst IsSession (sym (r.only b.lines b.reads)) (record { deeds = deeds; done = b.done; one = b.one })
+pub session_of : (command : Command) (config : Config) (script : Option (List ℕ)) (lines found : List Line) → IsReading script lines → IsBuilt command config script found → IsSession lines
+session_of command config script lines found r b = subst IsSession (sym (r.only found b.reads)) b.session
 
 -- the reader's answer, at each of its forms
 pub too_long_at : (command : Command) (script : Option (List ℕ)) (stop : ScriptStop) → stop ≡ TooLong → IsAnswer command script (Err stop) → ScriptCause command script script_too_long

@@ -1,12 +1,12 @@
 -- How a run may end: for each case, each status with what was written, or that it never comes.
 use Rattle.std.specs.Prelude.{◌≡◌, ◌<◌, ◌⊎◌, ℕ, length, List, ◌++◌, Option, Some, None, codes}
 use Rattle.pool_base.specs.Outside.{Rose, Appends, AppendsFront, Told, IsTold, IsLonger}
-use Rattle.backend_trait.specs.Rows.{no_rows}
+use Rattle.backend_trait.specs.Rows.{Rows, no_rows}
 use Rattle.backend_trait.specs.Store.{Store}
 use Rattle.pgproto.specs.Line.{Line}
 use Rattle.pgproto.specs.Script.{IsScript}
-use Rattle.play.specs.Script.{Deed, AreDone, IsOneSession}
-use Rattle.play.specs.Transcript.{transcript_of, final_rows}
+use Rattle.play.specs.Script.{IsSession}
+use Rattle.play.specs.Transcript.{ArePlayed, ArePlayedInPart}
 use Rattle.pool.specs.declared.status.Status.{Status}
 use Rattle.pool_command.specs.declared.command.Command.{Command}
 use Rattle.pool_command.specs.Command.{command_of}
@@ -19,6 +19,7 @@ use Rattle.schema.specs.declared.catalogue.TableDef.{TableDef}
 use Rattle.pool.specs.Status.{code_of}
 use Rattle.pool.specs.declared.schemas.SchemaStop.{SchemaStop}
 use Rattle.pool.specs.declared.schemas.SchemaStop.TheVariants as schemas
+use Rattle.schema.specs.Reading.{Says as SaysTables}
 use Rattle.pool.specs.Schemas.{IsSchemaRead, SchemaCause, schema_too_long, bad_schema_line}
 use Rattle.pool.specs.Scripts.{ScriptCause, Stands}
 use Rattle.pool.specs.Shelf.{HaveRows}
@@ -47,6 +48,10 @@ pub record Outside : Type 0 where
 
 abbrev pub outside : ℕ → ℕ → Option (List ℕ) → Option (List ℕ) → List Store → List Store → Outside
 outside n m a b x y = record { faults_before = n; faults_after = m; had = a; has = b; stores_before = x; stores_after = y }
+
+-- no store was touched
+abbrev pub Untouched : Outside → Type 0
+Untouched o = o.stores_after ≡ o.stores_before
 
 -- the sink failed, and has a front of the bytes
 abbrev pub Fails : Outside → List ℕ → Type 0
@@ -96,57 +101,61 @@ UnbuiltEnds SinkFailed o = Fails o not_built
 UnbuiltEnds NoMemory o = ⊥
 UnbuiltEnds NotBuilt o = Appends o.had o.has not_built
 
--- the script is played over so many backends
-abbrev pub ScriptEnds : ℕ → List Deed → Status → Outside → Type 0
-ScriptEnds count deeds Done o = Appends o.had o.has (transcript_of no_rows deeds) × HaveRows count (final_rows no_rows deeds) o.stores_after
-ScriptEnds count deeds NoCommand o = ⊥
-ScriptEnds count deeds Refused o = ⊥
-ScriptEnds count deeds ScriptRefused o = ⊥
-ScriptEnds count deeds FilesFailed o = ⊥
-ScriptEnds count deeds SinkFailed o = Fails o (transcript_of no_rows deeds)
-ScriptEnds count deeds NoMemory o = AppendsFront o.had o.has (transcript_of no_rows deeds)
-ScriptEnds count deeds NotBuilt o = ⊥
+-- the script is played over so many backends of these tables
+abbrev pub ScriptEnds : ℕ → List TableDef → List Line → Status → Outside → Type 0
+ScriptEnds count tables lines Done o = (rows : Rows) × ArePlayed tables lines no_rows o.had o.has rows × HaveRows count tables rows o.stores_after
+ScriptEnds count tables lines NoCommand o = ⊥
+ScriptEnds count tables lines Refused o = ⊥
+ScriptEnds count tables lines ScriptRefused o = ⊥
+ScriptEnds count tables lines FilesFailed o = ⊥
+ScriptEnds count tables lines SinkFailed o = Rose o.faults_before o.faults_after × ArePlayedInPart tables lines no_rows o.had o.has
+ScriptEnds count tables lines NoMemory o = ArePlayedInPart tables lines no_rows o.had o.has
+ScriptEnds count tables lines NotBuilt o = ⊥
 
--- a script of this text was played to its end, over the backends of the configuration: what was written is the transcript of one store, and each backend has its rows
-pub record PlayedOver (config : Config) (text : List ℕ) (o : Outside) : Type 0 where
+-- a script of this text was played to its end over these tables and the backends of the configuration: what was written is the transcript of
+-- one store, and each backend has its rows
+pub record PlayedOver (config : Config) (tables : List TableDef) (text : List ℕ) (o : Outside) : Type 0 where
   pub lines : List Line
   pub says : IsScript text lines
-  pub deeds : List Deed
-  pub done : AreDone lines deeds
-  pub one : IsOneSession deeds
+  pub one : IsSession lines
   pub some : 0 < length config.nodes
-  pub wrote : Appends o.had o.has (transcript_of no_rows deeds)
-  pub rows : HaveRows (length config.nodes) (final_rows no_rows deeds) o.stores_after
+  pub left : Rows
+  pub wrote : ArePlayed tables lines no_rows o.had o.has left
+  pub rows : HaveRows (length config.nodes) tables left o.stores_after
 
--- and the configuration is that of its file
-pub record Played (told : Told) (text : List ℕ) (o : Outside) : Type 0 where
+-- and the configuration and the tables are those of their files
+pub record Played (config_told schema_told : Told) (text : List ℕ) (o : Outside) : Type 0 where
   pub config_text : List ℕ
-  pub tells : IsTold told config_text
+  pub tells : IsTold config_told config_text
   pub config : Config
   pub configured : IsConfiguration config_text config
-  pub over : PlayedOver config text o
+  pub schema_text : List ℕ
+  pub tells_schema : IsTold schema_told schema_text
+  pub tables : List TableDef
+  pub says_tables : SaysTables schema_text tables
+  pub over : PlayedOver config tables text o
 
 -- all texts of the command were read, and the schema says these tables: the script is refused and nothing else is done, it is played, or it stands and asks for what is not built
 pub data TextsEnds (command : Command) (config : Config) (tables : List TableDef) (script : Option (List ℕ)) (status : Status) (o : Outside) : Type 0 where
-  refused : (bytes : List ℕ) → ScriptCause command script bytes → o.stores_after ≡ o.stores_before → RefusedEnds ScriptRefused bytes status o → TextsEnds command config tables script status o
-  built : (deeds : List Deed) → IsBuilt command config tables script deeds → ScriptEnds (length config.nodes) deeds status o → TextsEnds command config tables script status o
-  unbuilt : Stands command script → ((deeds : List Deed) → IsBuilt command config tables script deeds → ⊥) → UnbuiltEnds status o → TextsEnds command config tables script status o
-  unchecked : status ≡ NoMemory → o.has ≡ o.had → TextsEnds command config tables script status o
+  refused : (bytes : List ℕ) → ScriptCause command script bytes → Untouched o → RefusedEnds ScriptRefused bytes status o → TextsEnds command config tables script status o
+  built : (lines : List Line) → IsBuilt command config script lines → ScriptEnds (length config.nodes) tables lines status o → TextsEnds command config tables script status o
+  unbuilt : Stands command script → ((lines : List Line) → IsBuilt command config script lines → ⊥) → Untouched o → UnbuiltEnds status o → TextsEnds command config tables script status o
+  unchecked : status ≡ NoMemory → o.has ≡ o.had → Untouched o → TextsEnds command config tables script status o
 
 -- the schema stands: the script was read, if the command has one, or it was not
 pub data ScriptStageEnds (contents : List ℕ → Told) (before after : ℕ) (command : Command) (config : Config) (tables : List TableDef) (status : Status) (o : Outside) : Type 0 where
-  script_unread : UnreadEnds before after status o → ScriptStageEnds contents before after command config tables status o
+  script_unread : Untouched o → UnreadEnds before after status o → ScriptStageEnds contents before after command config tables status o
   script_read : (script : Option (List ℕ)) → IsScriptRead contents command script → TextsEnds command config tables script status o → ScriptStageEnds contents before after command config tables status o
 
 -- the schema was read: it says these tables, or it is refused and nothing else is done
 pub data SchemaEnds (contents : List ℕ → Told) (before after : ℕ) (command : Command) (config : Config) (schema : Option (List ℕ)) (status : Status) (o : Outside) : Type 0 where
   schema_stands : (tables : List TableDef) → IsSchemaRead schema tables → ScriptStageEnds contents before after command config tables status o → SchemaEnds contents before after command config schema status o
-  schema_refused : (bytes : List ℕ) → SchemaCause schema bytes → o.stores_after ≡ o.stores_before → RefusedEnds Refused bytes status o → SchemaEnds contents before after command config schema status o
-  schema_unparsed : status ≡ NoMemory → o.has ≡ o.had → SchemaEnds contents before after command config schema status o
+  schema_refused : (bytes : List ℕ) → SchemaCause schema bytes → Untouched o → RefusedEnds Refused bytes status o → SchemaEnds contents before after command config schema status o
+  schema_unparsed : status ≡ NoMemory → o.has ≡ o.had → Untouched o → SchemaEnds contents before after command config schema status o
 
 -- the configuration stands: the schema was read, or it was not
 pub data RestEnds (contents : List ℕ → Told) (before after : ℕ) (command : Command) (config : Config) (status : Status) (o : Outside) : Type 0 where
-  schema_unread : UnreadEnds before after status o → RestEnds contents before after command config status o
+  schema_unread : Untouched o → UnreadEnds before after status o → RestEnds contents before after command config status o
   schema_read : (schema : Option (List ℕ)) → IsRead (contents (schema_name command)) 262144 schema → SchemaEnds contents before after command config schema status o → RestEnds contents before after command config status o
 
 -- the text says no configuration
@@ -156,17 +165,17 @@ SaysNone text = (config : Config) → IsConfiguration text config → ⊥
 -- the text of the configuration was read: it says a configuration, or it has a first fault and nothing else is done
 pub data ConfigEnds (contents : List ℕ → Told) (before after : ℕ) (command : Command) (text : List ℕ) (status : Status) (o : Outside) : Type 0 where
   configured : (config : Config) → IsConfiguration text config → RestEnds contents before after command config status o → ConfigEnds contents before after command text status o
-  faulty : (fault : ConfigFault) → IsFault text fault → SaysNone text → o.stores_after ≡ o.stores_before → RefusedEnds Refused (fault_line fault) status o → ConfigEnds contents before after command text status o
-  unparsed : status ≡ NoMemory → o.has ≡ o.had → ConfigEnds contents before after command text status o
+  faulty : (fault : ConfigFault) → IsFault text fault → SaysNone text → Untouched o → RefusedEnds Refused (fault_line fault) status o → ConfigEnds contents before after command text status o
+  unparsed : status ≡ NoMemory → o.has ≡ o.had → Untouched o → ConfigEnds contents before after command text status o
 
 -- the words are a command: its configuration was not read, is too long, or was read
 pub data CommandEnds (contents : List ℕ → Told) (before after : ℕ) (command : Command) (status : Status) (o : Outside) : Type 0 where
-  unread : UnreadEnds before after status o → CommandEnds contents before after command status o
-  long : IsRead (contents (config_name command)) 65536 None → o.stores_after ≡ o.stores_before → RefusedEnds Refused config_too_long status o → CommandEnds contents before after command status o
+  unread : Untouched o → UnreadEnds before after status o → CommandEnds contents before after command status o
+  long : IsRead (contents (config_name command)) 65536 None → Untouched o → RefusedEnds Refused config_too_long status o → CommandEnds contents before after command status o
   read : (text : List ℕ) → IsRead (contents (config_name command)) 65536 (Some text) → ConfigEnds contents before after command text status o → CommandEnds contents before after command status o
 
 abbrev pub WordsEnd : Option Command → (List ℕ → Told) → ℕ → ℕ → Status → Outside → Type 0
-WordsEnd None contents before after status o = NoCommandEnds status o
+WordsEnd None contents before after status o = Untouched o × NoCommandEnds status o
 WordsEnd (Some command) contents before after status o = CommandEnds contents before after command status o
 
 abbrev pub Ends : List (List ℕ) → (List ℕ → Told) → ℕ → ℕ → Status → Outside → Type 0
@@ -200,7 +209,7 @@ pub record TextIsRefused (words : List (List ℕ)) (contents : List ℕ → Told
   pub bytes : List ℕ
   pub cause : RefusedCause contents command bytes
   pub wrote : Appends o.had o.has bytes
-  pub rows : o.stores_after ≡ o.stores_before
+  pub rows : Untouched o
 
 -- the script that the command names was refused, its line was written, and nothing else was done
 pub record ScriptIsRefused (words : List (List ℕ)) (contents : List ℕ → Told) (o : Outside) : Type 0 where
@@ -211,7 +220,7 @@ pub record ScriptIsRefused (words : List (List ℕ)) (contents : List ℕ → To
   pub bytes : List ℕ
   pub cause : ScriptCause command script bytes
   pub wrote : Appends o.had o.has bytes
-  pub rows : o.stores_after ≡ o.stores_before
+  pub rows : Untouched o
 
 -- a line that is to be written, and the status that it comes with
 abbrev pub Says : Status → Status → List ℕ → Option (List ℕ) → Option (List ℕ) → ℕ → ℕ → Type 0

@@ -1,10 +1,6 @@
--- A schema's text: which tables it says, why it is refused, and the tables that are built.
-use Rattle.std.specs.Prelude.{◌≡◌, ◌<◌, ◌⊎◌, ℕ, Bool, true, false, List, [], ◌∷◌, ◌++◌, Option, Some, None, length, Result, Ok, Err, codes}
+-- A schema's text: which tables it says, and why it is refused.
+use Rattle.std.specs.Prelude.{◌≡◌, ◌<◌, ◌⊎◌, ℕ, List, [], ◌∷◌, ◌++◌, Option, Some, None, length, Result, Ok, Err, codes}
 use Rattle.std.specs.Fmt.{decimal}
-use Rattle.pg_values.specs.declared.col_type.ColType.TheVariants as kind
-use Rattle.pg_values.specs.declared.col_type.ColType.{ColType}
-use Rattle.schema.specs.declared.catalogue.ColumnDef.{ColumnDef}
-use Rattle.schema.specs.declared.catalogue.Fill.TheVariants.{Nothing}
 use Rattle.schema.specs.declared.catalogue.TableDef.{TableDef}
 use Rattle.schema.specs.Reading.{Says, IsFaulty}
 use Rattle.pool.specs.declared.schemas.SchemaStop.{SchemaStop}
@@ -41,20 +37,3 @@ IsSchemaAnswer schema (Err NoMemory) = Unit {0}
 -- a text that is refused as a schema: it is too long, or says no tables
 abbrev pub IsRefusedSchema : List ℕ → Type 0
 IsRefusedSchema text = (262144 < length text) ⊎ SaysNoTables text
-
--- a column without a DEFAULT
-abbrev pub plain_column : List ℕ → ColType → Bool → ColumnDef
-plain_column name of not_null = record { name = name; kind = of; not_null = not_null; fill = Nothing }
-
--- the table t
-abbrev pub built_table : TableDef
-built_table = record {
-  name = codes "t";
-  columns = plain_column (codes "id") kind.Int4 true ∷ plain_column (codes "v") kind.Int8 false ∷ [];
-  key = 0;
-  serial = None;
-}
-
--- the tables that are built
-unfoldable pub built_tables : List TableDef
-built_tables = built_table ∷ []

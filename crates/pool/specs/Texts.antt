@@ -2,12 +2,10 @@
 use Rattle.std.specs.Prelude.{◌≡◌, ◌<◌, ◌≤◌, ℕ, Bool, true, false, not, List, [], ◌∷◌, ◌++◌, Option, Some, None, length}
 use Rattle.pool_base.specs.Outside.{Told, IsTold, IsLonger}
 use Rattle.pgproto.specs.Line.{Line}
-use Rattle.play.specs.Script.{Deed, AreDone, IsOneSession}
+use Rattle.play.specs.Script.{IsSession}
 use Rattle.pool_command.specs.declared.command.Command.{Command}
 use Rattle.pool_command.specs.declared.command.Command.TheVariants.{Play, Generate, Serve}
 use Rattle.pool_config.specs.declared.config.Config.{Config}
-use Rattle.schema.specs.declared.catalogue.TableDef.{TableDef}
-use Rattle.pool.specs.Schemas.{built_tables}
 use Rattle.pool.specs.Scripts.{IsReadAs}
 
 -- the file of the configuration
@@ -42,13 +40,10 @@ is_plain (Play config schema script journal) = not journal
 is_plain (Generate config schema number size) = false
 is_plain (Serve config schema) = false
 
--- what is built is asked for: a script that has one session do this, over one to three backends with these tables, without the journal
-pub record IsBuilt (command : Command) (config : Config) (tables : List TableDef) (script : Option (List ℕ)) (deeds : List Deed) : Type 0 where
+-- what is built is asked for: a script that is one session, over one to eight backends, without the journal
+pub record IsBuilt (command : Command) (config : Config) (script : Option (List ℕ)) (lines : List Line) : Type 0 where
   pub plain : is_plain command ≡ true
   pub some_backend : 0 < length config.nodes
-  pub few_backends : length config.nodes ≤ 3
-  pub tables_are : tables ≡ built_tables
-  pub lines : List Line
+  pub few_backends : length config.nodes ≤ 8
   pub reads : IsReadAs script lines
-  pub done : AreDone lines deeds
-  pub one : IsOneSession deeds
+  pub session : IsSession lines

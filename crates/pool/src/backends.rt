@@ -1,12 +1,13 @@
 //! The first backends of a shelf as what runs statements.
-ghost use Rattle.std.specs.Prelude.{◌≡◌, IfOk, OnOk, map, take};
+ghost use Rattle.std.specs.Prelude.{◌≡◌, true, None, IfOk, OnOk, map, take};
 ghost use Rattle.backend_trait.specs.Alone.{given_on, IsEffect, rows_after};
-ghost use Rattle.session_core.specs.Statements.{primary_rows};
+ghost use Rattle.session_core.specs.Statements.{primary_rows, primary_tables};
+ghost use Rattle.backend_trait.specs.Runnable.{IsRunnable, is_of_run};
+ghost use Rattle.classifier.specs.Classes.{lock_of};
 ghost use Rattle.pool.specs.Shelf.{AreBackends};
 
 use backend_trait::{Answer, Backend, Checked};
 use play::Database;
-use played_sql::Statement;
 use pool_base::{NoMemory, SessionId};
 use session_core::run_statement;
 use write_path::Chain;
@@ -21,6 +22,8 @@ pub struct Backends<B: Backend> {
 }
 
 impl<B: Backend> Database for Backends<B> {
+    ghost tables = { λ d. primary_tables (map B.meaning (take d.count d.shelf.items)) };
+
     ghost rows = { λ d. primary_rows (map B.meaning (take d.count d.shelf.items)) };
 
     ghost copies = { λ d. d.count };
@@ -29,10 +32,9 @@ impl<B: Backend> Database for Backends<B> {
         (take d.count d.shelf.items) };
 
     #[tactic(auto, unfolding(play::specs::Replies::given_on, play::specs::Replies::rows_after))]
-    fn run(&mut self, statement: Statement) -> Result<Answer, NoMemory> {
-        let checked = Checked::from(statement);
+    fn run(&mut self, statement: &Checked) -> Result<Answer, NoMemory> {
         let shelf = self.shelf.as_mut_slice();
-        run_over(&mut self.chain, shelf, self.count, self.session, checked)
+        run_over(&mut self.chain, shelf, self.count, self.session, statement)
     }
 }
 
@@ -42,14 +44,22 @@ fn run_over<B: Backend>(
     shelf: &mut [B],
     count: usize,
     s: SessionId,
-    statement: Checked,
+    statement: &Checked,
 ) -> Result<Answer, NoMemory>
-    requires { AreBackends B.meaning B.is_honest B.is_prompt B.is_steady count (take count
+    requires backends { AreBackends B.meaning B.is_honest B.is_prompt B.is_steady count (take count
         shelf.old) }
-    ensures answer { IfOk result (λ answer. IsEffect (given_on (primary_rows (map B.meaning (take
-        count shelf.old))) statement) answer) }
+    requires runnable { IsRunnable (primary_tables (map B.meaning (take count shelf.old)))
+        statement.now }
+    requires draws_none { lock_of statement.now.body ≡ None }
+    ensures answer { IfOk result (λ answer. IsEffect (given_on (primary_tables (map B.meaning (take
+        count shelf.old))) (primary_rows (map B.meaning (take count shelf.old))) statement.now)
+        answer) }
+    ensures form { IfOk result (λ answer. is_of_run statement.now answer ≡ true) }
     ensures rows { OnOk result (primary_rows (map B.meaning (take count shelf.new)) ≡ rows_after
-        (primary_rows (map B.meaning (take count shelf.old))) statement) }
+        (primary_tables (map B.meaning (take count shelf.old)))
+        (primary_rows (map B.meaning (take count shelf.old))) statement.now) }
+    ensures tables { OnOk result (primary_tables (map B.meaning (take count shelf.new))
+        ≡ primary_tables (map B.meaning (take count shelf.old))) }
     ensures ready { OnOk result (AreBackends B.meaning B.is_honest B.is_prompt B.is_steady count
         (take count shelf.new)) }
 {

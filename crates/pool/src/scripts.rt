@@ -12,7 +12,7 @@ use std::alloc::Global;
 const MOST_LINES: usize = 20_000;
 
 /// Why a script is refused, or was not read.
-#[derive(Clone, Copy, PartialEq, Eq, Drop)]
+#[derive(Clone, Copy, Debug, PartialEq, Eq, Drop)]
 pub enum ScriptStop {
     /// It is above its limit in bytes or in lines.
     TooLong,

@@ -37,32 +37,41 @@ const TRANSCRIPT: &str = "== session 1\n1 <= BE AuthenticationOk\n\
 
 /// The files `config`, `schema` and `script`; the calls of that number fail.
 fn files(
-    rt: &impl AllocGlobal,
+    alloc: Global,
     config: &str,
     script: &str,
     fails: &[u64],
 ) -> Result<MemoryFiles, NoMemory> {
-    files_of(rt, config, SCHEMA, script, fails)
+    files_of(alloc, config, SCHEMA, script, fails)
 }
 
 fn files_of(
-    rt: &impl AllocGlobal,
+    alloc: Global,
     config: &str,
     schema: &str,
     script: &str,
     fails: &[u64],
 ) -> Result<MemoryFiles, NoMemory> {
-    let alloc = rt.alloc();
+    let names = names(alloc)?;
+    let contents = contents(alloc, &[config, schema, script])?;
+    let fails = List::from_slice(alloc, fails)?;
+    Ok(MemoryFiles::new(names, contents, fails))
+}
+
+fn names(alloc: Global) -> Result<List<Text>, NoMemory> {
     let mut names = List::new(alloc);
     for name in ["config", "schema", "script"] {
         names.push(Text::from_str(alloc, name)?)?;
     }
+    Ok(names)
+}
+
+fn contents(alloc: Global, texts: &[&str]) -> Result<List<List<u8>>, NoMemory> {
     let mut contents = List::new(alloc);
-    contents.push(List::from_slice(alloc, config.as_bytes())?)?;
-    contents.push(List::from_slice(alloc, schema.as_bytes())?)?;
-    contents.push(List::from_slice(alloc, script.as_bytes())?)?;
-    let fails = List::from_slice(alloc, fails)?;
-    Ok(MemoryFiles::new(names, contents, fails))
+    for text in texts {
+        contents.push(List::from_slice(alloc, text.as_bytes())?)?;
+    }
+    Ok(contents)
 }
 
 /// What a run has left: its status, what was written, and whether each store has the one row.
@@ -73,7 +82,8 @@ struct Ran {
     each_has_the_row: bool,
 }
 
-/// Runs the words over files and three stores without rows.
+/// Runs the words over files and eight stores without rows; of the first three it tells whether
+/// each has the row.
 fn run_over_three(
     alloc: Global,
     words: &[&str],
@@ -81,6 +91,11 @@ fn run_over_three(
     sink_fails: &[u64],
 ) -> Result<Ran, NoMemory> {
     let mut shelf: Vec<Box<dyn Backend>> = Vec::new(alloc);
+    put(&mut shelf, Box::new(alloc, MemoryStore::new(alloc)?)?)?;
+    put(&mut shelf, Box::new(alloc, MemoryStore::new(alloc)?)?)?;
+    put(&mut shelf, Box::new(alloc, MemoryStore::new(alloc)?)?)?;
+    put(&mut shelf, Box::new(alloc, MemoryStore::new(alloc)?)?)?;
+    put(&mut shelf, Box::new(alloc, MemoryStore::new(alloc)?)?)?;
     put(&mut shelf, Box::new(alloc, MemoryStore::new(alloc)?)?)?;
     put(&mut shelf, Box::new(alloc, MemoryStore::new(alloc)?)?)?;
     put(&mut shelf, Box::new(alloc, MemoryStore::new(alloc)?)?)?;
@@ -95,7 +110,7 @@ fn run_over(
     sink_fails: &[u64],
     shelf: &mut Vec<Box<dyn Backend>>,
 ) -> Result<Ran, NoMemory>
-    requires enough { 3 ≤ length shelf.old.items }
+    requires enough { 8 ≤ length shelf.old.items }
     requires blank_each { All (λ x. meaning x ≡ blank) shelf.old.items }
     requires honest { All (λ x. is_honest x ≡ true) shelf.old.items }
     requires prompt { All (λ x. is_prompt x ≡ true) shelf.old.items }
@@ -112,14 +127,14 @@ fn run_over(
     })
 }
 
-/// Whether each backend has one row in table 0: 1, 10.
+/// Whether each of the first three backends has one row in table 0: 1, 10.
 fn have_the_row<B: Backend>(alloc: Global, shelf: &[B]) -> Result<bool, NoMemory> {
     let mut cells = List::new(alloc);
     cells.push(Value::Int4(1))?;
     cells.push(Value::Int8(10))?;
     let mut expected = List::new(alloc);
     expected.push(Row { cells })?;
-    for one in shelf {
+    for one in shelf.iter().take(3) {
         if one.rows_of(0)? != expected {
             return Ok(false);
         }
@@ -127,63 +142,74 @@ fn have_the_row<B: Backend>(alloc: Global, shelf: &[B]) -> Result<bool, NoMemory
     Ok(true)
 }
 
-/// Runs the words over files and three stores without rows: the status and what was written.
-fn run(
-    rt: &impl AllocGlobal,
+/// Whether the words, run over files and stores without rows, end with this status, and write this
+/// text.
+fn tells(
+    alloc: Global,
     words: &[&str],
     files: MemoryFiles,
-    sink_fails: &[u64],
-) -> Result<(u8, List<u8>), NoMemory> {
-    let Ran { code, output, .. } = run_over_three(rt.alloc(), words, files, sink_fails)?;
-    Ok((code, output))
+    code: u8,
+    text: &str,
+) -> Result<bool, NoMemory> {
+    let left = run_over_three(alloc, words, files, &[])?;
+    Ok(left.code == code && left.output.as_slice() == text.as_bytes())
 }
 
-/// Plays a script over one backend.
-fn played(
-    rt: &impl AllocGlobal,
+/// Whether these texts are played so.
+fn texts_tell(
+    alloc: Global,
+    config: &str,
+    schema: &str,
     script: &str,
-    file_fails: &[u64],
-    sink_fails: &[u64],
-) -> Result<(u8, List<u8>), NoMemory> {
-    let files = files(rt, CONFIG, script, file_fails)?;
-    run(rt, &PLAY, files, sink_fails)
+    code: u8,
+    text: &str,
+) -> Result<bool, NoMemory> {
+    let files = files_of(alloc, config, schema, script, &[])?;
+    tells(alloc, &PLAY, files, code, text)
+}
+
+/// Whether a script over one backend is played so.
+fn script_tells(alloc: Global, script: &str, code: u8, text: &str) -> Result<bool, NoMemory> {
+    texts_tell(alloc, CONFIG, SCHEMA, script, code, text)
 }
 
 #[test]
 fn one_row_in_one_row_out(rt: HostRuntime) -> Result<(), Fail> {
-    let (code, output) = played(&rt, SCRIPT, &[], &[])?;
-    assert_eq!(rt; code, 0);
-    assert_eq!(rt; output.as_slice(), TRANSCRIPT.as_bytes());
+    assert!(rt; script_tells(rt.alloc(), SCRIPT, 0, TRANSCRIPT)?);
     Ok(())
 }
 
 #[test]
 fn an_empty_script_writes_nothing(rt: HostRuntime) -> Result<(), Fail> {
-    let (code, output) = played(&rt, "", &[], &[])?;
-    assert_eq!(rt; code, 0);
-    assert!(rt; output.is_empty());
+    assert!(rt; script_tells(rt.alloc(), "", 0, "")?);
     Ok(())
+}
+
+/// Whether the run ends before anything is written, where that call of the files fails.
+fn files_fail(alloc: Global, call: u64) -> Result<bool, NoMemory> {
+    let files = files(alloc, CONFIG, SCRIPT, &[call])?;
+    tells(alloc, &PLAY, files, 4, "")
 }
 
 #[test]
 fn files_that_fail_end_the_run_before_anything_is_written(rt: HostRuntime) -> Result<(), Fail> {
     for call in 1..7u64 {
-        let (code, output) = played(&rt, SCRIPT, &[call], &[])?;
-        assert_eq!(rt; code, 4, "at call {call}");
-        assert!(rt; output.is_empty(), "at call {call}");
+        assert!(rt; files_fail(rt.alloc(), call)?, "at call {call}");
     }
     Ok(())
+}
+
+/// Whether a front of the transcript is written, where that call of the sink fails.
+fn sink_fails(alloc: Global, call: u64) -> Result<bool, NoMemory> {
+    let files = files(alloc, CONFIG, SCRIPT, &[])?;
+    let left = run_over_three(alloc, &PLAY, files, &[call])?;
+    Ok(left.code == 5 && TRANSCRIPT.as_bytes().starts_with(left.output.as_slice()))
 }
 
 #[test]
 fn a_sink_that_fails_has_a_front_of_the_transcript(rt: HostRuntime) -> Result<(), Fail> {
     for call in 1..22u64 {
-        let (code, output) = played(&rt, SCRIPT, &[], &[call])?;
-        assert_eq!(rt; code, 5, "at call {call}");
-        assert!(rt;
-            TRANSCRIPT.as_bytes().starts_with(output.as_slice()),
-            "at call {call}"
-        );
+        assert!(rt; sink_fails(rt.alloc(), call)?, "at call {call}");
     }
     Ok(())
 }
@@ -194,7 +220,7 @@ const NOT_BUILT: [&str; 8] = [
     "1 'X'\n",
     "session 1\nsession 1\n",
     "session 1\n1 'X'\n1 'X'\n",
-    "session 1\n1 'Q' \"SELECT 1\"\n",
+    "session 1\n1 'X'\n1 'Q' \"SELECT 1\"\n",
     "session 1\n2 'Q' \"\"\n",
     "session 1\n1 'S'\n",
     "cut 1\nsession 1\n",
@@ -203,15 +229,14 @@ const NOT_BUILT: [&str; 8] = [
 #[test]
 fn other_scripts_are_not_built(rt: HostRuntime) -> Result<(), Fail> {
     for script in NOT_BUILT {
-        let (code, output) = played(&rt, script, &[], &[])?;
-        assert_eq!(rt; code, 9, "of {script}");
-        assert_eq!(rt; output.as_slice(), b"pool: not built yet\n".as_slice());
+        let is_told = script_tells(rt.alloc(), script, 9, "pool: not built yet\n")?;
+        assert!(rt; is_told, "of {script}");
     }
     Ok(())
 }
 
 /// Scripts that are refused, and the line that says why.
-const BAD_LINES: [(&str, &str); 5] = [
+const BAD_LINES: [(&str, &str); 6] = [
     (
         "session 1\n1 'Q' \"SELECT 1\"\n1 'Z'\n",
         "pool: script line 3: bad line\n",
@@ -226,14 +251,16 @@ const BAD_LINES: [(&str, &str); 5] = [
         "session 1\n1 raw \"580\"\n",
         "pool: script line 2: bad line\n",
     ),
+    (
+        "session 1\nmoment \"noon\"\n",
+        "pool: script line 2: bad line\n",
+    ),
 ];
 
 #[test]
 fn refused_scripts_are_named(rt: HostRuntime) -> Result<(), Fail> {
     for (script, line) in BAD_LINES {
-        let (code, output) = played(&rt, script, &[], &[])?;
-        assert_eq!(rt; code, 3, "of {script}");
-        assert_eq!(rt; output.as_slice(), line.as_bytes(), "of {script}");
+        assert!(rt; script_tells(rt.alloc(), script, 3, line)?, "of {script}");
     }
     Ok(())
 }
@@ -244,49 +271,35 @@ fn a_script_has_at_most_20000_lines(rt: HostRuntime) -> Result<(), Fail> {
     for _ in 0..20_000 {
         script.push_str("\n")?;
     }
-    let (code, output) = played(&rt, script.as_str(), &[], &[])?;
-    assert_eq!(rt; code, 0);
-    assert!(rt; output.is_empty());
+    assert!(rt; script_tells(rt.alloc(), script.as_str(), 0, "")?);
     script.push_str("#")?;
-    let (code, output) = played(&rt, script.as_str(), &[], &[])?;
-    assert_eq!(rt; code, 3);
-    assert_eq!(rt; output.as_slice(), b"pool: script is too long\n".as_slice());
+    assert!(rt; script_tells(rt.alloc(), script.as_str(), 3, "pool: script is too long\n")?);
     Ok(())
 }
 
 #[test]
 fn a_script_is_refused_before_it_is_said_not_to_be_built(rt: HostRuntime) -> Result<(), Fail> {
     let words = ["play", "config", "schema", "script", "--journal"];
-    let files = files(&rt, CONFIG, "session 1\n1 'Z'\n", &[])?;
-    let (code, output) = run(&rt, &words, files, &[])?;
-    assert_eq!(rt; code, 3);
-    assert_eq!(rt;
-        output.as_slice(),
-        b"pool: script line 2: bad line\n".as_slice()
-    );
+    let files = files(rt.alloc(), CONFIG, "session 1\n1 'Z'\n", &[])?;
+    let line = "pool: script line 2: bad line\n";
+    assert!(rt; tells(rt.alloc(), &words, files, 3, line)?);
     Ok(())
 }
 
 #[test]
 fn an_empty_text_asks_for_nothing(rt: HostRuntime) -> Result<(), Fail> {
     let script = "# a client that asks for nothing\n\nsession 1\n1 'Q' \"\"\n";
-    let (code, output) = played(&rt, script, &[], &[])?;
-    assert_eq!(rt; code, 0);
-    let end = b"1 <= BE ReadyForQuery (I)\n1 FE=> 'Q' \"\"\n1 <= BE EmptyQueryResponse\n\
+    let end = "1 <= BE ReadyForQuery (I)\n1 FE=> 'Q' \"\"\n1 <= BE EmptyQueryResponse\n\
         1 <= BE ReadyForQuery (I)\n1 closed\n";
-    assert!(rt; output.as_slice().ends_with(end.as_slice()));
+    assert!(rt; ends_so(rt.alloc(), SCHEMA, script, end)?);
     Ok(())
 }
 
 #[test]
 fn words_that_are_no_command_are_refused(rt: HostRuntime) -> Result<(), Fail> {
-    let files = files(&rt, CONFIG, SCRIPT, &[])?;
-    let (code, output) = run(&rt, &["play"], files, &[])?;
-    assert_eq!(rt; code, 1);
-    assert_eq!(rt;
-        output.as_slice(),
-        b"pool: the words are no command\n".as_slice()
-    );
+    let files = files(rt.alloc(), CONFIG, SCRIPT, &[])?;
+    let line = "pool: the words are no command\n";
+    assert!(rt; tells(rt.alloc(), &["play"], files, 1, line)?);
     Ok(())
 }
 
@@ -304,10 +317,8 @@ fn other_commands_are_not_built(rt: HostRuntime) -> Result<(), Fail> {
     ];
     let journal: &[&str] = &["play", "config", "schema", "script", "--journal"];
     for words in [serve, generate, journal] {
-        let files = files(&rt, CONFIG, SCRIPT, &[])?;
-        let (code, output) = run(&rt, words, files, &[])?;
-        assert_eq!(rt; code, 9);
-        assert_eq!(rt; output.as_slice(), b"pool: not built yet\n".as_slice());
+        let files = files(rt.alloc(), CONFIG, SCRIPT, &[])?;
+        assert!(rt; tells(rt.alloc(), words, files, 9, "pool: not built yet\n")?);
     }
     Ok(())
 }
@@ -340,23 +351,17 @@ const REFUSED: [(&str, &str); 5] = [
 #[test]
 fn refused_configurations_are_named(rt: HostRuntime) -> Result<(), Fail> {
     for (config, line) in REFUSED {
-        let files = files(&rt, config, SCRIPT, &[])?;
-        let (code, output) = run(&rt, &PLAY, files, &[])?;
-        assert_eq!(rt; code, 2, "of {config}");
-        assert_eq!(rt; output.as_slice(), line.as_bytes());
+        let is_told = texts_tell(rt.alloc(), config, SCHEMA, SCRIPT, 2, line)?;
+        assert!(rt; is_told, "of {config}");
     }
     Ok(())
 }
 
 #[test]
 fn a_configuration_is_refused_before_the_schema_is_read(rt: HostRuntime) -> Result<(), Fail> {
-    let files = files(&rt, "port\n", SCRIPT, &[3])?;
-    let (code, output) = run(&rt, &PLAY, files, &[])?;
-    assert_eq!(rt; code, 2);
-    assert_eq!(rt;
-        output.as_slice(),
-        b"pool: configuration line 1: bad line\n".as_slice()
-    );
+    let files = files(rt.alloc(), "port\n", SCRIPT, &[3])?;
+    let line = "pool: configuration line 1: bad line\n";
+    assert!(rt; tells(rt.alloc(), &PLAY, files, 2, line)?);
     Ok(())
 }
 
@@ -366,13 +371,8 @@ fn a_configuration_above_its_limit_is_refused(rt: HostRuntime) -> Result<(), Fai
     for _ in 0..3200 {
         config.push_str("# a line of comments\n")?;
     }
-    let files = files(&rt, config.as_str(), SCRIPT, &[])?;
-    let (code, output) = run(&rt, &PLAY, files, &[])?;
-    assert_eq!(rt; code, 2);
-    assert_eq!(rt;
-        output.as_slice(),
-        b"pool: configuration is too long\n".as_slice()
-    );
+    let line = "pool: configuration is too long\n";
+    assert!(rt; texts_tell(rt.alloc(), config.as_str(), SCHEMA, SCRIPT, 2, line)?);
     Ok(())
 }
 
@@ -399,23 +399,17 @@ const BAD_SCHEMAS: [(&str, &str); 4] = [
 #[test]
 fn refused_schemas_are_named(rt: HostRuntime) -> Result<(), Fail> {
     for (schema, line) in BAD_SCHEMAS {
-        let files = files_of(&rt, CONFIG, schema, "session 1\n1 'Z'\n", &[])?;
-        let (code, output) = run(&rt, &PLAY, files, &[])?;
-        assert_eq!(rt; code, 2, "of {schema}");
-        assert_eq!(rt; output.as_slice(), line.as_bytes());
+        let is_told = texts_tell(rt.alloc(), CONFIG, schema, "session 1\n1 'Z'\n", 2, line)?;
+        assert!(rt; is_told, "of {schema}");
     }
     Ok(())
 }
 
 #[test]
 fn a_schema_is_refused_before_the_script_is_read(rt: HostRuntime) -> Result<(), Fail> {
-    let files = files_of(&rt, CONFIG, "CREATE", SCRIPT, &[5])?;
-    let (code, output) = run(&rt, &PLAY, files, &[])?;
-    assert_eq!(rt; code, 2);
-    assert_eq!(rt;
-        output.as_slice(),
-        b"pool: schema line 1: bad line\n".as_slice()
-    );
+    let files = files_of(rt.alloc(), CONFIG, "CREATE", SCRIPT, &[5])?;
+    let line = "pool: schema line 1: bad line\n";
+    assert!(rt; tells(rt.alloc(), &PLAY, files, 2, line)?);
     Ok(())
 }
 
@@ -425,10 +419,8 @@ fn a_schema_above_its_limit_is_refused(rt: HostRuntime) -> Result<(), Fail> {
     for _ in 0..13_000 {
         schema.push_str("-- a line of comments\n")?;
     }
-    let files = files_of(&rt, CONFIG, schema.as_str(), SCRIPT, &[])?;
-    let (code, output) = run(&rt, &PLAY, files, &[])?;
-    assert_eq!(rt; code, 2);
-    assert_eq!(rt; output.as_slice(), b"pool: schema is too long\n".as_slice());
+    let line = "pool: schema is too long\n";
+    assert!(rt; texts_tell(rt.alloc(), CONFIG, schema.as_str(), SCRIPT, 2, line)?);
     Ok(())
 }
 
@@ -442,32 +434,35 @@ const SPELLINGS: [&str; 3] = [
 #[test]
 fn each_spelling_of_the_table_is_played(rt: HostRuntime) -> Result<(), Fail> {
     for schema in SPELLINGS {
-        let files = files_of(&rt, CONFIG, schema, SCRIPT, &[])?;
-        let (code, output) = run(&rt, &PLAY, files, &[])?;
-        assert_eq!(rt; code, 0, "of {schema}");
-        assert_eq!(rt; output.as_slice(), TRANSCRIPT.as_bytes());
+        let is_played = texts_tell(rt.alloc(), CONFIG, schema, SCRIPT, 0, TRANSCRIPT)?;
+        assert!(rt; is_played, "of {schema}");
     }
     Ok(())
 }
 
-/// Schemas that stand and are not built.
-const OTHER_SCHEMAS: [&str; 6] = [
-    "",
-    "CREATE TABLE u (id int4 PRIMARY KEY, v int8);\n",
-    "CREATE TABLE t (id int4 PRIMARY KEY, v int4);\n",
-    "CREATE TABLE t (id int4 PRIMARY KEY, v int8 NOT NULL);\n",
-    "CREATE TABLE t (id int4 PRIMARY KEY, v int8 DEFAULT NULL);\n",
-    "CREATE TABLE t (id int4 PRIMARY KEY, v int8); CREATE TABLE u (id int4 PRIMARY KEY);\n",
-];
+/// Whether the script over this schema is played, and what is written ends so.
+fn ends_so(alloc: Global, schema: &str, script: &str, end: &str) -> Result<bool, NoMemory> {
+    let files = files_of(alloc, CONFIG, schema, script, &[])?;
+    let left = run_over_three(alloc, &PLAY, files, &[])?;
+    Ok(left.code == 0 && left.output.as_slice().ends_with(end.as_bytes()))
+}
 
 #[test]
-fn other_schemas_are_not_built(rt: HostRuntime) -> Result<(), Fail> {
-    for schema in OTHER_SCHEMAS {
-        let files = files_of(&rt, CONFIG, schema, SCRIPT, &[])?;
-        let (code, output) = run(&rt, &PLAY, files, &[])?;
-        assert_eq!(rt; code, 9, "of {schema}");
-        assert_eq!(rt; output.as_slice(), b"pool: not built yet\n".as_slice());
-    }
+fn any_schema_is_played(rt: HostRuntime) -> Result<(), Fail> {
+    let script = "session 1\n1 'Q' \"SELECT * FROM u\"\n";
+    let none = "1 <= BE ErrorResponse (ERROR 42P01 \"no such table: u\")\n\
+        1 <= BE ReadyForQuery (I)\n1 closed\n";
+    assert!(rt; ends_so(rt.alloc(), "", script, none)?);
+    let empty = "1 <= BE RowDescription (\"k\" 25 0)\n\
+        1 <= BE CommandComplete (\"SELECT 0\")\n1 <= BE ReadyForQuery (I)\n1 closed\n";
+    assert!(rt;
+        ends_so(
+            rt.alloc(),
+            "CREATE TABLE u (k text PRIMARY KEY);\n",
+            script,
+            empty
+        )?
+    );
     Ok(())
 }
 
@@ -475,58 +470,54 @@ fn other_schemas_are_not_built(rt: HostRuntime) -> Result<(), Fail> {
 fn comments_and_a_weight_change_no_transcript(rt: HostRuntime) -> Result<(), Fail> {
     let config = "# one backend\nbackend_clustering_mode = 'snapshot_isolation' # the mode\n\n\
         backend_hostname0 = 'db.example'\nbackend_port0 = 5432\nbackend_weight0 = 3\n";
-    let files = files(&rt, config, SCRIPT, &[])?;
-    let (code, output) = run(&rt, &PLAY, files, &[])?;
-    assert_eq!(rt; code, 0);
-    assert_eq!(rt; output.as_slice(), TRANSCRIPT.as_bytes());
+    assert!(rt; texts_tell(rt.alloc(), config, SCHEMA, SCRIPT, 0, TRANSCRIPT)?);
     Ok(())
 }
 
 /// A configuration of so many backends.
-fn config_of(rt: &impl AllocGlobal, count: u32) -> Result<String, NoMemory> {
-    let mut config = String::new(rt.alloc());
+fn config_of(alloc: Global, count: u32) -> Result<String, NoMemory> {
+    let mut config = String::new(alloc);
     config.push_str("backend_clustering_mode = 'snapshot_isolation'\n")?;
     for number in 0..count {
-        let line = format!(in rt.alloc(); "backend_hostname{number} = 'a'\n")?;
-        config.push_str(line.as_str())?;
-        let line = format!(in rt.alloc(); "backend_port{number} = 5432\n")?;
-        config.push_str(line.as_str())?;
+        let lines = format!(in alloc;
+            "backend_hostname{number} = 'a'\nbackend_port{number} = 5432\n"
+        )?;
+        config.push_str(lines.as_str())?;
     }
     Ok(config)
+}
+
+/// Whether so many backends give the transcript of one; and whether each of the first three stores
+/// has the row then.
+fn played_over(alloc: Global, count: u32) -> Result<(bool, bool), NoMemory> {
+    let config = config_of(alloc, count)?;
+    let files = files(alloc, config.as_str(), SCRIPT, &[])?;
+    let left = run_over_three(alloc, &PLAY, files, &[])?;
+    let is_played = left.code == 0 && left.output.as_slice() == TRANSCRIPT.as_bytes();
+    Ok((is_played, left.each_has_the_row))
 }
 
 #[test]
 fn three_backends_give_the_transcript_of_one_and_each_has_the_row(
     rt: HostRuntime,
 ) -> Result<(), Fail> {
-    let config = config_of(&rt, 3)?;
-    let files = files(&rt, config.as_str(), SCRIPT, &[])?;
-    let left = run_over_three(rt.alloc(), &PLAY, files, &[])?;
-    assert_eq!(rt; left.code, 0);
-    assert_eq!(rt; left.output.as_slice(), TRANSCRIPT.as_bytes());
-    assert!(rt; left.each_has_the_row);
+    let (is_played, each_has_the_row) = played_over(rt.alloc(), 3)?;
+    assert!(rt; is_played && each_has_the_row);
     Ok(())
 }
 
 #[test]
 fn boxes_beyond_the_configuration_get_no_row(rt: HostRuntime) -> Result<(), Fail> {
     for count in [1, 2] {
-        let config = config_of(&rt, count)?;
-        let files = files(&rt, config.as_str(), SCRIPT, &[])?;
-        let left = run_over_three(rt.alloc(), &PLAY, files, &[])?;
-        assert_eq!(rt; left.code, 0);
-        assert_eq!(rt; left.output.as_slice(), TRANSCRIPT.as_bytes());
-        assert!(rt; !left.each_has_the_row);
+        let (is_played, each_has_the_row) = played_over(rt.alloc(), count)?;
+        assert!(rt; is_played && !each_has_the_row);
     }
     Ok(())
 }
 
 #[test]
-fn four_backends_are_not_built(rt: HostRuntime) -> Result<(), Fail> {
-    let config = config_of(&rt, 4)?;
-    let files = files(&rt, config.as_str(), SCRIPT, &[])?;
-    let (code, output) = run(&rt, &PLAY, files, &[])?;
-    assert_eq!(rt; code, 9);
-    assert_eq!(rt; output.as_slice(), b"pool: not built yet\n".as_slice());
+fn eight_backends_give_the_transcript_of_one(rt: HostRuntime) -> Result<(), Fail> {
+    let (is_played, _) = played_over(rt.alloc(), 8)?;
+    assert!(rt; is_played);
     Ok(())
 }

@@ -1,16 +1,13 @@
 //! The texts that a command names, and what is built.
 ghost use Rattle.std.specs.Prelude.{◌≡◌, ◌<◌, ◌≤◌, IsTrue, ◌↔◌, IfOk, IfErr, IfSome, length, true, string_bytes};
 ghost use Rattle.pool.specs.Texts.{config_name, schema_name, is_plain, IsRead, IsScriptRead};
-ghost use Rattle.pool.specs.Schemas.{built_tables};
 ghost use Rattle.pool.specs.Reading.{IsFault};
 ghost use Rattle.pool.specs.Ends.{fault_line};
 
-use crate::schemas::are_built_tables;
 use crate::status::Status;
 use pool_base::{Files, List, NoMemory, ReadFault, read_whole};
 use pool_command::Command;
 use pool_config::{Config, ConfigFault};
-use schema::TableDef;
 use std::alloc::Global;
 
 /// The limits of the texts, in bytes.
@@ -114,20 +111,20 @@ pub fn fault_line(alloc: Global, fault: &ConfigFault) -> Result<String, NoMemory
     Ok(format!(in alloc; "pool: {fault}\n")?)
 }
 
-/// Whether the command, the configuration and the tables ask for what is built.
-pub fn are_built(command: &Command, config: &Config, tables: &[TableDef]) -> bool
+/// Whether the command and the configuration ask for what is built: a script without its journal,
+/// over one to eight backends.
+pub fn are_built(command: &Command, config: &Config) -> bool
     ensures { IsTrue result ↔ ((is_plain command.now ≡ true)
-        × (((0 < length config.now.nodes) × (length config.now.nodes ≤ 3))
-        × (tables.now ≡ built_tables))) }
+        × ((0 < length config.now.nodes) × (length config.now.nodes ≤ 8))) }
 {
-    is_plain(command) && are_few(config.nodes.len()) && are_built_tables(tables)
+    is_plain(command) && are_few(config.nodes.len())
 }
 
-/// Whether so many backends are built: one to three.
+/// Whether so many backends are built: one to eight.
 fn are_few(count: usize) -> bool
-    ensures { IsTrue result ↔ ((0 < count) × (count ≤ 3)) }
+    ensures { IsTrue result ↔ ((0 < count) × (count ≤ 8)) }
 {
-    0 < count && count <= 3
+    0 < count && count <= 8
 }
 
 /// Whether the command is to play a script without its journal.

@@ -1,5 +1,5 @@
 //! The top call.
-ghost use Rattle.std.specs.Prelude.{◌≡◌, ◌≤◌, ◌⊎◌, ℕ, Bool, List as Sequence, Some, None, All, true, length, map};
+ghost use Rattle.std.specs.Prelude.{◌≡◌, ◌≢◌, ◌≤◌, ◌⊎◌, ℕ, Bool, List as Sequence, Some, None, All, true, length, map};
 ghost use Rattle.pool_base.specs.Outside.{Rose, content};
 ghost use Rattle.backend_trait.specs.Store.{blank};
 ghost use Rattle.pool_command.specs.Command.{command_of};
@@ -24,7 +24,7 @@ pub fn pool_run<F: Files, O: Sink>(
     shelf: &mut Vec<Box<dyn Backend>>,
 ) -> u8
     // Boxes enough, each a blank store that is honest, prompt and steady.
-    requires enough { 3 ≤ length shelf.old.items }
+    requires enough { 8 ≤ length shelf.old.items }
     requires blank_each { All (λ x. meaning x ≡ blank) shelf.old.items }
     requires honest { All (λ x. is_honest x ≡ true) shelf.old.items }
     requires prompt { All (λ x. is_prompt x ≡ true) shelf.old.items }
@@ -42,8 +42,8 @@ pub fn pool_run<F: Files, O: Sink>(
     ensures played { result ≡ 0 → (config schema script text : Sequence ℕ) (journal : Bool)
         → command_of (map (λ w. w.now) words.now) ≡ Some (Play config schema script journal)
         → F.contents files.old script ≡ content text
-        → Played (F.contents files.old config) text (outside (O.fault_count out.old)
-        (O.fault_count out.new) (O.taken out.old) (O.taken out.new)
+        → Played (F.contents files.old config) (F.contents files.old schema) text
+        (outside (O.fault_count out.old) (O.fault_count out.new) (O.taken out.old) (O.taken out.new)
         (map (λ x. meaning x) shelf.old.items) (map (λ x. meaning x) shelf.new.items)) }
     // Status 1: exactly where the words are no command, unless its line could not be written or
     // memory was refused while they were read.
@@ -92,6 +92,9 @@ pub fn pool_run<F: Files, O: Sink>(
         ⊎ (((result ≡ 4) × Rose (F.fault_count files.old) (F.fault_count files.new))
         ⊎ (((result ≡ 5) × Rose (O.fault_count out.old) (O.fault_count out.new))
         ⊎ (result ≡ 7)))) }
+    // Statuses 1, 2, 3, 4 and 9: no box was touched.
+    ensures untouched { result ≢ 0 → result ≢ 5 → result ≢ 7
+        → map (λ x. meaning x) shelf.new.items ≡ map (λ x. meaning x) shelf.old.items }
     // Status 4 and 5: only where the count rose.
     ensures files { result ≡ 4 → Rose (F.fault_count files.old) (F.fault_count files.new) }
     ensures sink { result ≡ 5 → Rose (O.fault_count out.old) (O.fault_count out.new) }

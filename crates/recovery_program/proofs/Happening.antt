@@ -8,7 +8,7 @@ use Rattle.pool_base.specs.declared.backend_id.BackendId.{BackendId}
 use Rattle.pool_base.specs.declared.code.Code.{Code}
 use Rattle.pool_base.specs.declared.gate_call.GateCall.{GateCall}
 use Rattle.pool_base.specs.declared.gate_call.GateCall.TheVariants as calls
-use Rattle.backend_trait.specs.declared.row.Row.{Row}
+use Rattle.sql_eval.specs.declared.row.Row.{Row}
 use Rattle.backend_trait.specs.declared.request.Request.{Request}
 use Rattle.backend_trait.specs.declared.request.Request.TheVariants as requests
 use Rattle.backend_trait.specs.declared.answer.Answer.{Answer}
@@ -22,7 +22,8 @@ use Rattle.session_machine.specs.declared.action.Cause.TheVariants.{Fault, Diffe
 use Rattle.session_machine.specs.Deciding.{is_call, is_fault, is_of_opening, is_of_end, rose}
 use Rattle.session_machine.specs.Rules.{error_of, done_with}
 use Rattle.session_machine.proofs.Backends.{same_backend}
-use Rattle.recovery_program.proofs.Same.{Tells, and_true, both_true, row_told, request_told, outcome_told, status_told, call_told}
+use Rattle.session_machine.proofs.Trees.{Tells, and_true, both_true}
+use Rattle.session_machine.proofs.Same.{row_told, request_told, outcome_told, status_told, call_told}
 use Rattle.online_recovery.specs.declared.ask.CopyStatement.{CopyStatement}
 use Rattle.online_recovery.specs.declared.ask.CopyStatement.TheVariants.{AllRows, DeleteAll, InsertRow}
 use Rattle.online_recovery.specs.declared.ask.Ask.{Ask}

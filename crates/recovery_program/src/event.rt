@@ -43,10 +43,16 @@ fn ordered(held: Held, at: Due, order: Order) -> Recovery
         body,
     } = order;
     match body {
-        OrderBody::Recover(number) => due(held, Due::LookDue(number)),
+        OrderBody::Recover(number) => {
+            drop(at);
+            due(held, Due::LookDue(number))
+        }
         OrderBody::Leave => left(held, at),
-        OrderBody::Statement(_)
-        | OrderBody::Begin
+        OrderBody::Statement(work) => {
+            drop(work);
+            due(held, at)
+        }
+        OrderBody::Begin
         | OrderBody::Commit
         | OrderBody::Rollback
         | OrderBody::Settle
@@ -129,7 +135,10 @@ fn after_at(held: Held, at: Due, event: RecoveryEvent) -> Recovery
             answer,
         } => called(held, at, answer),
         RecoveryEvent::Swapped { b: _b } => swapped(held, at),
-        RecoveryEvent::Posted { b: _b, ask: _ask } => posted(held, at),
+        RecoveryEvent::Posted { b: _b, ask } => {
+            drop(ask);
+            posted(held, at)
+        }
         RecoveryEvent::Taken { b: _b, answer } => taken(held, at, answer),
         RecoveryEvent::Faulted {
             b: _b,

@@ -1,7 +1,7 @@
 //! Which events may happen.
 ghost use Rattle.std.specs.Prelude.{◌≡◌, ◌↔◌, IsTrue};
 ghost use Rattle.session_machine.specs.Allowed.{is_seen, is_granted, is_granted_or_spent, is_seen_or_granted};
-ghost use Rattle.session_machine.specs.Deciding.{is_call, is_fault, rose};
+ghost use Rattle.session_machine.specs.Deciding.{same_request, is_call, is_fault, rose};
 ghost use Rattle.online_recovery.specs.Allowed.{MayHappen, is_resting, may_leave_end, may_leave, may_order, is_granted_or_held, answers_call};
 ghost use Rattle.recovery_program.specs.Deciding.{call_owed, call_at, is_copy_of, is_plain_of, is_ask_of, is_rollback, is_owed_post, is_post_due, is_waiting_for, is_swap_due, is_detach_due, is_outcome, is_owed_reply, is_reply, ends, is_owed_end, is_end_due, happens};
 
@@ -203,16 +203,25 @@ fn is_copy_of(task: &Task, statement: &CopyStatement) -> bool
     }
 }
 
+/// Whether the two ask the same.
+fn asks_same(asked: Request, request: &Request) -> bool
+    ensures { result ≡ same_request asked request.now }
+{
+    let same = asked == *request;
+    drop(asked);
+    same
+}
+
 /// Whether that is the task's plain request.
 fn is_plain_of(task: &Task, request: &Request) -> bool
     ensures { result ≡ is_plain_of task.now request.now }
 {
     match task {
-        Task::OpeningSource | Task::OpeningTarget => Request::TakeSnapshot == *request,
-        Task::Committing => Request::Commit == *request,
-        Task::Leaving => Request::Rollback == *request,
-        Task::ReadingSerial(table) => Request::ReadSerial(*table) == *request,
-        Task::SettingSerial(table, n) => Request::SetSerial(*table, *n) == *request,
+        Task::OpeningSource | Task::OpeningTarget => asks_same(Request::TakeSnapshot, request),
+        Task::Committing => asks_same(Request::Commit, request),
+        Task::Leaving => asks_same(Request::Rollback, request),
+        Task::ReadingSerial(table) => asks_same(Request::ReadSerial(*table), request),
+        Task::SettingSerial(table, n) => asks_same(Request::SetSerial(*table, *n), request),
         Task::Reading(_) | Task::Emptying(_, _) | Task::Filling(_, _, _) => false,
     }
 }
@@ -230,7 +239,7 @@ fn is_rollback(ask: &Ask) -> bool
     ensures { result ≡ is_rollback ask.now }
 {
     match ask {
-        Ask::Plain(request) => Request::Rollback == *request,
+        Ask::Plain(request) => asks_same(Request::Rollback, request),
         Ask::Copy(_) => false,
     }
 }

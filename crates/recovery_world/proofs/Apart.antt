@@ -1,6 +1,7 @@
 -- Snapshots and commits stay apart over every list of steps.
 use Rattle.std.proofs.Common.{List, subst}
 use Rattle.pool_base.specs.declared.backend_set.BackendSet.{BackendSet}
+use Rattle.schema.specs.declared.catalogue.TableDef.{TableDef}
 use Rattle.session_machine.specs.declared.machine.ReadPolicy.{ReadPolicy}
 use Rattle.snapshot_gate.specs.declared.state.GateState.{GateState}
 use Rattle.snapshot_gate.specs.Runs.{AreApart}
@@ -10,8 +11,8 @@ use Rattle.recovery_world.specs.declared.step.Step.{Step}
 use Rattle.recovery_world.specs.Pool.{first_pool, IsPlayed, pool_all}
 use Rattle.recovery_world.proofs.Calls.{calls_of, runs, leads}
 
-pub together_never : (policy : ReadPolicy) (layout : Layout) (attached : BackendSet) (es : List Step) → IsPlayed (first_pool policy layout attached) es
-    → AreApart (pool_all (first_pool policy layout attached) es).gate
-together_never policy layout attached es played =
-    subst (λ (g : GateState). AreApart g) (leads (first_pool policy layout attached) es)
-    (always_apart attached (calls_of es) (runs (first_pool policy layout attached) es played))
+pub together_never : (tables : List TableDef) (policy : ReadPolicy) (layout : Layout) (attached : BackendSet) (es : List Step) → IsPlayed (first_pool tables policy layout attached) es
+    → AreApart (pool_all (first_pool tables policy layout attached) es).gate
+together_never tables policy layout attached es played =
+    subst (λ (g : GateState). AreApart g) (leads (first_pool tables policy layout attached) es)
+    (always_apart attached (calls_of es) (runs (first_pool tables policy layout attached) es played))

@@ -7,6 +7,7 @@ use Rattle.backend_trait.specs.Store.{Transaction, Absent, Store}
 use Rattle.plain_store.specs.Acting.{MayAct}
 use Rattle.session_machine.specs.declared.action.SessionEvent.{SessionEvent}
 use Rattle.session_machine.specs.declared.action.SessionEvent.TheVariants as sessions
+use Rattle.schema.specs.declared.catalogue.TableDef.{TableDef}
 use Rattle.session_machine.specs.declared.machine.ReadPolicy.{ReadPolicy}
 use Rattle.snapshot_gate.specs.declared.state.GateState.{GateState}
 use Rattle.snapshot_gate.specs.Function.{step}
@@ -82,15 +83,15 @@ same : (p : Pool) (es : List Event) → (pool_all p (served es)).tracked ≡ tra
 same p [] = refl
 same p (e ∷ es) = same (after p (Serve e)) es
 
-pub served_only : (policy : ReadPolicy) (layout : Layout) (attached : BackendSet) (events : List Event) → IsPlayed (first_pool policy layout attached) (served events)
-    → IsSchedule (first_world policy attached) events
-served_only policy layout attached events played = only (first_pool policy layout attached) events played
+pub served_only : (tables : List TableDef) (policy : ReadPolicy) (layout : Layout) (attached : BackendSet) (events : List Event) → IsPlayed (first_pool tables policy layout attached) (served events)
+    → IsSchedule (first_world tables policy attached) events
+served_only tables policy layout attached events played = only (first_pool tables policy layout attached) events played
 
-pub served_all : (policy : ReadPolicy) (layout : Layout) (attached : BackendSet) (events : List Event) → IsSchedule (first_world policy attached) events
-    → IsPlayed (first_pool policy layout attached) (served events)
-served_all policy layout attached events may =
-    all (first_pool policy layout attached) (record { gate = refl; resting = λ s. refl; none = refl }) events may
+pub served_all : (tables : List TableDef) (policy : ReadPolicy) (layout : Layout) (attached : BackendSet) (events : List Event) → IsSchedule (first_world tables policy attached) events
+    → IsPlayed (first_pool tables policy layout attached) (served events)
+served_all tables policy layout attached events may =
+    all (first_pool tables policy layout attached) (record { gate = refl; resting = λ s. refl; none = refl }) events may
 
-pub served_same : (policy : ReadPolicy) (layout : Layout) (attached : BackendSet) (events : List Event) → (pool_all (first_pool policy layout attached) (served events)).tracked
-    ≡ tracked_all (first_tracked policy attached) events
-served_same policy layout attached events = same (first_pool policy layout attached) events
+pub served_same : (tables : List TableDef) (policy : ReadPolicy) (layout : Layout) (attached : BackendSet) (events : List Event) → (pool_all (first_pool tables policy layout attached) (served events)).tracked
+    ≡ tracked_all (first_tracked tables policy attached) events
+served_same tables policy layout attached events = same (first_pool tables policy layout attached) events

@@ -1,5 +1,5 @@
 -- One recovery at most has the gate's quiet, over every list of steps.
-use Rattle.std.proofs.Common.{◌≡◌, ◌+◌, ◌<◌, ◌||◌, ◌==◌, ◌^◌, ℕ, List, [], ◌∷◌, inl, inr, refl, ap, sym, subst, ◌∙◌, arith, Bool, true, false, nat_lt, nat_le, if◌then◌else◌}
+use Rattle.std.proofs.Common.{◌≡◌, ◌+◌, ◌||◌, ◌==◌, ◌^◌, ℕ, List, [], ◌∷◌, inl, inr, refl, ap, sym, subst, ◌∙◌, arith, Bool, true, false, nat_lt, nat_le, if◌then◌else◌}
 use Rattle.std.specs.Prelude.{Option, Some, None}
 use Rattle.std.proofs.lemmas.Bool.Decides.{nat_tests, eqb_tells}
 use Rattle.pool_base.specs.Sets.{has}
@@ -12,6 +12,7 @@ use Rattle.pool_base.specs.declared.gate_call.GateAnswer.TheVariants.{Seen, Held
 use Rattle.backend_trait.specs.declared.answer.Answer.{Answer}
 use Rattle.backend_trait.specs.Rows.{with_at}
 use Rattle.session_machine.specs.declared.action.SessionEvent.TheVariants as sessions
+use Rattle.schema.specs.declared.catalogue.TableDef.{TableDef}
 use Rattle.session_machine.specs.declared.machine.ReadPolicy.{ReadPolicy}
 use Rattle.session_machine.specs.Allowed.{answers_call}
 use Rattle.snapshot_gate.specs.declared.state.GateState.{GateState}
@@ -286,9 +287,9 @@ run_of p (Answers s b answer ∷ es) played n =
     subst (λ (recovery : ℕ → Recovery). IsRun (recovery n) (events_of n es)) (answer_keeps p s.number b.number answer (p.asked s.number b.number))
     (run_of (after p (Answers s b answer)) es played.1 n)
 
-pub quiet_of_one : (policy : ReadPolicy) (layout : Layout) (attached : BackendSet) (es : List Step) → IsPlayed (first_pool policy layout attached) es
-    → QuietIsOne (pool_all (first_pool policy layout attached) es).gate (phases_all all_outside es)
-quiet_of_one policy layout attached es played =
-    holds (first_pool policy layout attached) all_outside es
-    (λ n. always_meet (session_of n) layout (events_of n es) (run_of (first_pool policy layout attached) es played n))
+pub quiet_of_one : (tables : List TableDef) (policy : ReadPolicy) (layout : Layout) (attached : BackendSet) (es : List Step) → IsPlayed (first_pool tables policy layout attached) es
+    → QuietIsOne (pool_all (first_pool tables policy layout attached) es).gate (phases_all all_outside es)
+quiet_of_one tables policy layout attached es played =
+    holds (first_pool tables policy layout attached) all_outside es
+    (λ n. always_meet (session_of n) layout (events_of n es) (run_of (first_pool tables policy layout attached) es played n))
     (record { one = λ s o not_s not_o. absurd (not_s refl); quiet = λ s not_s. absurd (not_s refl); nobody = λ all. refl }) played

@@ -6,6 +6,7 @@ use Rattle.pool_base.specs.declared.backend_set.BackendSet.{BackendSet}
 use Rattle.pool_base.specs.declared.gate_call.GateCall.{GateCall}
 use Rattle.pool_base.specs.declared.gate_call.GateAnswer.TheVariants.{Seen, Held, Spent}
 use Rattle.pool_base.specs.declared.gate_call.GateCall.TheVariants.{Look, EnterSnapshot, LeaveSnapshot, EnterCommit, LeaveCommit, Finish, Detach, StartCopy, AskQuiet, EnterQuiet, Attach, LeaveQuiet}
+use Rattle.schema.specs.declared.catalogue.TableDef.{TableDef}
 use Rattle.session_machine.specs.declared.machine.ReadPolicy.{ReadPolicy}
 use Rattle.snapshot_gate.specs.declared.state.GateState.{GateState}
 use Rattle.snapshot_gate.specs.Function.{first, view_of, step, Turn, grant, refuse, MayCall}
@@ -81,8 +82,8 @@ stays_still : (g : GateState) (calls : List GateCall) → IsRun g calls → IsSt
 stays_still g [] run h = h
 stays_still g (call ∷ calls) run h = stays_still (step g call).0 calls run.1 (step_still g call run.0 h)
 
-pub always_still : (policy : ReadPolicy) (layout : Layout) (attached : BackendSet) (es : List Step) → IsPlayed (first_pool policy layout attached) es
-    → IsStill (pool_all (first_pool policy layout attached) es).gate
-always_still policy layout attached es played =
-    subst (λ (g : GateState). IsStill g) (leads (first_pool policy layout attached) es)
-    (stays_still (first attached) (calls_of es) (runs (first_pool policy layout attached) es played) (λ entered. (refl, refl)))
+pub always_still : (tables : List TableDef) (policy : ReadPolicy) (layout : Layout) (attached : BackendSet) (es : List Step) → IsPlayed (first_pool tables policy layout attached) es
+    → IsStill (pool_all (first_pool tables policy layout attached) es).gate
+always_still tables policy layout attached es played =
+    subst (λ (g : GateState). IsStill g) (leads (first_pool tables policy layout attached) es)
+    (stays_still (first attached) (calls_of es) (runs (first_pool tables policy layout attached) es played) (λ entered. (refl, refl)))

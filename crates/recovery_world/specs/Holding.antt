@@ -1,14 +1,14 @@
 -- What a recovery is to hold: its base, what it has copied, the rows and numbers of its target; and what is to be proved with recoveries.
-use Rattle.std.specs.Prelude.{◌≡◌, ◌⊎◌, ℕ, suc, ◌+◌, ◌≤◌, ◌<◌, Bool, true, false, ◌&&◌, ◌==◌, nat_lt, List, [], ◌∷◌, ◌++◌, Option, Some, None}
+use Rattle.std.specs.Prelude.{◌≡◌, ◌⊎◌, ℕ, suc, ◌+◌, ◌≤◌, ◌<◌, Bool, true, false, ◌&&◌, ◌==◌, nat_lt, List, [], ◌∷◌, ◌++◌, length, Option, Some, None}
 use Rattle.std.specs.FinMap as fin
 use Rattle.pool_base.specs.Sets.{has}
 use Rattle.pool_base.specs.declared.backend_set.BackendSet.{BackendSet}
-use Rattle.backend_trait.specs.declared.row.Row.{Row}
-use Rattle.backend_trait.specs.declared.checked.Checked.{Checked}
+use Rattle.schema.specs.declared.catalogue.TableDef.{TableDef}
+use Rattle.sql_eval.specs.declared.row.Row.{Row}
 use Rattle.backend_trait.specs.declared.answer.Answer.{Answer}
 use Rattle.backend_trait.specs.Keys.{Place}
 use Rattle.backend_trait.specs.Rows.{Rows, no_rows, no_changes, rows_in}
-use Rattle.backend_trait.specs.Effect.{nothing, table_in}
+use Rattle.backend_trait.specs.Effect.{nothing}
 use Rattle.backend_trait.specs.Store.{Live, Absent, Alive, view_of}
 use Rattle.session_machine.specs.declared.machine.ReadPolicy.{ReadPolicy}
 use Rattle.snapshot_gate.specs.declared.state.GateState.{GateState}
@@ -220,7 +220,7 @@ pub record GateHolds (p : Pool) : Type 0 where
   pub nobody : ((s : ℕ) → (held_by p s).quiet ≡ Open) → p.gate.quiet ≡ 0
   pub still : IsStill p.gate
 
--- The layout is that of the schema: it has the table of each statement, and each number once, in rising order.
+-- The layout is that of the schema: it has the number of each table, and each number once, in rising order.
 
 abbrev pub AreAbove : ℕ → List ℕ → Type 0
 AreAbove least [] = Unit {0}
@@ -230,10 +230,10 @@ abbrev pub IsAmong : List ℕ → ℕ → Type 0
 IsAmong [] table = ⊥
 IsAmong (other ∷ others) table = (other ≡ table) ⊎ IsAmong others table
 
-pub record IsOfSchema (layout : Layout) : Type 0 where
+pub record IsOfSchema (tables : List TableDef) (layout : Layout) : Type 0 where
   pub rising : AreAbove 0 layout.tables
   pub below : (table : ℕ) → IsAmong layout.tables table → table < 64
-  pub all : (checked : Checked) → IsAmong layout.tables (table_in checked)
+  pub all : (table : ℕ) → table < length tables → IsAmong layout.tables table
 
 -- What is to be proved: at every step recoveries hold what they are to hold, the single run is a run of one store, and the attached
 -- backends agree with it, those that were attached by recoveries among them; and each reply to a session is right, and each commit that
@@ -242,7 +242,7 @@ pub record IsOfSchema (layout : Layout) : Type 0 where
 pub record PoolHolds (p : Pool) : Type 0 where
   pub recoveries : (s : ℕ) → 1 ≤ s → s ≤ 64 → Recovers p s
   pub gate : GateHolds p
-  pub run : IsRun p.tracked.history
+  pub run : IsRun (world_of p).tables p.tracked.history
   pub agree : ReplicasAgree p.tracked
 
 abbrev pub IsRightAt : Pool → Step → Type 0
@@ -254,6 +254,7 @@ abbrev pub AllHolds : Pool → List Step → Type 0
 AllHolds p [] = PoolHolds p
 AllHolds p (e ∷ es) = PoolHolds p × IsRightAt p e × AllHolds (after p e) es
 
-abbrev pub RecoveriesHold : ReadPolicy → Layout → BackendSet → List Step → Type 0
-RecoveriesHold policy layout attached steps =
-    IsOfSchema layout → IsPlayed (first_pool policy layout attached) steps → AllHolds (first_pool policy layout attached) steps
+abbrev pub RecoveriesHold : List TableDef → ReadPolicy → Layout → BackendSet → List Step → Type 0
+RecoveriesHold tables policy layout attached steps =
+    IsOfSchema tables layout → IsPlayed (first_pool tables policy layout attached) steps
+    → AllHolds (first_pool tables policy layout attached) steps

@@ -6,11 +6,12 @@ use Rattle.pool_base.specs.declared.gate_call.GateCall.{GateCall}
 use Rattle.pool_base.specs.declared.gate_call.GateCall.TheVariants as calls
 use Rattle.pool_base.specs.declared.gate_call.GateAnswer.{GateAnswer}
 use Rattle.pool_base.specs.declared.gate_call.GateAnswer.TheVariants.{Granted}
+use Rattle.schema.specs.declared.catalogue.TableDef.{TableDef}
 use Rattle.backend_trait.specs.declared.request.Request.TheVariants as requests
 use Rattle.backend_trait.specs.declared.answer.Answer.{Answer}
 use Rattle.backend_trait.specs.declared.answer.Answer.TheVariants as answers
 use Rattle.backend_trait.specs.Rows.{with_at}
-use Rattle.backend_trait.specs.Store.{Transaction, Absent, Alive, Dead, Store, blank}
+use Rattle.backend_trait.specs.Store.{Transaction, Absent, Alive, Dead, Store, prepared}
 use Rattle.plain_store.specs.Acting.{MayAct}
 use Rattle.session_machine.specs.declared.order.OrderBody.{OrderBody}
 use Rattle.session_machine.specs.declared.order.OrderBody.TheVariants as orders
@@ -47,7 +48,7 @@ use Rattle.recovery_world.specs.declared.step.Step.{Step}
 use Rattle.recovery_world.specs.declared.step.Step.TheVariants.{Serve, Recover, Answer as Answers}
 use Rattle.recovery_world.specs.Copying.{MayAnswerAsk, left_by}
 
--- how far a recovery has brought its target: no backend is its own; it is blank; stage one is committed there; stage two is
+-- how far a recovery has brought its target: no backend is its own; it has no rows; stage one is committed there; stage two is
 pub data Progress : Type 0 where
   NotYet : Progress
   Empty : Progress
@@ -70,10 +71,10 @@ pub record Pool : Type 0 where
 abbrev pub no_table : ℕ → Bool
 no_table table = false
 
-abbrev pub first_pool : ReadPolicy → Layout → BackendSet → Pool
-first_pool policy layout attached = record {
+abbrev pub first_pool : List TableDef → ReadPolicy → Layout → BackendSet → Pool
+first_pool tables policy layout attached = record {
   gate = first_gate attached;
-  tracked = first_tracked policy attached;
+  tracked = first_tracked tables policy attached;
   recovery = λ s. new_recovery (session_of s) layout;
   transaction = λ s b. Absent;
   asked = λ s b. None;
@@ -157,7 +158,7 @@ with_new w s = record w { machine = with_at w.machine s (new_machine (session_of
 abbrev pub world_recovered : World → GateState → ℕ → RecoveryEvent → World
 world_recovered w gate s (events.Ordered order) = w
 world_recovered w gate s (events.Called call answer) = with_gate w gate
-world_recovered w gate s (events.Swapped b) = with_store w b.number blank
+world_recovered w gate s (events.Swapped b) = with_store w b.number (prepared w.tables)
 world_recovered w gate s (events.Posted b ask) = w
 world_recovered w gate s (events.Taken b answer) = w
 world_recovered w gate s (events.Faulted b before count) = w
@@ -187,7 +188,7 @@ abbrev pub told_after : (ℕ → ℕ → Option Answer) → ℕ → RecoveryEven
 told_after told s (events.Taken b answer) = with_two told s b.number None
 told_after told s event = told
 
--- in a blank store there is no transaction
+-- in a store that was swapped there is no transaction
 abbrev pub transactions_after : (ℕ → ℕ → Transaction) → RecoveryEvent → ℕ → ℕ → Transaction
 transactions_after transaction (events.Swapped b) = λ s. with_at (transaction s) b.number Absent
 transactions_after transaction event = transaction

@@ -6,7 +6,7 @@ use online_recovery::RecoveryEvent;
 use pool_base::{BackendId, SessionId};
 
 /// What takes place.
-#[derive(PartialEq, Eq, Drop)]
+#[derive(Drop)]
 pub enum Step {
     /// In the world of the sessions.
     Serve(Event),

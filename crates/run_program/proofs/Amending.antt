@@ -3,6 +3,7 @@ use Rattle.std.proofs.Common.{◌≡◌, ℕ, Bool, true, false, ◌==◌, List,
 use Rattle.std.specs.Prelude.{◌&&◌, Some}
 use Rattle.pool_base.specs.declared.code.Code.{Code}
 use Rattle.plain_store.proofs.Telling.{and_true}
+use Rattle.schema.specs.declared.catalogue.TableDef.{TableDef}
 use Rattle.backend_trait.specs.Store.{Store}
 use Rattle.one_copy_model.specs.declared.deed.Deed.{Deed}
 use Rattle.one_copy_model.specs.declared.deed.Deed.TheVariants.{Asks, Gets, Falls}
@@ -14,13 +15,14 @@ same_death st s code (Asks request) is = absurd (cc)
 same_death st s code (Gets answer) is = absurd (cc)
 same_death st s code (Falls reason) is = refl
 
-at_same : (t : Bool) (s : ℕ) (code : Code) (e : Entry) (es rest : List Entry) → ((e.session == s) && is_fall e.deed) ≡ t → store_after rest ≡ store_after es
-    → store_after (amended_at t s code e es rest) ≡ store_after (e ∷ es)
-at_same true s code e es rest is same =
+at_same : (tables : List TableDef) (t : Bool) (s : ℕ) (code : Code) (e : Entry) (es rest : List Entry) → ((e.session == s) && is_fall e.deed) ≡ t
+    → store_after tables rest ≡ store_after tables es → store_after tables (amended_at t s code e es rest) ≡ store_after tables (e ∷ es)
+at_same tables true s code e es rest is same =
     let both = and_true (e.session == s) (is_fall e.deed) is in
-    same_death (store_after es) s code e.deed both.1 ∙ ap (λ n. done_by (store_after es) n e.deed) (sym (eqb-true e.session s both.0))
-at_same false s code e es rest is same = ap (λ (st : Store). done_by st e.session e.deed) same
+    same_death (store_after tables es) s code e.deed both.1 ∙ ap (λ n. done_by (store_after tables es) n e.deed) (sym (eqb-true e.session s both.0))
+at_same tables false s code e es rest is same = ap (λ (st : Store). done_by st e.session e.deed) same
 
-pub amended_same : (s : ℕ) (code : Code) (entries : List Entry) → store_after (amended s code entries) ≡ store_after entries
-amended_same s code [] = refl
-amended_same s code (e ∷ es) = at_same ((e.session == s) && is_fall e.deed) s code e es (amended s code es) refl (amended_same s code es)
+pub amended_same : (tables : List TableDef) (s : ℕ) (code : Code) (entries : List Entry) → store_after tables (amended s code entries) ≡ store_after tables entries
+amended_same tables s code [] = refl
+amended_same tables s code (e ∷ es) =
+    at_same tables ((e.session == s) && is_fall e.deed) s code e es (amended s code es) refl (amended_same tables s code es)

@@ -4,7 +4,8 @@ ghost use Rattle.std.specs.Prelude.{◌≡◌, ◌∷◌, [], IfOk, option_copie
 use backend_trait::{Answer, Request};
 use one_copy_model::{Deed, Entry};
 use pool_base::{List, NoMemory};
-use session_machine::{Heard, Order, OrderBody};
+use session_machine::{Heard, Order, OrderBody, work_copied};
+use sql_copies::checked_copied;
 use std::alloc::Global;
 
 /// The list with an item before the others.
@@ -27,7 +28,13 @@ pub(crate) fn one(alloc: Global, deed: Deed) -> Result<List<Deed>, NoMemory>
 pub(crate) fn two(alloc: Global, first: Deed, second: Deed) -> Result<List<Deed>, NoMemory>
     ensures { IfOk result (λ deeds. deeds ≡ first ∷ second ∷ []) }
 {
-    in_front(first, one(alloc, second)?)
+    match one(alloc, second) {
+        Ok(others) => in_front(first, others),
+        Err(fault) => {
+            drop(first);
+            Err(fault)
+        }
+    }
 }
 
 pub(crate) fn three(
@@ -38,7 +45,13 @@ pub(crate) fn three(
 ) -> Result<List<Deed>, NoMemory>
     ensures { IfOk result (λ deeds. deeds ≡ first ∷ second ∷ third ∷ []) }
 {
-    in_front(first, two(alloc, second, third)?)
+    match two(alloc, second, third) {
+        Ok(others) => in_front(first, others),
+        Err(fault) => {
+            drop(first);
+            Err(fault)
+        }
+    }
 }
 
 /// A copy of an answer.
@@ -48,25 +61,25 @@ pub(crate) fn answer_copied(answer: &Answer) -> Result<Answer, NoMemory>
     Ok(answer.clone()?)
 }
 
-pub(crate) fn request_copied(request: &Request) -> Request
-    ensures { result ≡ request.now }
+pub(crate) fn request_copied(request: &Request) -> Result<Request, NoMemory>
+    ensures { IfOk result (λ copy. copy ≡ request.now) }
 {
-    match request {
+    Ok(match request {
         Request::TakeSnapshot => Request::TakeSnapshot,
-        Request::Run(statement) => Request::Run(*statement),
+        Request::Run(statement) => Request::Run(checked_copied(statement)?),
         Request::Lock(table) => Request::Lock(*table),
         Request::Commit => Request::Commit,
         Request::Rollback => Request::Rollback,
         Request::ReadSerial(table) => Request::ReadSerial(*table),
         Request::SetSerial(table, next) => Request::SetSerial(*table, *next),
-    }
+    })
 }
 
 pub(crate) fn deed_copied(deed: &Deed) -> Result<Deed, NoMemory>
     ensures { IfOk result (λ copy. copy ≡ deed.now) }
 {
     Ok(match deed {
-        Deed::Asks(request) => Deed::Asks(request_copied(request)),
+        Deed::Asks(request) => Deed::Asks(request_copied(request)?),
         Deed::Gets(answer) => Deed::Gets(answer_copied(answer)?),
         Deed::Falls(code) => Deed::Falls(*code),
     })
@@ -95,7 +108,7 @@ fn body_copied(body: &OrderBody) -> Result<OrderBody, NoMemory>
     ensures { IfOk result (λ copy. copy ≡ body.now) }
 {
     Ok(match body {
-        OrderBody::Statement(work) => OrderBody::Statement(*work),
+        OrderBody::Statement(work) => OrderBody::Statement(work_copied(work)?),
         OrderBody::Begin => OrderBody::Begin,
         OrderBody::Commit => OrderBody::Commit,
         OrderBody::Rollback => OrderBody::Rollback,

@@ -14,9 +14,9 @@ use session_machine::{Order, Status};
 pub struct Run {
     pub entries: List<Entry>,
     pub store: Database,
-    ghost behind: { ∥ store_of store ≡ store_after entries ∥₁ },
+    ghost behind: { ∥ store_of store ≡ store_after store.catalogue entries ∥₁ },
     /// No session has the number 0.
-    ghost numbered: { is_live ((store_after entries).transaction 0) ≡ false },
+    ghost numbered: { is_live ((store_after store.catalogue entries).transaction 0) ≡ false },
 }
 
 /// The order under way of a session, and what stood when it came: the client's block, whether a

@@ -19,7 +19,8 @@ fn is_alive(phase: &Phase) -> bool
 
 /// Whether a session has a live transaction behind the entries of a run.
 pub fn has_live(run: &Run, s: SessionId) -> bool
-    ensures { result ≡ is_live ((store_after run.now.entries).transaction s.number) }
+    ensures { result ≡ is_live
+        ((store_after run.now.store.catalogue run.now.entries).transaction s.number) }
 {
     is_alive(&run.store.phases[s.number as usize])
 }

@@ -15,14 +15,15 @@ use pool_base::{BackendSet, Code, GateAnswer, GateCall, List, NoMemory, View};
 use session_machine::{Heard, Point, Session, SessionEvent, Stage, Work};
 use std::alloc::Global;
 
-fn opens(alloc: Global, work: Work) -> Result<List<Deed>, NoMemory>
-    ensures { IfOk result (λ deeds. deeds ≡ opens work) }
+fn opens(alloc: Global, work: &Work) -> Result<List<Deed>, NoMemory>
+    ensures { IfOk result (λ deeds. deeds ≡ opens work.now) }
 {
+    let request = asks_of(work)?;
     three(
         alloc,
         Deed::Asks(Request::TakeSnapshot),
         Deed::Gets(Answer::Began),
-        Deed::Asks(asks_of(work)),
+        Deed::Asks(request),
     )
 }
 
@@ -30,7 +31,7 @@ fn opening_granted(alloc: Global, point: &Point) -> Result<List<Deed>, NoMemory>
     ensures { IfOk result (λ deeds. deeds ≡ opening_granted point.now) }
 {
     match point {
-        Point::LeaveSnapshotDue(work) => opens(alloc, *work),
+        Point::LeaveSnapshotDue(work) => opens(alloc, work),
         Point::Resting
         | Point::EnterDue(_)
         | Point::LookDue(_)

@@ -1,19 +1,22 @@
 //! What a session does in the single run at one of its events, where it has a live transaction.
 ghost use Rattle.std.specs.Prelude.{◌≡◌, ◌∷◌, [], IfOk};
+ghost use Rattle.backend_trait.specs.declared.request.Request.TheVariants as requests;
 ghost use Rattle.session_machine.specs.declared.machine.Point.TheVariants as points;
 ghost use Rattle.session_machine.specs.declared.machine.Stage.TheVariants as stages;
 ghost use Rattle.session_machine.specs.Rules.{moment_at, rewritten, with_view};
+ghost use Rattle.one_copy_model.specs.declared.deed.Deed.TheVariants.{Asks};
 ghost use Rattle.one_copy_model.specs.Places.{asks_of, commits, rolls_back, decided_run, decided_lock, decided_by, where_decided, at_commit, at_block_commit, at_settle, at_rollback, at_statement, at_order, at_granted, at_call, at_parted, at_detach, place_of};
 
 use crate::closing::{closing_look, closing_parted};
-use crate::copying::{answer_copied, one, three, two};
+use crate::copying::{answer_copied, in_front, one, two};
 use backend_trait::{Answer, Request};
 use one_copy_model::Deed;
 use pool_base::{GateAnswer, List, NoMemory, View};
 use session_machine::{
     Class, GatePhase, Order, OrderBody, Point, Session, SessionEvent, Stage, Status, Work,
-    is_moment,
+    rewritten, work_copied,
 };
+use sql_copies::checked_copied;
 use std::alloc::Global;
 
 /// Where a session takes its memory.
@@ -29,12 +32,14 @@ pub(crate) fn nothing(session: &Session) -> List<Deed>
 }
 
 /// The request of a statement: a serial insert waits for its table's lock first.
-pub(crate) fn asks_of(work: Work) -> Request
-    ensures { result ≡ asks_of work }
+pub(crate) fn asks_of(work: &Work) -> Result<Request, NoMemory>
+    ensures { IfOk result (λ request. request ≡ asks_of work.now) }
 {
     match work.class {
-        Class::Read | Class::LockingRead | Class::Write(_) => Request::Run(work.statement),
-        Class::SerialInsert(table) => Request::Lock(table),
+        Class::Read | Class::LockingRead | Class::Write(_) => {
+            Ok(Request::Run(checked_copied(&work.statement)?))
+        }
+        Class::SerialInsert(table) => Ok(Request::Lock(table)),
     }
 }
 
@@ -89,6 +94,13 @@ fn decided_lock(alloc: Global, answer: &Answer) -> Result<List<Deed>, NoMemory>
     }
 }
 
+/// What a statement asks for once it has its lock.
+fn run_of(work: &Work) -> Result<Deed, NoMemory>
+    ensures { IfOk result (λ deed. deed ≡ Asks (requests.Run work.now.statement)) }
+{
+    Ok(Deed::Asks(Request::Run(checked_copied(&work.statement)?)))
+}
+
 /// A serial insert has its lock, and then its run.
 fn decided_insert(
     alloc: Global,
@@ -100,9 +112,9 @@ fn decided_insert(
         ≡ decided_by (stages.Inserting work.now posted) answer.now) }
 {
     let _posted = posted;
-    let locked = Deed::Gets(Answer::Locked);
-    let asked = Deed::Asks(Request::Run(work.statement));
-    three(alloc, locked, asked, decides(answer)?)
+    let decided = decided_run(alloc, answer)?;
+    let asked = in_front(run_of(work)?, decided)?;
+    in_front(Deed::Gets(Answer::Locked), asked)
 }
 
 fn decided_by(alloc: Global, stage: &Stage, answer: &Answer) -> Result<List<Deed>, NoMemory>
@@ -187,14 +199,23 @@ pub(crate) fn moment_at(session: &Session, ordered: i64) -> i64
     }
 }
 
-/// A statement whose moment cannot be written is a rollback.
-fn at_statement(alloc: Global, moment: i64, work: Work) -> Result<List<Deed>, NoMemory>
-    ensures { IfOk result (λ deeds. deeds ≡ at_statement (rewritten moment work)) }
+/// What is asked for a statement.
+fn asked_for(alloc: Global, work: Work) -> Result<List<Deed>, NoMemory>
+    ensures { IfOk result (λ deeds. deeds ≡ at_statement (Some work)) }
 {
-    if is_moment(moment) {
-        one(alloc, Deed::Asks(asks_of(work)))
-    } else {
-        rolls_back(alloc)
+    let request = asks_of(&work);
+    drop(work);
+    one(alloc, Deed::Asks(request?))
+}
+
+/// A statement whose moment cannot be written is a rollback.
+fn at_statement(alloc: Global, moment: i64, work: &Work) -> Result<List<Deed>, NoMemory>
+    ensures { IfOk result (λ deeds. deeds ≡ at_statement (rewritten moment work.now)) }
+{
+    let timed = rewritten(moment, work_copied(work)?)?;
+    match timed {
+        Some(work) => asked_for(alloc, work),
+        None => rolls_back(alloc),
     }
 }
 
@@ -205,7 +226,7 @@ fn at_order(session: &Session, order: &Order) -> Result<List<Deed>, NoMemory>
     let alloc = memory(session);
     match &order.body {
         OrderBody::Statement(work) => {
-            at_statement(alloc, moment_at(session, order.moment), *work)
+            at_statement(alloc, moment_at(session, order.moment), work)
         }
         OrderBody::Commit => at_block_commit(alloc, session.status, session.gate),
         OrderBody::Rollback => at_rollback(alloc, session.status),

@@ -1,5 +1,5 @@
 //! The order under way of a session.
-ghost use Rattle.std.specs.Prelude.{◌≡◌, Some, IfOk};
+ghost use Rattle.std.specs.Prelude.{◌≡◌, Some, None, IfOk};
 ghost use Rattle.session_machine.specs.Allowed.{is_out};
 ghost use Rattle.one_copy_model.specs.Tracking.{told_at, told_spent, told_entered, told_called, told_after};
 ghost use Rattle.run_program.specs.Meaning.{told_of, told_in};
@@ -88,6 +88,27 @@ fn told_called(call: GateCall, answer: GateAnswer, told: Option<Told>) -> Option
     }
 }
 
+/// An order that comes, in place of the one before.
+fn told_anew(
+    session: &Session,
+    order: &Order,
+    entries: usize,
+    before: Option<Told>,
+) -> Result<Option<Told>, NoMemory>
+    ensures { IfOk result (λ new. told_in new ≡ Some (told_at session.now order.now entries)) }
+{
+    drop(before);
+    Ok(Some(told_at(session, order, entries)?))
+}
+
+/// What is left of an order that was answered.
+fn answered(told: Option<Told>) -> Option<Told>
+    ensures { result ≡ None }
+{
+    drop(told);
+    None
+}
+
 /// The order under way behind an event of its session, where the run had so many entries before
 /// the event.
 pub fn told_after(
@@ -100,13 +121,13 @@ pub fn told_after(
         ≡ told_after session.now entries event.now (told_in told)) }
 {
     match event {
-        SessionEvent::Ordered(order) => Ok(Some(told_at(session, order, entries)?)),
+        SessionEvent::Ordered(order) => told_anew(session, order, entries, told),
         SessionEvent::Called { call, answer } => Ok(told_called(*call, *answer, told)),
         SessionEvent::Posted { .. }
         | SessionEvent::Taken { .. }
         | SessionEvent::Faulted { .. }
         | SessionEvent::Detached { .. }
         | SessionEvent::Swapped { .. } => Ok(told),
-        SessionEvent::Replied { .. } | SessionEvent::Ended => Ok(None),
+        SessionEvent::Replied { .. } | SessionEvent::Ended => Ok(answered(told)),
     }
 }

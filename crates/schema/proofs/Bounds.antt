@@ -1,5 +1,5 @@
 -- What is read stays within the limits of 64 tables of 32 columns.
-use Rattle.std.proofs.Common.{◌≡◌, ℕ, suc, ◌≤◌, ◌<◌, ◌+◌, nat_lt, Bool as Truth, true, false, not, ◌&&◌, List, [], ◌∷◌, ◌++◌, length, Option, Some, None, refl, sym, ap, subst, ◌∙◌, arith, length-append, option_map}
+use Rattle.std.proofs.Common.{◌≡◌, ℕ, ◌≤◌, ◌<◌, ◌+◌, nat_lt, Bool as Truth, true, false, not, ◌&&◌, List, [], ◌∷◌, ◌++◌, length, Option, Some, None, refl, sym, ap, subst, arith, length-append, option_map}
 use Rattle.std.specs.List.{All}
 use Rattle.std.proofs.lemmas.Bool.{ltb-true}
 use Rattle.std.proofs.lemmas.List.Elements.{All-push}
@@ -21,7 +21,7 @@ use Rattle.schema.specs.declared.open.Place.TheVariants.{Create, Table, TableNam
 use Rattle.schema.specs.Types.{kind_of}
 use Rattle.schema.specs.Values.{number_value, truth_value, is_number, is_moment}
 use Rattle.schema.specs.Open.{has_table, has_column, empty_table, bare_column, may_take_type, may_take_key, may_take_fill, with_not_null, with_key, with_column, whole_column, whole_table}
-use Rattle.schema.specs.Steps.{◌>>=◌, when, has_room, create_at, table_at, table_name_at, columns_at, end_at, column_name_at, type_at, column_type_at, part_at, null_at, key_at, filled, filled_with, is_now, value_at, negated_at, number_at, open_at, close_at, column_at, beside, step_at, Steps, Runs}
+use Rattle.schema.specs.Steps.{◌>>=◌, when, create_at, table_at, table_name_at, columns_at, end_at, column_name_at, type_at, column_type_at, part_at, null_at, key_at, filled, filled_with, is_now, value_at, negated_at, open_at, close_at, column_at, beside, step_at, Runs}
 use Rattle.schema.specs.Grammar.{IsWithin}
 use Rattle.schema.specs.Reading.{IsRead, start}
 use Rattle.schema.proofs.Running.{State, same_columns}
@@ -56,9 +56,9 @@ module _ (tables : List TableDef) where
   along : (p q : Place) → p ≡ q → Bounded tables p → Bounded tables q
   along p q e k = subst (λ (p : Place). Bounded tables p) e k
 
-  by_create : (t : Token) (p : Place) → create_at true tables t ≡ Some p → Bounded tables Create → Bounded tables p
+  by_create : (t : Token) (p : Place) → create_at tables t ≡ Some p → Bounded tables Create → Bounded tables p
   by_create (token.Word word.Create) p e k =
-      let w = when_some (has_room true 64 (length tables)) Table p e in
+      let w = when_some (nat_lt (length tables) 64) Table p e in
       along Table p w.1 (record { some = ltb-true (length tables) 64 w.0; each = k.1 })
   by_create _ p e k = absurd (nothing e)
 
@@ -74,10 +74,10 @@ module _ (tables : List TableDef) where
   by_columns name (token.Mark mark.Open) p e k = along (ColumnName (empty_table name)) p (same (ColumnName (empty_table name)) p e) (k, (let z : 0 ≤ 32 = omega arith in z))
   by_columns name _ p e k = absurd (nothing e)
 
-  by_column_name : (t : OpenTable) (tok : Token) (p : Place) → column_name_at true t tok ≡ Some p → Bounded tables (ColumnName t) → Bounded tables p
+  by_column_name : (t : OpenTable) (tok : Token) (p : Place) → column_name_at t tok ≡ Some p → Bounded tables (ColumnName t) → Bounded tables p
   by_column_name t (token.Name n) p e k =
-      let w = when_some (has_room true 32 (length t.columns) && not (has_column n.text t.columns)) (ColumnType t (length t.columns) n.text) p e in
-      let b = both_of (has_room true 32 (length t.columns)) (not (has_column n.text t.columns)) w.0 in
+      let w = when_some (nat_lt (length t.columns) 32 && not (has_column n.text t.columns)) (ColumnType t (length t.columns) n.text) p e in
+      let b = both_of (nat_lt (length t.columns) 32) (not (has_column n.text t.columns)) w.0 in
       along (ColumnType t (length t.columns) n.text) p w.1 (k.0, ltb-true (length t.columns) 32 b.0)
   by_column_name t _ p e k = absurd (nothing e)
 
@@ -161,17 +161,17 @@ by_semicolon tables table _ m e k = absurd (nothing e)
 here : (tables : List TableDef) (o : Option Place) (m : State) → beside tables o ≡ Some m → ((p : Place) → o ≡ Some p → Bounded tables p) → Bounded m.0 m.1
 here tables o m e k = let b = beside_some tables o m e in subst (λ (s : State). Bounded s.0 s.1) b.2 (k b.0 b.1)
 
-kept : (tables : List TableDef) (place : Place) (read : Option Value) (tok : Token) (m : State) → step_at true tables place read tok ≡ Some m → Bounded tables place → Bounded m.0 m.1
-kept tables Create read tok m e k = here tables (create_at true tables tok) m e (λ p f. by_create tables tok p f k)
+kept : (tables : List TableDef) (place : Place) (read : Option Value) (tok : Token) (m : State) → step_at tables place read tok ≡ Some m → Bounded tables place → Bounded m.0 m.1
+kept tables Create read tok m e k = here tables (create_at tables tok) m e (λ p f. by_create tables tok p f k)
 kept tables Table read tok m e k = here tables (table_at tok) m e (λ p f. by_table tables tok p f k)
 kept tables TableName read tok m e k = here tables (table_name_at tables tok) m e (λ p f. by_table_name tables tok p f k)
 kept tables (Columns name) read tok m e k = here tables (columns_at name tok) m e (λ p f. by_columns tables name tok p f k)
-kept tables (ColumnName t) read tok m e k = here tables (column_name_at true t tok) m e (λ p f. by_column_name tables t tok p f k)
+kept tables (ColumnName t) read tok m e k = here tables (column_name_at t tok) m e (λ p f. by_column_name tables t tok p f k)
 kept tables (ColumnType t index name) read tok m e k = here tables (column_type_at t index name tok) m e (λ p f. by_column_type tables t index name p (type_at tok) f k)
 kept tables (Column t c d) read tok m e k = here tables (column_at t c d read tok) m e (λ p f. by_column tables t c d read tok p f (k.0, k.1))
 kept tables (End table) read tok m e k = by_semicolon tables table tok m e k
 
-pub bounded : (s : State) (ts : List Token) (to : State) → Runs true s ts to → Bounded s.0 s.1 → Bounded to.0 to.1
+pub bounded : (s : State) (ts : List Token) (to : State) → Runs s ts to → Bounded s.0 s.1 → Bounded to.0 to.1
 unfolding Runs
 bounded s [] to e k = subst (λ (s : State). Bounded s.0 s.1) (sym e) k
 bounded s (t ∷ ts) to r k = bounded r.0 ts to r.2 (kept s.0 s.1 r.1.0 t r.0 r.1.2 k)

@@ -1,5 +1,5 @@
--- What leads from where a reader stands to the end of a schema is what the grammar has there.
-use Rattle.std.proofs.Common.{◌≡◌, ℕ, zero, suc, ℤ, pos, neg_ℤ, Bool as Truth, true, false, not, ◌&&◌, List, [], ◌∷◌, ◌++◌, length, Option, Some, None, refl, sym, ap, subst, ◌∙◌, inl, inr, ◌⊎◌, option_map, append_assoc, if◌then◌else◌}
+-- What leads from where a reader stands to the end of a schema, or to a "," between two columns, is what the grammar has there.
+use Rattle.std.proofs.Common.{◌≡◌, ℕ, zero, suc, nat_lt, Bool as Truth, true, false, not, ◌&&◌, List, [], ◌∷◌, ◌++◌, length, Option, Some, None, refl, sym, ap, subst, ◌∙◌, inl, inr, ◌<◌, arith, option_map, append_assoc, if◌then◌else◌}
 use Rattle.std.proofs.lemmas.List.{append-nil}
 use Rattle.sql_tokens.specs.declared.mark.Mark.TheVariants as mark
 use Rattle.sql_tokens.specs.declared.token.Name.{Name}
@@ -24,20 +24,34 @@ use Rattle.schema.specs.declared.open.Place.TheVariants.{Create, Table, TableNam
 use Rattle.schema.specs.Types.{type_named, kind_of}
 use Rattle.schema.specs.Values.{number_value, truth_value, StringValue, is_number, is_moment}
 use Rattle.schema.specs.Open.{has_table, has_column, empty_table, bare_column, may_take_type, may_take_key, may_take_fill, with_not_null, with_key, with_fill, with_column, whole_table}
-use Rattle.schema.specs.Steps.{◌>>=◌, when, has_room, create_at, table_at, table_name_at, columns_at, end_at, column_name_at, type_at, column_type_at, ended_at, part_at, null_at, key_at, filled, filled_with, is_now, value_at, negated_at, number_at, open_at, close_at, column_at, beside, ReadAs, step_at, Steps, Runs}
-use Rattle.schema.specs.Grammar.{FillOf, number, negative, least, string, truth, falsehood, null, now, current, PartOf, not_null, key, filled as filled_part, PartsOf, TypeOf, ColumnOf, ColumnsOf, TableOf, TablesOf}
+use Rattle.schema.specs.Steps.{◌>>=◌, when, create_at, table_at, table_name_at, columns_at, end_at, column_name_at, type_at, column_type_at, part_at, null_at, key_at, filled, filled_with, is_now, value_at, negated_at, number_at, open_at, close_at, column_at, beside, ReadAs, step_at, Runs}
+use Rattle.schema.specs.Grammar.{FillOf, number, negative, least, string, truth, falsehood, null, now, current, PartOf, not_null, key, filled as filled_part, PartsOf, TypeOf, ColumnOf, ColumnsOf, TablesOf}
 use Rattle.schema.proofs.Running.{State}
 
 -- ---- what completes each place
 
--- tables up to the end, behind these
-abbrev pub TablesEnd : List TableDef → List Token → List TableDef → Type 0
-TablesEnd tables ts final = (more : List TableDef) × TablesOf tables ts more [] × (final ≡ tables ++ more)
+-- a place to which tokens are completed: between two tables, or between two columns
+abbrev pub IsStop : Place → Type 0
+IsStop Create = Unit {0}
+IsStop (ColumnName t) = 0 < length t.columns
+IsStop _ = ⊥
 
-abbrev pub EndOf : List TableDef → TableDef → List Token → List TableDef → Type 0
+abbrev pub head : Name → List Token → List Token
+head name inner = token.Word word.Create ∷ token.Word word.Table ∷ token.Name name ∷ token.Mark mark.Open ∷ inner
+
+-- behind these tables nothing is left, or a table up to a comma
+pub data StopOf (tables : List TableDef) (rest : List Token) (final : State) : Type 0 where
+  between_tables : rest ≡ [] → final ≡ (tables, Create) → StopOf tables rest final
+  between_columns : (name : Name) (inner : List Token) (count : ℕ) (t : OpenTable) → rest ≡ head name inner → has_table name.text tables ≡ false → ColumnsOf count (empty_table name.text) inner t (token.Mark mark.Comma ∷ []) → final ≡ (tables, ColumnName t) → StopOf tables rest final
+
+-- tables up to the end, behind these
+abbrev pub TablesEnd : List TableDef → List Token → State → Type 0
+TablesEnd tables ts final = (more : List TableDef) × (rest : List Token) × TablesOf tables ts more rest × StopOf (tables ++ more) rest final
+
+abbrev pub EndOf : List TableDef → TableDef → List Token → State → Type 0
 EndOf tables table ts final = (mid : List Token) × (ts ≡ token.Mark mark.Semicolon ∷ mid) × TablesEnd (tables ++ table ∷ []) mid final
 
-pub record InTable (tables : List TableDef) (t : OpenTable) (ts : List Token) (final : List TableDef) : Type 0 where
+pub record ThroughTable (tables : List TableDef) (t : OpenTable) (ts : List Token) (final : State) : Type 0 where
   pub count : ℕ
   pub read : OpenTable
   pub rest : List Token
@@ -46,35 +60,41 @@ pub record InTable (tables : List TableDef) (t : OpenTable) (ts : List Token) (f
   pub has_key : whole_table read ≡ Some table
   pub ends : EndOf tables table rest final
 
-pub data AfterColumn (tables : List TableDef) (t : OpenTable) (rest : List Token) (final : List TableDef) : Type 0 where
+-- the table is completed and left, or the tokens stop between two of its columns
+pub data InTable (tables : List TableDef) (t : OpenTable) (ts : List Token) (final : State) : Type 0 where
+  through : ThroughTable tables t ts final → InTable tables t ts final
+  within : (count : ℕ) (u : OpenTable) → ColumnsOf count t ts u (token.Mark mark.Comma ∷ []) → final ≡ (tables, ColumnName u) → InTable tables t ts final
+  here : ts ≡ [] → 0 < length t.columns → final ≡ (tables, ColumnName t) → InTable tables t ts final
+
+pub data AfterColumn (tables : List TableDef) (t : OpenTable) (rest : List Token) (final : State) : Type 0 where
   goes_on : (mid : List Token) → rest ≡ token.Mark mark.Comma ∷ mid → InTable tables t mid final → AfterColumn tables t rest final
   closes : (mid : List Token) (table : TableDef) → rest ≡ token.Mark mark.Close ∷ mid → whole_table t ≡ Some table → EndOf tables table mid final → AfterColumn tables t rest final
 
-pub record InColumn (tables : List TableDef) (t : OpenTable) (c : OpenColumn) (ts : List Token) (final : List TableDef) : Type 0 where
+pub record InColumn (tables : List TableDef) (t : OpenTable) (c : OpenColumn) (ts : List Token) (final : State) : Type 0 where
   pub count : ℕ
   pub column : OpenColumn
   pub rest : List Token
   pub parts : PartsOf count t c ts column rest
   pub after : AfterColumn tables (with_column t column) rest final
 
-pub record InType (tables : List TableDef) (t : OpenTable) (index : ℕ) (name : List ℕ) (ts : List Token) (final : List TableDef) : Type 0 where
+pub record InType (tables : List TableDef) (t : OpenTable) (index : ℕ) (name : List ℕ) (ts : List Token) (final : State) : Type 0 where
   pub kind : AnyType
   pub mid : List Token
   pub typed : TypeOf ts kind mid
   pub may : may_take_type t kind ≡ true
   pub inner : InColumn tables t (bare_column index name kind) mid final
 
-abbrev pub InColumns : List TableDef → List ℕ → List Token → List TableDef → Type 0
+abbrev pub InColumns : List TableDef → List ℕ → List Token → State → Type 0
 InColumns tables name ts final = (inner : List Token) × (ts ≡ token.Mark mark.Open ∷ inner) × InTable tables (empty_table name) inner final
 
-pub record Heading (tables : List TableDef) (ts : List Token) (final : List TableDef) : Type 0 where
+pub record Heading (tables : List TableDef) (ts : List Token) (final : State) : Type 0 where
   pub name : Name
   pub mid : List Token
   pub begun : ts ≡ token.Name name ∷ mid
   pub is_new : has_table name.text tables ≡ false
   pub inner : InColumns tables name.text mid final
 
-abbrev pub ByDue : List TableDef → OpenTable → OpenColumn → Due → List Token → List TableDef → Type 0
+abbrev pub ByDue : List TableDef → OpenTable → OpenColumn → Due → List Token → State → Type 0
 ByDue tables t c due.Part ts final = InColumn tables t c ts final
 ByDue tables t c due.Null ts final = (mid : List Token) × (ts ≡ token.Word word.Null ∷ mid) × InColumn tables t (with_not_null c) mid final
 ByDue tables t c due.Key ts final = (mid : List Token) × (ts ≡ token.Word word.Key ∷ mid) × InColumn tables t (with_key c) mid final
@@ -83,8 +103,8 @@ ByDue tables t c due.Number ts final = (tok : Token) × (mid : List Token) × (v
 ByDue tables t c due.Open ts final = (mid : List Token) × (ts ≡ token.Mark mark.Open ∷ token.Mark mark.Close ∷ mid) × InColumn tables t (with_fill c fill.Now) mid final
 ByDue tables t c due.Close ts final = (mid : List Token) × (ts ≡ token.Mark mark.Close ∷ mid) × InColumn tables t (with_fill c fill.Now) mid final
 
--- the tokens complete the schema from this place on
-abbrev pub Completes : List TableDef → Place → List Token → List TableDef → Type 0
+-- the tokens complete the schema from this place on, up to the end or where they stop
+abbrev pub Completes : List TableDef → Place → List Token → State → Type 0
 Completes tables Create ts final = TablesEnd tables ts final
 Completes tables Table ts final = (mid : List Token) × (ts ≡ token.Word word.Table ∷ mid) × Heading tables mid final
 Completes tables TableName ts final = Heading tables ts final
@@ -121,7 +141,7 @@ moment_of kind.Int8 e = absurd cc
 moment_of kind.Text e = absurd cc
 moment_of kind.Moment e = refl
 
-module _ (tables final : List TableDef) where
+module _ (tables : List TableDef) (final : State) where
   abbrev Ends : Place → List Token → Type 0
   Ends place ts = Completes tables place ts final
 
@@ -134,33 +154,40 @@ module _ (tables final : List TableDef) where
   add_part : (t : OpenTable) (c d : OpenColumn) (ts mid : List Token) → PartOf t c ts d mid → InColumn tables t d mid final → InColumn tables t c ts final
   add_part t c d ts mid p i = record { count = suc i.count; column = i.column; rest = i.rest; parts = (d, mid, p, i.parts); after = i.after }
 
-  back_create : (l : Truth) (t : Token) (ts : List Token) (p : Place) → create_at l tables t ≡ Some p → Ends p ts → Ends Create (t ∷ ts)
-  back_create l (token.Word word.Create) ts p e k = begun (along Table p ts (when_some (has_room l 64 (length tables)) Table p e).1 k) where
+  -- what stands behind the head of a table is the table, or a part of it
+  headed : (name : Name) (inner ts : List Token) → ts ≡ head name inner → has_table name.text tables ≡ false → InTable tables (empty_table name.text) inner final → Ends Create ts
+  headed name inner ts e new (through table) =
+      let ends = table.ends in
+      let more = ends.2 in (
+        table.table ∷ more.0,
+        more.1,
+        (
+          ends.0,
+          record {
+            name = name;
+            inner = inner;
+            count = table.count;
+            read = table.read;
+            begun = e;
+            is_new = new;
+            columns = subst (λ (x : List Token). ColumnsOf table.count (empty_table name.text) inner table.read (token.Mark mark.Close ∷ x)) ends.1 table.columns;
+            has_key = table.has_key;
+          },
+          more.2,
+        ),
+        subst (λ (x : List TableDef). StopOf x more.1 final) (append_assoc tables (table.table ∷ []) more.0) more.3,
+      )
+  headed name inner ts e new (within count u columns f) = ([], ts, refl, subst (λ (x : List TableDef). StopOf x ts final) (sym (append-nil tables)) (between_columns name inner count u e new columns f))
+  headed name inner ts e new (here z h f) = let none : 0 < 0 = h in absurd (omega arith)
+
+  back_create : (t : Token) (ts : List Token) (p : Place) → create_at tables t ≡ Some p → Ends p ts → Ends Create (t ∷ ts)
+  back_create (token.Word word.Create) ts p e k = begun (along Table p ts (when_some (nat_lt (length tables) 64) Table p e).1 k) where
     begun : Ends Table ts → Ends Create (token.Word word.Create ∷ ts)
     begun h =
-        let head = h.2 in
-        let inner = head.inner in
-        let table = inner.2 in
-        let ends = table.ends in
-        let more = ends.2 in (
-          table.table ∷ more.0,
-          (
-            ends.0,
-            record {
-              name = head.name;
-              inner = inner.0;
-              count = table.count;
-              read = table.read;
-              begun = ap (λ (x : List Token). token.Word word.Create ∷ x) (h.1 ∙ ap (λ (x : List Token). token.Word word.Table ∷ x) (head.begun ∙ ap (λ (x : List Token). token.Name head.name ∷ x) inner.1));
-              is_new = head.is_new;
-              columns = subst (λ (x : List Token). ColumnsOf table.count (empty_table head.name.text) inner.0 table.read (token.Mark mark.Close ∷ x)) ends.1 table.columns;
-              has_key = table.has_key;
-            },
-            more.1,
-          ),
-          more.2 ∙ append_assoc tables (table.table ∷ []) more.0,
-        )
-  back_create l _ ts p e k = absurd (nothing e)
+        let front = h.2 in
+        let inner = front.inner in
+        headed front.name inner.0 (token.Word word.Create ∷ ts) (ap (λ (x : List Token). token.Word word.Create ∷ x) (h.1 ∙ ap (λ (x : List Token). token.Word word.Table ∷ x) (front.begun ∙ ap (λ (x : List Token). token.Name front.name ∷ x) inner.1))) front.is_new inner.2
+  back_create _ ts p e k = absurd (nothing e)
 
   back_table : (t : Token) (ts : List Token) (p : Place) → table_at t ≡ Some p → Ends p ts → Ends Table (t ∷ ts)
   back_table (token.Word word.Table) ts p e k = (ts, refl, along TableName p ts (same TableName p e) k)
@@ -176,33 +203,52 @@ module _ (tables final : List TableDef) where
   back_columns name (token.Mark mark.Open) ts p e k = (ts, refl, along (ColumnName (empty_table name)) p ts (same (ColumnName (empty_table name)) p e) k)
   back_columns name _ ts p e k = absurd (nothing e)
 
+  -- the column, and what stands behind it
+  column_of : (t : OpenTable) (n : Name) (ts rest : List Token) → has_column n.text t.columns ≡ false → (i : InType tables t (length t.columns) n.text ts final) → i.inner.rest ≡ rest → ColumnOf t (token.Name n ∷ ts) (with_column t i.inner.column) rest
+  column_of t n ts rest new i e = record {
+    name = n;
+    behind_name = ts;
+    kind = i.kind;
+    behind_type = i.mid;
+    count = i.inner.count;
+    column = i.inner.column;
+    named = refl;
+    is_new = new;
+    typed = i.typed;
+    may = i.may;
+    parts = parts_to i.inner.count t (bare_column (length t.columns) n.text i.kind) i.inner.column i.mid i.inner.rest rest e i.inner.parts;
+    made = refl;
+  }
+
   whole : (t : OpenTable) (n : Name) (ts : List Token) → has_column n.text t.columns ≡ false → (i : InType tables t (length t.columns) n.text ts final) → AfterColumn tables (with_column t i.inner.column) i.inner.rest final → InTable tables t (token.Name n ∷ ts) final
-  whole t n ts new i (goes_on mid e k) = record {
+  whole t n ts new i (goes_on mid e (through k)) = through (record {
     count = suc k.count;
     read = k.read;
     rest = k.rest;
     table = k.table;
-    columns = (with_column t i.inner.column, mid, record { name = n; behind_name = ts; kind = i.kind; behind_type = i.mid; count = i.inner.count; column = i.inner.column; named = refl; is_new = new; typed = i.typed; may = i.may; parts = parts_to i.inner.count t (bare_column (length t.columns) n.text i.kind) i.inner.column i.mid i.inner.rest (token.Mark mark.Comma ∷ mid) e i.inner.parts; made = refl }, k.columns);
+    columns = (with_column t i.inner.column, mid, column_of t n ts (token.Mark mark.Comma ∷ mid) new i e, k.columns);
     has_key = k.has_key;
     ends = k.ends;
-  }
-  whole t n ts new i (closes mid table e w k) = record {
+  })
+  whole t n ts new i (goes_on mid e (within count u columns f)) = within (suc count) u (with_column t i.inner.column, mid, column_of t n ts (token.Mark mark.Comma ∷ mid) new i e, columns) f
+  whole t n ts new i (goes_on mid e (here z h f)) = within zero (with_column t i.inner.column) (column_of t n ts (token.Mark mark.Comma ∷ []) new i (e ∙ ap (λ (x : List Token). token.Mark mark.Comma ∷ x) z)) f
+  whole t n ts new i (closes mid table e w k) = through (record {
     count = zero;
     read = with_column t i.inner.column;
     rest = mid;
     table = table;
-    columns = record { name = n; behind_name = ts; kind = i.kind; behind_type = i.mid; count = i.inner.count; column = i.inner.column; named = refl; is_new = new; typed = i.typed; may = i.may; parts = parts_to i.inner.count t (bare_column (length t.columns) n.text i.kind) i.inner.column i.mid i.inner.rest (token.Mark mark.Close ∷ mid) e i.inner.parts; made = refl };
+    columns = column_of t n ts (token.Mark mark.Close ∷ mid) new i e;
     has_key = w;
     ends = k;
-  }
+  })
 
-  back_column_name : (l : Truth) (t : OpenTable) (tok : Token) (ts : List Token) (p : Place) → column_name_at l t tok ≡ Some p → Ends p ts → Ends (ColumnName t) (tok ∷ ts)
-  back_column_name l t (token.Name n) ts p e k =
-      let w = when_some (has_room l 32 (length t.columns) && not (has_column n.text t.columns)) (ColumnType t (length t.columns) n.text) p e in
-      let b = both_of (has_room l 32 (length t.columns)) (not (has_column n.text t.columns)) w.0 in
+  back_column_name : (t : OpenTable) (tok : Token) (ts : List Token) (p : Place) → column_name_at t tok ≡ Some p → Ends p ts → Ends (ColumnName t) (tok ∷ ts)
+  back_column_name t (token.Name n) ts p e k =
+      let w = when_some (nat_lt (length t.columns) 32 && not (has_column n.text t.columns)) (ColumnType t (length t.columns) n.text) p e in
+      let b = both_of (nat_lt (length t.columns) 32) (not (has_column n.text t.columns)) w.0 in
       let i : InType tables t (length t.columns) n.text ts final = along (ColumnType t (length t.columns) n.text) p ts w.1 k in
       whole t n ts (not_true (has_column n.text t.columns) b.1) i i.inner.after
-  back_column_name l t _ ts p e k = absurd (nothing e)
+  back_column_name t _ ts p e k = absurd (nothing e)
 
   type_of : (tok : Token) (ts : List Token) (a : AnyType) → type_at tok ≡ Some a → TypeOf (tok ∷ ts) a ts
   type_of (token.Word word.Timestamptz) ts a e = inl (refl, sym (same Moment a e))
@@ -313,7 +359,7 @@ module _ (tables final : List TableDef) where
 abbrev stored : Option (List TableDef) → Option State
 stored o = option_map {U = State} (λ more. (more, Create)) o
 
-back_end : (tables final : List TableDef) (table : TableDef) (tok : Token) (ts : List Token) (m : State) → stored (end_at tables table tok) ≡ Some m → Completes m.0 m.1 ts final → EndOf tables table (tok ∷ ts) final
+back_end : (tables : List TableDef) (final : State) (table : TableDef) (tok : Token) (ts : List Token) (m : State) → stored (end_at tables table tok) ≡ Some m → Completes m.0 m.1 ts final → EndOf tables table (tok ∷ ts) final
 back_end tables final table (token.Mark mark.Semicolon) ts m e k = (ts, refl, subst (λ (s : State). Completes s.0 s.1 ts final) (sym (same (tables ++ table ∷ [], Create) m e)) k)
 back_end tables final table _ ts m e k = absurd (nothing e)
 
@@ -321,21 +367,31 @@ pub beside_some : (tables : List TableDef) (o : Option Place) (m : State) → be
 beside_some tables None m e = absurd (nothing e)
 beside_some tables (Some p) m e = (p, refl, same (tables, p) m e)
 
-at_place : (tables final : List TableDef) (p : Place) (m : State) (ts : List Token) → (tables, p) ≡ m → Completes m.0 m.1 ts final → Completes tables p ts final
+at_place : (tables : List TableDef) (final : State) (p : Place) (m : State) (ts : List Token) → (tables, p) ≡ m → Completes m.0 m.1 ts final → Completes tables p ts final
 at_place tables final p m ts e k = subst (λ (s : State). Completes s.0 s.1 ts final) (sym e) k
 
-pub back : (l : Truth) (tables final : List TableDef) (place : Place) (read : Option Value) (tok : Token) (ts : List Token) (m : State) → ReadAs place tok read → step_at l tables place read tok ≡ Some m → Completes m.0 m.1 ts final → Completes tables place (tok ∷ ts) final
-back l tables final Create read tok ts m r e k = let b = beside_some tables (create_at l tables tok) m e in back_create tables final l tok ts b.0 b.1 (at_place tables final b.0 m ts b.2 k)
-back l tables final Table read tok ts m r e k = let b = beside_some tables (table_at tok) m e in back_table tables final tok ts b.0 b.1 (at_place tables final b.0 m ts b.2 k)
-back l tables final TableName read tok ts m r e k = let b = beside_some tables (table_name_at tables tok) m e in back_table_name tables final tok ts b.0 b.1 (at_place tables final b.0 m ts b.2 k)
-back l tables final (Columns name) read tok ts m r e k = let b = beside_some tables (columns_at name tok) m e in back_columns tables final name tok ts b.0 b.1 (at_place tables final b.0 m ts b.2 k)
-back l tables final (ColumnName t) read tok ts m r e k = let b = beside_some tables (column_name_at l t tok) m e in back_column_name tables final l t tok ts b.0 b.1 (at_place tables final b.0 m ts b.2 k)
-back l tables final (ColumnType t index name) read tok ts m r e k = let b = beside_some tables (column_type_at t index name tok) m e in back_column_type tables final t index name tok ts b.0 b.1 (at_place tables final b.0 m ts b.2 k)
-back l tables final (Column t c d) read tok ts m r e k = let b = beside_some tables (column_at t c d read tok) m e in back_column tables final t c d read tok ts b.0 r b.1 (at_place tables final b.0 m ts b.2 k)
-back l tables final (End table) read tok ts m r e k = back_end tables final table tok ts m e k
+pub back : (tables : List TableDef) (final : State) (place : Place) (read : Option Value) (tok : Token) (ts : List Token) (m : State) → ReadAs place tok read → step_at tables place read tok ≡ Some m → Completes m.0 m.1 ts final → Completes tables place (tok ∷ ts) final
+back tables final Create read tok ts m r e k = let b = beside_some tables (create_at tables tok) m e in back_create tables final tok ts b.0 b.1 (at_place tables final b.0 m ts b.2 k)
+back tables final Table read tok ts m r e k = let b = beside_some tables (table_at tok) m e in back_table tables final tok ts b.0 b.1 (at_place tables final b.0 m ts b.2 k)
+back tables final TableName read tok ts m r e k = let b = beside_some tables (table_name_at tables tok) m e in back_table_name tables final tok ts b.0 b.1 (at_place tables final b.0 m ts b.2 k)
+back tables final (Columns name) read tok ts m r e k = let b = beside_some tables (columns_at name tok) m e in back_columns tables final name tok ts b.0 b.1 (at_place tables final b.0 m ts b.2 k)
+back tables final (ColumnName t) read tok ts m r e k = let b = beside_some tables (column_name_at t tok) m e in back_column_name tables final t tok ts b.0 b.1 (at_place tables final b.0 m ts b.2 k)
+back tables final (ColumnType t index name) read tok ts m r e k = let b = beside_some tables (column_type_at t index name tok) m e in back_column_type tables final t index name tok ts b.0 b.1 (at_place tables final b.0 m ts b.2 k)
+back tables final (Column t c d) read tok ts m r e k = let b = beside_some tables (column_at t c d read tok) m e in back_column tables final t c d read tok ts b.0 r b.1 (at_place tables final b.0 m ts b.2 k)
+back tables final (End table) read tok ts m r e k = back_end tables final table tok ts m e k
 
--- what runs from a place to the end of a schema completes it
-pub completes : (l : Truth) (s : State) (ts : List Token) (final : List TableDef) → Runs l s ts (final, Create) → Completes s.0 s.1 ts final
+at_stop : (tables : List TableDef) (place : Place) → IsStop place → Completes tables place [] (tables, place)
+at_stop tables Create h = ([], [], refl, between_tables refl (ap (λ (x : List TableDef). let s : State = (x, Create) in s) (sym (append-nil tables))))
+at_stop tables (ColumnName t) h = here refl h refl
+at_stop tables Table h = absurd h
+at_stop tables TableName h = absurd h
+at_stop tables (Columns name) h = absurd h
+at_stop tables (ColumnType t index name) h = absurd h
+at_stop tables (Column t c d) h = absurd h
+at_stop tables (End table) h = absurd h
+
+-- what runs from a place to the end of a schema, or to where tokens may stop, completes it
+pub completes : (s : State) (ts : List Token) (final : State) → IsStop final.1 → Runs s ts final → Completes s.0 s.1 ts final
 unfolding Runs
-completes l s [] final e = subst (λ (s : State). Completes s.0 s.1 [] final) e ([], refl, sym (append-nil final))
-completes l s (t ∷ ts) final r = back l s.0 final s.1 r.1.0 t ts r.0 r.1.1 r.1.2 (completes l r.0 ts final r.2)
+completes s [] final stop e = subst (λ (s : State). Completes s.0 s.1 [] final) e (at_stop final.0 final.1 stop)
+completes s (t ∷ ts) final stop r = back s.0 final s.1 r.1.0 t ts r.0 r.1.1 r.1.2 (completes r.0 ts final stop r.2)

@@ -3,6 +3,9 @@ pub mod Completing
 pub mod Advancing
 pub mod Loop
 pub mod Bounds
+pub mod Fresh
 pub mod Endings
 pub mod Texts
 pub mod Whole
+pub mod OneLine
+pub mod Completed

@@ -1,7 +1,9 @@
 -- What is of the grammar leads from where it begins to where it ends.
-use Rattle.std.proofs.Common.{◌≡◌, ℕ, zero, suc, ◌≤◌, ◌<◌, ◌+◌, nat_lt, ℤ, pos, neg_ℤ, Bool as Truth, true, false, not, ◌&&◌, List, [], ◌∷◌, ◌++◌, length, Option, Some, None, refl, sym, ap, subst, ◌∙◌, inl, inr, ◌⊎◌, arith, option_map, if◌then◌else◌, append_assoc, length-append}
+use Rattle.std.proofs.Common.{◌≡◌, ℕ, zero, suc, ◌≤◌, ◌<◌, ◌+◌, nat_lt, ℤ, pos, neg_ℤ, Bool as Truth, true, false, not, ◌&&◌, List, [], ◌∷◌, ◌++◌, length, Option, Some, None, refl, sym, ap, subst, ◌∙◌, inl, inr, arith, option_map, if◌then◌else◌, append_assoc, length-append}
+use Rattle.std.specs.List.{All}
 use Rattle.std.proofs.lemmas.Bool.{lt-ltb}
 use Rattle.std.proofs.lemmas.List.{append-nil}
+use Rattle.std.proofs.lemmas.List.Elements.{All-head, All-tail}
 use Rattle.sql_tokens.specs.declared.mark.Mark.TheVariants as mark
 use Rattle.sql_tokens.specs.declared.token.Name.{Name}
 use Rattle.sql_tokens.specs.declared.token.Token.{Token}
@@ -21,28 +23,28 @@ use Rattle.schema.specs.declared.open.OpenTable.{OpenTable}
 use Rattle.schema.specs.declared.open.Place.{Place}
 use Rattle.schema.specs.declared.open.Place.TheVariants.{Create, Table, TableName, Columns, ColumnName, ColumnType, Column, End}
 use Rattle.schema.specs.Types.{type_named, kind_of}
-use Rattle.schema.specs.Values.{number_value, truth_value, StringValue, is_number, is_moment}
+use Rattle.schema.specs.Values.{number_value, truth_value, is_number, is_moment}
 use Rattle.schema.specs.Open.{has_table, has_column, empty_table, bare_column, may_take_type, may_take_key, may_take_fill, with_not_null, with_key, with_fill, with_column, whole_table, whole_table_with, whole_column}
-use Rattle.schema.specs.Steps.{when, has_room, type_at, filled, filled_with, negated_at, is_now, ReadAs, step_at, Steps, Runs, beside, value_at, number_at, ◌>>=◌}
+use Rattle.schema.specs.Steps.{when, type_at, filled, filled_with, is_now, ReadAs, step_at, Steps, Runs, beside, ◌>>=◌}
 use Rattle.schema.specs.Grammar.{FillOf, number, negative, least, string, truth, falsehood, null, now, current, PartOf, not_null, key, filled as filled_part, PartsOf, TypeOf, ColumnOf, ColumnsOf, TableOf, TablesOf}
 
 abbrev pub State : Type 0
 State = List TableDef × Place
 
-pub go : (l : Truth) (s m to : State) (t : Token) (ts : List Token) → Steps l s t m → Runs l m ts to → Runs l s (t ∷ ts) to
+pub go : (s m to : State) (t : Token) (ts : List Token) → Steps s t m → Runs m ts to → Runs s (t ∷ ts) to
 unfolding Runs
-go l s m to t ts e k = (m, e, k)
+go s m to t ts e k = (m, e, k)
 
 -- a token that is no string leads there
-pub plain : (l : Truth) (s m : State) (t : Token) → ReadAs s.1 t None → step_at l s.0 s.1 None t ≡ Some m → Steps l s t m
-plain l s m t r e = (None, r, e)
+pub plain : (s m : State) (t : Token) → ReadAs s.1 t None → step_at s.0 s.1 None t ≡ Some m → Steps s t m
+plain s m t r e = (None, r, e)
 
-module _ (l : Truth) (tables : List TableDef) (to : State) where
+module _ (tables : List TableDef) (to : State) where
   abbrev Goes : Place → List Token → Type 0
-  Goes place ts = Runs l (tables, place) ts to
+  Goes place ts = Runs (tables, place) ts to
 
-  on : (place next : Place) (t : Token) (ts : List Token) → ReadAs place t None → step_at l tables place None t ≡ Some (tables, next) → Goes next ts → Goes place (t ∷ ts)
-  on place next t ts r e k = go l (tables, place) (tables, next) to t ts (plain l (tables, place) (tables, next) t r e) k
+  on : (place next : Place) (t : Token) (ts : List Token) → ReadAs place t None → step_at tables place None t ≡ Some (tables, next) → Goes next ts → Goes place (t ∷ ts)
+  on place next t ts r e k = go (tables, place) (tables, next) to t ts (plain (tables, place) (tables, next) t r e) k
 
   spelled : (place : Place) (ts us : List Token) → ts ≡ us → Goes place us → Goes place ts
   spelled place ts us e k = subst (λ (x : List Token). Goes place x) (sym e) k
@@ -86,7 +88,7 @@ module _ (l : Truth) (tables : List TableDef) (to : State) where
       (minus t c (neg_ℤ (pos 9223372036854775808)) v (token.Least ∷ rest) i
       (on (Column t c due.Number) (filled t c (fill.Constant v)) token.Least rest refl (constant t c (number_value (kind_of c.kind) (neg_ℤ (pos 9223372036854775808))) v i) (whose t c f (fill.Constant v) rest w k)))
   fill_runs t c ts f rest (string s v e i w) k = spelled (Column t c due.Value) ts (token.Str s ∷ rest) e
-      (go l (tables, Column t c due.Value) (tables, filled t c (fill.Constant v)) to (token.Str s) rest (Some v, i, refl) (whose t c f (fill.Constant v) rest w k))
+      (go (tables, Column t c due.Value) (tables, filled t c (fill.Constant v)) to (token.Str s) rest (Some v, i, refl) (whose t c f (fill.Constant v) rest w k))
   fill_runs t c ts f rest (truth v e i w) k = spelled (Column t c due.Value) ts (token.Word word.True ∷ rest) e
       (on (Column t c due.Value) (filled t c (fill.Constant v)) (token.Word word.True) rest refl (constant t c (truth_value (kind_of c.kind) true) v i) (whose t c f (fill.Constant v) rest w k))
   fill_runs t c ts f rest (falsehood v e i w) k = spelled (Column t c due.Value) ts (token.Word word.False ∷ rest) e
@@ -132,21 +134,15 @@ module _ (l : Truth) (tables : List TableDef) (to : State) where
         typed o e = ap (λ (o : Option AnyType). beside tables (o >>= λ a. when (may_take_type t a) (Column t (bare_column index name a) due.Part))) e ∙ beside_is (may_take_type t a) (Column t (bare_column index name a) due.Part) m
 
   -- a column, where there is room for it
-  column_runs : (t : OpenTable) (ts : List Token) (u : OpenTable) (rest : List Token) (c : ColumnOf t ts u rest) → has_room l 32 (length t.columns) ≡ true → Goes (Column t c.column due.Part) rest → Goes (ColumnName t) ts
+  column_runs : (t : OpenTable) (ts : List Token) (u : OpenTable) (rest : List Token) (c : ColumnOf t ts u rest) → nat_lt (length t.columns) 32 ≡ true → Goes (Column t c.column due.Part) rest → Goes (ColumnName t) ts
   column_runs t ts u rest c room k = spelled (ColumnName t) ts (token.Name c.name ∷ c.behind_name) c.named
       (on (ColumnName t) (ColumnType t (length t.columns) c.name.text) (token.Name c.name) c.behind_name refl
-      (beside_is (has_room l 32 (length t.columns) && not (has_column c.name.text t.columns)) (ColumnType t (length t.columns) c.name.text) (both_true (has_room l 32 (length t.columns)) (not (has_column c.name.text t.columns)) room (ap not c.is_new)))
+      (beside_is (nat_lt (length t.columns) 32 && not (has_column c.name.text t.columns)) (ColumnType t (length t.columns) c.name.text) (both_true (nat_lt (length t.columns) 32) (not (has_column c.name.text t.columns)) room (ap not c.is_new)))
       (type_runs t (length t.columns) c.name.text c.behind_name c.kind c.behind_type c.typed c.may
       (parts_run c.count t (bare_column (length t.columns) c.name.text c.kind) c.behind_type c.column rest c.parts k)))
 
--- at most so many, where there is a limit
-abbrev pub Fits : Truth → ℕ → ℕ → Type 0
-Fits false most n = Unit {0}
-Fits true most n = n ≤ most
-
-pub room_below : (l : Truth) (most n m : ℕ) → Fits l most m → n < m → has_room l most n ≡ true
-room_below false most n m f h = refl
-room_below true most n m f h = lt-ltb n most (omega arith)
+room_below : (most n m : ℕ) → m ≤ most → n < m → nat_lt n most ≡ true
+room_below most n m f h = lt-ltb n most (omega arith)
 
 one_more : (t u : OpenTable) (ts rest : List Token) → ColumnOf t ts u rest → length t.columns < length u.columns
 one_more t u ts rest c =
@@ -174,42 +170,50 @@ counted (suc count) t u ts rest c =
     let b : length c.0.columns < length u.columns = counted count c.0 u c.1 rest c.3 in
     omega arith
 
-module _ (l : Truth) (tables : List TableDef) (to : State) where
+module _ (tables : List TableDef) (to : State) where
   abbrev Goes2 : Place → List Token → Type 0
-  Goes2 place ts = Runs l (tables, place) ts to
+  Goes2 place ts = Runs (tables, place) ts to
 
   next_column : (t u : OpenTable) (c : OpenColumn) (rest : List Token) → u ≡ with_column t c → Goes2 (ColumnName u) rest → Goes2 (Column t c due.Part) (token.Mark mark.Comma ∷ rest)
-  next_column t u c rest e k = on l tables to (Column t c due.Part) (ColumnName (with_column t c)) (token.Mark mark.Comma) rest refl refl
+  next_column t u c rest e k = on tables to (Column t c due.Part) (ColumnName (with_column t c)) (token.Mark mark.Comma) rest refl refl
       (subst (λ (u : OpenTable). Goes2 (ColumnName u) rest) e k)
 
   last_column : (t u : OpenTable) (c : OpenColumn) (table : TableDef) (rest : List Token) → u ≡ with_column t c → whole_table u ≡ Some table → Goes2 (End table) rest → Goes2 (Column t c due.Part) (token.Mark mark.Close ∷ rest)
-  last_column t u c table rest e w k = on l tables to (Column t c due.Part) (End table) (token.Mark mark.Close) rest refl
+  last_column t u c table rest e w k = on tables to (Column t c due.Part) (End table) (token.Mark mark.Close) rest refl
       (ap (λ (o : Option TableDef). beside tables (option_map End o)) (ap whole_table (sym e) ∙ w)) k
 
-  pub columns_run : (count : ℕ) (t u : OpenTable) (ts : List Token) (table : TableDef) (rest : List Token) → ColumnsOf count t ts u (token.Mark mark.Close ∷ rest) → Fits l 32 (length u.columns) → whole_table u ≡ Some table → Goes2 (End table) rest → Goes2 (ColumnName t) ts
-  columns_run zero t u ts table rest c f w k = column_runs l tables to t ts u (token.Mark mark.Close ∷ rest) c (room_below l 32 (length t.columns) (length u.columns) f (counted zero t u ts (token.Mark mark.Close ∷ rest) c)) (last_column t u c.column table rest c.made w k)
-  columns_run (suc count) t u ts table rest c f w k = column_runs l tables to t ts c.0 (token.Mark mark.Comma ∷ c.1) c.2 (room_below l 32 (length t.columns) (length u.columns) f (counted (suc count) t u ts (token.Mark mark.Close ∷ rest) c))
-      (next_column t c.0 (c.2).column c.1 (c.2).made (columns_run count c.0 u c.1 table rest c.3 f w k))
+  -- columns, and what the last of them leads to
+  pub columns_run : (count : ℕ) (t u : OpenTable) (ts rest : List Token) → ColumnsOf count t ts u rest → length u.columns ≤ 32 → ((before : OpenTable) (c : OpenColumn) → u ≡ with_column before c → Goes2 (Column before c due.Part) rest) → Goes2 (ColumnName t) ts
+  columns_run zero t u ts rest c f k = column_runs tables to t ts u rest c (room_below 32 (length t.columns) (length u.columns) f (counted zero t u ts rest c)) (k t c.column c.made)
+  columns_run (suc count) t u ts rest c f k = column_runs tables to t ts c.0 (token.Mark mark.Comma ∷ c.1) c.2 (room_below 32 (length t.columns) (length u.columns) f (counted (suc count) t u ts rest c))
+      (next_column t c.0 (c.2).column c.1 (c.2).made (columns_run count c.0 u c.1 rest c.3 f k))
 
-  pub table_runs : (ts : List Token) (table : TableDef) (rest : List Token) → TableOf tables ts table rest → has_room l 64 (length tables) ≡ true → Fits l 32 (length table.columns) → Runs l (tables ++ table ∷ [], Create) rest to → Goes2 Create ts
-  table_runs ts table rest c room f k = spelled l tables to Create ts (token.Word word.Create ∷ token.Word word.Table ∷ token.Name c.name ∷ token.Mark mark.Open ∷ c.inner) c.begun
-      (on l tables to Create Table (token.Word word.Create) (token.Word word.Table ∷ token.Name c.name ∷ token.Mark mark.Open ∷ c.inner) refl (beside_is l tables to (has_room l 64 (length tables)) Table room)
-      (on l tables to Table TableName (token.Word word.Table) (token.Name c.name ∷ token.Mark mark.Open ∷ c.inner) refl refl
-      (on l tables to TableName (Columns c.name.text) (token.Name c.name) (token.Mark mark.Open ∷ c.inner) refl (beside_is l tables to (not (has_table c.name.text tables)) (Columns c.name.text) (ap not c.is_new))
-      (on l tables to (Columns c.name.text) (ColumnName (empty_table c.name.text)) (token.Mark mark.Open) c.inner refl refl
-      (columns_run c.count (empty_table c.name.text) c.read c.inner table (token.Mark mark.Semicolon ∷ rest) c.columns
-      (subst (λ (n : ℕ). Fits l 32 n) (ap length (same_columns c.read table c.has_key)) f) c.has_key
-      (go l (tables, End table) (tables ++ table ∷ [], Create) to (token.Mark mark.Semicolon) rest (None, refl, refl) k))))))
+  -- the head of a table
+  head_runs : (name : Name) (inner ts : List Token) → ts ≡ token.Word word.Create ∷ token.Word word.Table ∷ token.Name name ∷ token.Mark mark.Open ∷ inner → has_table name.text tables ≡ false → nat_lt (length tables) 64 ≡ true → Goes2 (ColumnName (empty_table name.text)) inner → Goes2 Create ts
+  head_runs name inner ts e new room k = spelled tables to Create ts (token.Word word.Create ∷ token.Word word.Table ∷ token.Name name ∷ token.Mark mark.Open ∷ inner) e
+      (on tables to Create Table (token.Word word.Create) (token.Word word.Table ∷ token.Name name ∷ token.Mark mark.Open ∷ inner) refl (beside_is tables to (nat_lt (length tables) 64) Table room)
+      (on tables to Table TableName (token.Word word.Table) (token.Name name ∷ token.Mark mark.Open ∷ inner) refl refl
+      (on tables to TableName (Columns name.text) (token.Name name) (token.Mark mark.Open ∷ inner) refl (beside_is tables to (not (has_table name.text tables)) (Columns name.text) (ap not new))
+      (on tables to (Columns name.text) (ColumnName (empty_table name.text)) (token.Mark mark.Open) inner refl refl k))))
 
--- every table fits
-abbrev pub AllFit : Truth → List TableDef → Type 0
-AllFit l [] = Unit {0}
-AllFit l (table ∷ tables) = Fits l 32 (length table.columns) × AllFit l tables
+  pub table_runs : (ts : List Token) (table : TableDef) (rest : List Token) → TableOf tables ts table rest → nat_lt (length tables) 64 ≡ true → length table.columns ≤ 32 → Runs (tables ++ table ∷ [], Create) rest to → Goes2 Create ts
+  table_runs ts table rest c room f k = head_runs c.name c.inner ts c.begun c.is_new room
+      (columns_run c.count (empty_table c.name.text) c.read c.inner (token.Mark mark.Close ∷ token.Mark mark.Semicolon ∷ rest) c.columns
+      (subst (λ (n : ℕ). n ≤ 32) (ap length (same_columns c.read table c.has_key)) f)
+      (λ before d e. last_column before c.read d table (token.Mark mark.Semicolon ∷ rest) e c.has_key
+      (go (tables, End table) (tables ++ table ∷ [], Create) to (token.Mark mark.Semicolon) rest (None, refl, refl) k)))
 
-pub tables_run : (l : Truth) (before tables : List TableDef) (ts : List Token) → TablesOf before ts tables [] → Fits l 64 (length before + length tables) → AllFit l tables → Runs l (before, Create) ts (before ++ tables, Create)
+-- a table up to the comma behind a column
+pub part_of_table_runs : (tables : List TableDef) (name : Name) (inner ts : List Token) (count : ℕ) (t : OpenTable) → ts ≡ token.Word word.Create ∷ token.Word word.Table ∷ token.Name name ∷ token.Mark mark.Open ∷ inner → has_table name.text tables ≡ false → ColumnsOf count (empty_table name.text) inner t (token.Mark mark.Comma ∷ []) → nat_lt (length tables) 64 ≡ true → length t.columns ≤ 32 → Runs (tables, Create) ts (tables, ColumnName t)
 unfolding Runs
-tables_run l before [] ts e f a = subst (λ (x : List Token). Runs l (before, Create) x (before ++ [], Create)) (sym e) (ap (λ (x : List TableDef). let s : State = (x, Create) in s) (append-nil before))
-tables_run l before (table ∷ tables) ts p f a =
-    table_runs l before (before ++ table ∷ tables, Create) ts table p.0 p.1 (room_below l 64 (length before) (length before + suc (length tables)) f (omega arith)) a.0
-    (subst (λ (x : List TableDef). Runs l (before ++ table ∷ [], Create) p.0 (x, Create)) (append_assoc before (table ∷ []) tables)
-    (tables_run l (before ++ table ∷ []) tables p.0 p.2 (subst (λ (n : ℕ). Fits l 64 n) (length_of before table tables) f) a.1))
+part_of_table_runs tables name inner ts count t e new columns room f =
+    head_runs tables (tables, ColumnName t) name inner ts e new room
+    (columns_run tables (tables, ColumnName t) count (empty_table name.text) t inner (token.Mark mark.Comma ∷ []) columns f
+    (λ before c m. next_column tables (tables, ColumnName t) before t c [] m refl))
+
+pub tables_run : (before tables : List TableDef) (ts rest : List Token) (to : State) → TablesOf before ts tables rest → length before + length tables ≤ 64 → All (λ t. length t.columns ≤ 32) tables → Runs (before ++ tables, Create) rest to → Runs (before, Create) ts to
+tables_run before [] ts rest to e f a k = subst (λ (x : List Token). Runs (before, Create) x to) (sym e) (subst (λ (x : List TableDef). Runs (x, Create) rest to) (append-nil before) k)
+tables_run before (table ∷ tables) ts rest to p f a k =
+    table_runs before to ts table p.0 p.1 (room_below 64 (length before) (length before + suc (length tables)) f (omega arith)) (All-head (λ (t : TableDef). length t.columns ≤ 32) table tables a)
+    (tables_run (before ++ table ∷ []) tables p.0 rest to p.2 (subst (λ (n : ℕ). n ≤ 64) (length_of before table tables) f) (All-tail (λ (t : TableDef). length t.columns ≤ 32) table tables a)
+    (subst (λ (x : List TableDef). Runs (x, Create) rest to) (sym (append_assoc before (table ∷ []) tables)) k))

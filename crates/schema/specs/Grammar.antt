@@ -1,6 +1,6 @@
 -- The grammar of schemas, by productions, with the rules of tables and columns where they hold.
 -- R ts x rest says: ts is a text of x, and then rest.
-use Rattle.std.specs.Prelude.{◌≡◌, ◌<◌, ◌≤◌, ℕ, zero, suc, ℤ, pos, neg_ℤ, Bool as Truth, true, false, not, List, [], ◌∷◌, ◌++◌, length, Option, Some, None, ◌⊎◌}
+use Rattle.std.specs.Prelude.{◌≡◌, ◌<◌, ◌≤◌, ℕ, zero, suc, ℤ, pos, neg_ℤ, true, false, List, [], ◌∷◌, ◌++◌, length, Some, ◌⊎◌}
 use Rattle.std.specs.List.{All}
 use Rattle.sql_tokens.specs.declared.mark.Mark.TheVariants as mark
 use Rattle.sql_tokens.specs.declared.token.Name.{Name}
@@ -98,3 +98,18 @@ IsWithin tables = (length tables ≤ 64) × All (λ t. length t.columns ≤ 32) 
 -- the tokens are a schema of these tables
 abbrev pub IsSchema : List Token → List TableDef → Type 0
 IsSchema ts tables = IsSchemaText ts tables × IsWithin tables
+
+-- The tokens are a schema that is cut off behind a "," between two columns: whole tables, and one more up to there. It is the
+-- 64th at most, has at most 32 columns so far, and may have no key yet.
+pub record IsCutOff (ts : List Token) : Type 0 where
+  pub tables : List TableDef
+  pub name : Name
+  pub inner : List Token
+  pub count : ℕ
+  pub table : OpenTable
+  pub whole : TablesOf [] ts tables (token.Word word.Create ∷ token.Word word.Table ∷ token.Name name ∷ token.Mark mark.Open ∷ inner)
+  pub is_new : has_table name.text tables ≡ false
+  pub columns : ColumnsOf count (empty_table name.text) inner table (token.Mark mark.Comma ∷ [])
+  pub within : IsWithin tables
+  pub few_tables : length tables < 64
+  pub few_columns : length table.columns ≤ 32

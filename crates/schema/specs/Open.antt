@@ -1,5 +1,5 @@
 -- Tables and columns as far as they are read, and what they become.
-use Rattle.std.specs.Prelude.{◌||◌, ◌&&◌, ℕ, Bool as Truth, true, false, not, List, [], ◌∷◌, ◌++◌, length, Option, Some, None, bytes_eq, if◌then◌else◌, is_some}
+use Rattle.std.specs.Prelude.{◌||◌, ◌&&◌, ℕ, Bool as Truth, true, false, not, List, [], ◌∷◌, ◌++◌, Option, Some, None, bytes_eq, if◌then◌else◌, is_some}
 use Rattle.std.specs.List.{list_any}
 use Rattle.schema.specs.declared.catalogue.ColumnDef.{ColumnDef}
 use Rattle.schema.specs.declared.catalogue.Fill.{Fill}

@@ -1,5 +1,5 @@
 -- Which tables a text is a schema of, and in which line it is none.
-use Rattle.std.specs.Prelude.{◌≡◌, ◌==◌, ◌-◌, ◌+◌, ℕ, nat_lt, List, [], ◌∷◌, ◌++◌, true, length, take, drop, map, count_by, Result, Ok, Err, ◌⊎◌, if◌then◌else◌}
+use Rattle.std.specs.Prelude.{◌≡◌, ◌==◌, ◌-◌, ◌+◌, ℕ, nat_lt, List, [], ◌∷◌, ◌++◌, length, take, drop, map, count_by, Result, Ok, Err, ◌⊎◌, if◌then◌else◌}
 use Rattle.std.specs.Str.Lossy.{utf8_valid_len}
 use Rattle.sql_tokens.specs.declared.token.Placed.{Placed}
 use Rattle.sql_tokens.specs.declared.token.Token.{Token}
@@ -14,7 +14,7 @@ use Rattle.schema.specs.declared.fault.Stop.TheVariants as stop
 use Rattle.schema.specs.declared.open.Place.{Place}
 use Rattle.schema.specs.declared.open.Place.TheVariants.{Create}
 use Rattle.schema.specs.Steps.{Runs}
-use Rattle.schema.specs.Grammar.{IsSchemaText, IsSchema}
+use Rattle.schema.specs.Grammar.{IsSchema, IsCutOff}
 
 -- ---- the text and its lines
 
@@ -39,20 +39,20 @@ tokens_of placed = map (λ p. p.token) placed
 abbrev pub Says : List ℕ → List TableDef → Type 0
 Says text tables = (tokens : List Placed) × TokensOf (as_text text) tokens × IsSchema (tokens_of tokens) tables
 
--- no schema begins with these tokens
-abbrev pub BeginsNone : List Token → Type 0
-BeginsNone ts = (more : List Token) (tables : List TableDef) → IsSchema (ts ++ more) tables → ⊥
+-- the tokens are a schema, or one that is cut off behind a "," between two columns
+abbrev pub IsSchemaSoFar : List Token → Type 0
+IsSchemaSoFar ts = ((tables : List TableDef) × IsSchema ts tables) ⊎ IsCutOff ts
 
--- a schema, of however many tables and columns, begins with these tokens
+-- with some tokens behind them they are a schema, or one so far
 abbrev pub Begins : List Token → Type 0
-Begins ts = (more : List Token) × (tables : List TableDef) × IsSchemaText (ts ++ more) tables
+Begins ts = (more : List Token) × IsSchemaSoFar (ts ++ more)
 
--- In this line stands a token behind those that begin a schema, with which none begins; or the text
--- ends in it and is none.
+-- In this line stands a token behind those that begin a schema, with which they begin none; or the text
+-- ends in it, and its tokens begin a schema and are none.
 abbrev pub IsBadLine : List ℕ → List Placed → ℕ → Type 0
 IsBadLine text tokens line =
     ((front rest : List Placed) × (placed : Placed) × (tokens ≡ front ++ placed ∷ rest) × (line ≡ line_of text placed.place)
-    × Begins (tokens_of front) × BeginsNone (tokens_of front ++ placed.token ∷ []))
+    × Begins (tokens_of front) × (Begins (tokens_of front ++ placed.token ∷ []) → ⊥))
     ⊎ ((line ≡ line_of text (length text - 1)) × Begins (tokens_of tokens) × ((tables : List TableDef) → IsSchema (tokens_of tokens) tables → ⊥))
 
 -- the text is no schema, and this is its first faulty line
@@ -73,7 +73,7 @@ start = ([], Create)
 
 -- the tokens lead from the beginning to the end of a schema of these tables
 abbrev pub IsRead : List Token → List TableDef → Type 0
-IsRead ts tables = Runs true start ts (tables, Create)
+IsRead ts tables = Runs start ts (tables, Create)
 
 -- the answer to a token is this, unless memory ran out
 abbrev pub IsStep : List TableDef × Place → Result (List TableDef × Place) Stop → Type 0
@@ -90,12 +90,12 @@ AreTables tables (Err refusal.NoMemory) = Unit {0}
 
 -- the tokens lead somewhere
 abbrev pub LeadsOn : List Token → Type 0
-LeadsOn ts = (to : List TableDef × Place) × Runs true start ts to
+LeadsOn ts = (to : List TableDef × Place) × Runs start ts to
 
--- at this place stands a token behind which nothing leads on
+-- at this place stands a token that leads nowhere
 abbrev pub StopsAt : List Placed → ℕ → Type 0
 StopsAt tokens place = (front rest : List Placed) × (placed : Placed) × (tokens ≡ front ++ placed ∷ rest) × (place ≡ placed.place)
-    × LeadsOn (tokens_of front) × ((more : List Token) (tables : List TableDef) → IsRead (tokens_of front ++ placed.token ∷ more) tables → ⊥)
+    × LeadsOn (tokens_of front) × (LeadsOn (tokens_of front ++ placed.token ∷ []) → ⊥)
 
 -- where a refusal comes
 abbrev pub IsRefusal : List Placed → Result (List TableDef) Refusal → Type 0

@@ -1,5 +1,5 @@
 -- A schema read token by token: where the reader stands, and where a token leads it.
-use Rattle.std.specs.Prelude.{◌≡◌, ◌&&◌, ℕ, ℤ, neg_ℤ, pos, nat_lt, Bool as Truth, true, false, not, List, [], ◌∷◌, ◌++◌, length, Option, Some, None, Result, Ok, Err, bytes_eq, codes, if◌then◌else◌, option_map}
+use Rattle.std.specs.Prelude.{◌≡◌, ◌&&◌, ℕ, neg_ℤ, pos, nat_lt, Bool as Truth, true, false, not, List, [], ◌∷◌, ◌++◌, length, Option, Some, None, Result, Ok, Err, bytes_eq, codes, if◌then◌else◌, option_map}
 use Rattle.sql_tokens.specs.declared.mark.Mark.TheVariants as mark
 use Rattle.sql_tokens.specs.declared.token.Name.{Name}
 use Rattle.sql_tokens.specs.declared.token.Token.{Token}
@@ -45,16 +45,12 @@ None >>= f = None
 abbrev pub when : {A : Type 0} → Truth → A → Option A
 when test x = if test then Some x else None
 
--- there is room for one more than n, where at most so many may stand
-abbrev pub has_room : Truth → ℕ → ℕ → Truth
-has_room false most n = true
-has_room true most n = nat_lt n most
-
 -- ---- outside of columns
 
-abbrev pub create_at : Truth → List TableDef → Token → Option Place
-create_at limited tables (token.Word word.Create) = when (has_room limited 64 (length tables)) Table
-create_at limited tables _ = None
+-- a schema has at most 64 tables
+abbrev pub create_at : List TableDef → Token → Option Place
+create_at tables (token.Word word.Create) = when (nat_lt (length tables) 64) Table
+create_at tables _ = None
 
 abbrev pub table_at : Token → Option Place
 table_at (token.Word word.Table) = Some TableName
@@ -74,9 +70,10 @@ end_at tables table _ = None
 
 -- ---- a column up to its type
 
-abbrev pub column_name_at : Truth → OpenTable → Token → Option Place
-column_name_at limited table (token.Name n) = when (has_room limited 32 (length table.columns) && not (has_column n.text table.columns)) (ColumnType table (length table.columns) n.text)
-column_name_at limited table _ = None
+-- a table has at most 32 columns
+abbrev pub column_name_at : OpenTable → Token → Option Place
+column_name_at table (token.Name n) = when (nat_lt (length table.columns) 32 && not (has_column n.text table.columns)) (ColumnType table (length table.columns) n.text)
+column_name_at table _ = None
 
 -- the type that the token names
 abbrev pub type_at : Token → Option AnyType
@@ -163,15 +160,15 @@ column_at table column due.Close read t = close_at table column t
 abbrev pub beside : List TableDef → Option Place → Option (List TableDef × Place)
 beside tables answer = option_map (λ place. (tables, place)) answer
 
-abbrev pub step_at : Truth → List TableDef → Place → Option Value → Token → Option (List TableDef × Place)
-step_at limited tables Create read t = beside tables (create_at limited tables t)
-step_at limited tables Table read t = beside tables (table_at t)
-step_at limited tables TableName read t = beside tables (table_name_at tables t)
-step_at limited tables (Columns name) read t = beside tables (columns_at name t)
-step_at limited tables (ColumnName table) read t = beside tables (column_name_at limited table t)
-step_at limited tables (ColumnType table number name) read t = beside tables (column_type_at table number name t)
-step_at limited tables (Column table column due) read t = beside tables (column_at table column due read t)
-step_at limited tables (End table) read t = option_map (λ more. (more, Create)) (end_at tables table t)
+abbrev pub step_at : List TableDef → Place → Option Value → Token → Option (List TableDef × Place)
+step_at tables Create read t = beside tables (create_at tables t)
+step_at tables Table read t = beside tables (table_at t)
+step_at tables TableName read t = beside tables (table_name_at tables t)
+step_at tables (Columns name) read t = beside tables (columns_at name t)
+step_at tables (ColumnName table) read t = beside tables (column_name_at table t)
+step_at tables (ColumnType table number name) read t = beside tables (column_type_at table number name t)
+step_at tables (Column table column due) read t = beside tables (column_at table column due read t)
+step_at tables (End table) read t = option_map (λ more. (more, Create)) (end_at tables table t)
 
 -- what a string behind DEFAULT is read as; no other token is
 abbrev pub ReadAs : Place → Token → Option Value → Type 0
@@ -179,10 +176,10 @@ ReadAs (Column table column due.Value) (token.Str s) read = StringValue (kind_of
 ReadAs place t read = read ≡ None
 
 -- a token leads from the one to the other
-abbrev pub Steps : Truth → List TableDef × Place → Token → List TableDef × Place → Type 0
-Steps limited from t to = (read : Option Value) × ReadAs from.1 t read × (step_at limited from.0 from.1 read t ≡ Some to)
+abbrev pub Steps : List TableDef × Place → Token → List TableDef × Place → Type 0
+Steps from t to = (read : Option Value) × ReadAs from.1 t read × (step_at from.0 from.1 read t ≡ Some to)
 
 -- the tokens lead from the one to the other
-unfoldable pub Runs : Truth → List TableDef × Place → List Token → List TableDef × Place → Type 0
-Runs limited from [] to = to ≡ from
-Runs limited from (t ∷ ts) to = (mid : List TableDef × Place) × Steps limited from t mid × Runs limited mid ts to
+unfoldable pub Runs : List TableDef × Place → List Token → List TableDef × Place → Type 0
+Runs from [] to = to ≡ from
+Runs from (t ∷ ts) to = (mid : List TableDef × Place) × Steps from t mid × Runs mid ts to

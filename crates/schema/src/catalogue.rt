@@ -72,7 +72,7 @@ impl Model for Catalogue {
 
 impl Catalogue {
     /// The catalogue of these tables. It takes no memory.
-    pub(crate) fn new(tables: NamedList<TableDef>) -> Catalogue
+    pub fn new(tables: NamedList<TableDef>) -> Catalogue
         ensures { result ≡ tables }
     {
         Catalogue { tables }

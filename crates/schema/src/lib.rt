@@ -7,6 +7,7 @@ mod catalogue;
 mod column_type;
 mod constant;
 mod fault;
+mod laws;
 mod open;
 mod read;
 mod step;
@@ -14,4 +15,5 @@ mod text;
 
 pub use catalogue::{Catalogue, ColumnDef, Fill, TableDef};
 pub use fault::SchemaFault;
+pub use laws::{a_text_is_faulty_in_one_line, what_begins_a_schema_goes_on};
 pub use read::read_schema;

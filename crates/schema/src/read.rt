@@ -1,5 +1,5 @@
 //! Reads a schema.
-ghost use Rattle.std.specs.Prelude.{◌≡◌, ◌<◌, ℕ, length, List as Sequence, IfOk, Err, true};
+ghost use Rattle.std.specs.Prelude.{◌≡◌, ◌<◌, ℕ, length, List as Sequence, IfOk, Err};
 ghost use Rattle.schema.specs.declared.catalogue.TableDef.{TableDef as Table};
 ghost use Rattle.schema.specs.declared.fault.SchemaFault.TheVariants.{BadLine};
 ghost use Rattle.schema.specs.declared.open.Place.{Place as Standing};
@@ -83,8 +83,8 @@ fn advance(
     token: &Token,
 ) -> Result<Place, Stop>
     ensures ok { IfOk (with_tables tables.new result)
-        (λ to. Steps true (tables.old, place) token.now to) }
-    ensures only { (to : Sequence Table × Standing) → Steps true (tables.old, place) token.now to
+        (λ to. Steps (tables.old, place) token.now to) }
+    ensures only { (to : Sequence Table × Standing) → Steps (tables.old, place) token.now to
         → IsStep to (with_tables tables.new result) }
 {
     match read_string(alloc, &place, token) {

@@ -1,5 +1,5 @@
 //! Where a token leads the reader of a schema.
-ghost use Rattle.std.specs.Prelude.{◌≡◌, ◌&&◌, IfOk, None, not, is_some, OnOk, option_map, true};
+ghost use Rattle.std.specs.Prelude.{◌≡◌, ◌&&◌, IfOk, None, not, is_some, OnOk, option_map};
 ghost use Rattle.schema.specs.Open.{has_table, has_column, empty_table, bare_column, may_take_type, may_take_key, may_take_fill, with_not_null, with_key, with_fill, fill_by, whole_column, number_or, with_column, whole_table};
 ghost use Rattle.schema.specs.Steps.{Gives, create_at, table_at, table_name_at, columns_at, end_at, column_name_at, type_at, column_type_at, ended_at, part_at, null_at, key_at, filled, filled_with, is_now, value_at, number_at, open_at, close_at, column_at, step_at, when, with_tables};
 ghost use Rattle.schema.specs.Values.{is_moment};
@@ -34,7 +34,7 @@ fn has_column(name: &str, columns: &NamedList<ColumnDef>) -> bool
 }
 
 fn create(tables: &NamedList<TableDef>, token: &Token) -> Result<Place, Stop>
-    ensures { Gives result (create_at true tables.now token.now) }
+    ensures { Gives result (create_at tables.now token.now) }
 {
     match token {
         Token::Word(Word::Create) if tables.len() < MOST_TABLES => Ok(Place::Table),
@@ -80,7 +80,7 @@ fn columns(alloc: Global, name: Text, token: &Token) -> Result<Place, Stop>
 }
 
 fn column_name(table: OpenTable, token: &Token) -> Result<Place, Stop>
-    ensures { Gives result (column_name_at true table token.now) }
+    ensures { Gives result (column_name_at table token.now) }
 {
     match token {
         Token::Name(name) => {
@@ -444,7 +444,7 @@ pub(crate) fn step(
     token: &Token,
 ) -> Result<Place, Stop>
     ensures { Gives (with_tables tables.new result)
-        (step_at true tables.old place read token.now) }
+        (step_at tables.old place read token.now) }
 {
     match place {
         Place::Create => create(tables, token),

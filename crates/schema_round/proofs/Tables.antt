@@ -56,6 +56,6 @@ tables_allowed before ts (table ∷ tables) rest (mid, t, others) clean few =
 
 pub says_allowed : (text : List ℕ) (tables : List TableDef) → Says text tables → AreAllowed tables
 says_allowed text tables (placed, tokens, (is, within)) =
-    let sound = all_sound true start (tokens_of placed) (tables, Create) (is_read (tokens_of placed) tables (is, within)) in
+    let sound = all_sound start (tokens_of placed) (tables, Create) (is_read (tokens_of placed) tables (is, within)) in
     let clean = all_clean (as_text text) placed tokens sound in
     (within.0, tables_allowed [] (tokens_of placed) tables [] is clean within.1)

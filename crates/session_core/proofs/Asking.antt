@@ -8,9 +8,9 @@ use Rattle.backend_trait.specs.declared.answer.Answer.{Answer}
 use Rattle.backend_trait.specs.declared.answer.Polled.{Polled}
 use Rattle.backend_trait.specs.declared.answer.Polled.TheVariants as polls
 use Rattle.backend_trait.specs.Rows.{with_at}
-use Rattle.backend_trait.specs.Effect.{Wants, nothing, Conflicts, same_place, same_table, table_left, table_right, Given, Fails, Gives}
+use Rattle.backend_trait.specs.Effect.{Wants, nothing, these_places, Conflicts, same_place, same_table, table_left, table_right, Given, Fails, Gives}
 use Rattle.backend_trait.specs.Store.{Store, Transaction, Absent, Alive, Dead, Pending, WhereLive, Live, MayPost, posted, held_by, table_lock, acted}
-use Rattle.backend_trait.specs.Acts.{MayAnswer, given_of, Answers, Acts, IsTaken, MustWait, MustWaitRun, WhereSome, IsPromptly, IsPromptAnswer, IsCrossed, InForm}
+use Rattle.backend_trait.specs.Acts.{MayAnswer, given_of, Answers, Acts, IsTaken, MustWait, MustWaitRun, WhereSome, IsPromptly, IsPromptAnswer, IsCrossed, IsOf, InForm, InFormAnswer}
 use Rattle.session_core.specs.Standing.{IsAlone, IsAsked}
 
 pub with_at-same : {A : Type 0} (f : ℕ → A) (i : ℕ) (x : A) → with_at f i x i ≡ x
@@ -37,7 +37,7 @@ not_taken s st request wants alone (o, other, conflict) =
 
 not_taken_run : (s : ℕ) (st : Store) (request : Request) (t : Live) (given : Given) → IsAlone s st → MustWaitRun (posted st s request) s t given → ⊥
 not_taken_run s st request t (Fails code) alone h = h
-not_taken_run s st request t (Gives result changes wants) alone h = not_taken s st request wants alone h.1
+not_taken_run s st request t (Gives result changes places) alone h = not_taken s st request (these_places places) alone h.1
 
 not_must : (s : ℕ) (st : Store) (request of : Request) → IsAlone s st → MustWait (posted st s request) s of → ⊥
 not_must s st request requests.TakeSnapshot alone h = h
@@ -79,15 +79,19 @@ pub not_lost : (s : ℕ) (st mid new : Store) (request : Request) (before after 
 not_lost s st mid new request before after is alone form stays =
     let t : true ≡ false = sym form.1 ∙ stays ∙ ap (λ m. m.lost) is ∙ alone.not_lost in cc
 
--- its answer is one that it may give
-pub asked : (s : ℕ) (st mid new : Store) (request : Request) (answer : Answer) → mid ≡ posted st s request → Acts mid s (polls.Answered answer) new → IsPromptly mid s (polls.Answered answer) → IsAsked st s request answer new
-asked s st mid new request answer is acts promptly =
+-- its answer is one that it may give, in its form
+pub asked : (s : ℕ) (st mid new : Store) (request : Request) (answer : Answer) → mid ≡ posted st s request → Acts mid s (polls.Answered answer) new → IsPromptly mid s (polls.Answered answer) → InFormAnswer mid s answer new → IsAsked st s request answer new
+asked s st mid new request answer is acts promptly in_form =
     let p : Pending = record { request = request; crossed = false } in
     let a : Answers (posted st s request) s answer new = subst (λ (m : Store). Answers m s answer new) is acts in
+    let f : InFormAnswer (posted st s request) s answer new = subst (λ (m : Store). InFormAnswer m s answer new) is in_form in
     let t : Some a.pending ≡ Some p = sym a.was ∙ with_at-same st.pending s (Some p) in
+    let u : Some f.pending ≡ Some p = sym f.was ∙ with_at-same st.pending s (Some p) in
     let same : a.pending ≡ p = cc in
+    let formed : f.pending ≡ p = cc in
     record {
       may = subst (λ q. MayAnswer (posted st s request) s q answer) same a.may;
       promptly = promptly.0;
+      form = subst (λ (q : Pending). IsOf q.request answer) formed f.form;
       leaves = a.leaves ∙ ap (λ q. acted (posted st s request) s q.request answer) same;
     }

@@ -1,4 +1,5 @@
 pub mod Asking
 pub mod Going
+pub mod Numbers
 pub mod Transitions
 pub mod Stages

@@ -9,26 +9,28 @@ ghost use Rattle.session_core.specs.Steps.{request_of};
 
 use backend_trait::{Answer, Backend, Checked, Polled, Posted, Request};
 use pool_base::{BackendId, BackendSet, NoMemory, SessionId};
+use sql_copies::checked_copied;
 use write_path::{Chain, ChainKind};
 
 /// A step of a statement, the same at each backend.
-#[derive(Clone, Copy, PartialEq, Eq)]
-pub(crate) enum Step {
+#[derive(Clone, Copy)]
+pub(crate) enum Step<'a> {
     Begin,
-    Run(Checked),
+    Run(&'a Checked),
     Commit,
     Rollback,
 }
 
-impl Step {
-    fn request(self) -> Request
-        ensures { result ≡ request_of self }
+impl Step<'_> {
+    /// The request of the step: each backend has a copy of the statement.
+    fn request(self) -> Result<Request, NoMemory>
+        ensures { IfOk result (λ request. request ≡ request_of self.entry) }
     {
         match self {
-            Step::Begin => Request::TakeSnapshot,
-            Step::Run(statement) => Request::Run(statement),
-            Step::Commit => Request::Commit,
-            Step::Rollback => Request::Rollback,
+            Step::Begin => Ok(Request::TakeSnapshot),
+            Step::Run(statement) => Ok(Request::Run(checked_copied(statement)?)),
+            Step::Commit => Ok(Request::Commit),
+            Step::Rollback => Ok(Request::Rollback),
         }
     }
 }
@@ -51,7 +53,10 @@ pub(crate) fn ask<B: Backend>(
         (λ answer. IsAsked (B.meaning one.old) s.number request answer (B.meaning one.new)) }
 {
     match one.post(s, request) {
-        Posted::NoMemory(_) => Err(NoMemory),
+        Posted::NoMemory(request) => {
+            drop(request);
+            Err(NoMemory)
+        }
         Posted::Accepted => match one.poll(s) {
             Polled::Answered(answer) => Ok(answer),
             Polled::NotYet | Polled::Lost | Polled::NoMemory => unreachable!(),
@@ -106,7 +111,7 @@ pub(crate) fn go_down<B: Backend>(
     shelf: &mut [B],
     attached: BackendSet,
     s: SessionId,
-    step: Step,
+    step: Step<'_>,
 ) -> Result<(), NoMemory>
     requires attached { AreThere attached.bits (length shelf.old) }
     requires few { length shelf.old ≤ 8 }
@@ -119,7 +124,7 @@ pub(crate) fn go_down<B: Backend>(
     ensures prompt { All (λ b. B.is_prompt b ≡ true) shelf.new }
     ensures steady { All (λ b. B.is_steady b ≡ true) shelf.new }
     ensures kind { OnOk result (kind_of chain.new ≡ kind) }
-    ensures asked { OnOk result (WereAsked s.number (request_of step) (answer_of chain.new)
+    ensures asked { OnOk result (WereAsked s.number (request_of step.entry) (answer_of chain.new)
         (has_refused chain.new) (map B.meaning shelf.old) (map B.meaning shelf.new)) }
     ensures end { OnOk result (HaveAllAnswered chain.new attached.bits
         ⊎ IsStopped chain.new attached.bits) }
@@ -129,7 +134,8 @@ pub(crate) fn go_down<B: Backend>(
         let Some(b) = chain.next(attached) else {
             return Ok(());
         };
-        let answer = ask_at(shelf, b, s, step.request())?;
+        let request = step.request()?;
+        let answer = ask_at(shelf, b, s, request)?;
         let refused = is_refusal(&answer);
         chain.take_answer(b, answer, refused);
     }

@@ -1,14 +1,17 @@
 //! One statement, in a transaction of its own.
-ghost use Rattle.std.specs.Prelude.{◌≡◌, ◌<◌, ◌≤◌, ◌⊎◌, ◌==◌, ◌||◌, ℕ, Some, true, IfOk, OnOk, All, length, map};
+ghost use Rattle.std.specs.Prelude.{◌≡◌, ◌<◌, ◌≤◌, ◌⊎◌, ◌==◌, ◌||◌, ℕ, Some, None, true, IfOk, OnOk, All, length, map};
 ghost use Rattle.pool_base.specs.Sets.{has};
 ghost use Rattle.backend_trait.specs.Alone.{given_on, IsEffect, rows_after};
 ghost use Rattle.write_path.specs.Chains.{answer_of, HaveAllAnswered, IsStopped, holder_of};
-ghost use Rattle.session_core.specs.Statements.{AreReady, primary_rows};
+ghost use Rattle.session_core.specs.Statements.{AreReady, primary_rows, primary_tables};
+ghost use Rattle.backend_trait.specs.Runnable.{IsRunnable, is_of_run};
+ghost use Rattle.classifier.specs.Classes.{lock_of};
 ghost use Rattle.session_core.specs.Chains.{AreFirst};
 ghost use Rattle.session_core.specs.Steps.{last_step, reach_of};
 
 use crate::ask::{Step, go_down, is_refusal};
 use backend_trait::{Answer, Backend, Checked};
+use classifier::{Class, class_of};
 use pool_base::{BackendId, BackendSet, NoMemory, SessionId};
 use write_path::{Chain, ChainKind, Judged};
 
@@ -21,11 +24,14 @@ pub fn run_statement<B: Backend>(
     chain: &mut Chain<Answer>,
     shelf: &mut [B],
     s: SessionId,
-    statement: Checked,
+    statement: &Checked,
 ) -> Result<Answer, NoMemory>
     requires some { 0 < length shelf.old }
     requires few { length shelf.old ≤ 8 }
-    requires ready { AreReady (primary_rows (map B.meaning shelf.old)) (map B.meaning shelf.old) }
+    requires ready { AreReady (primary_tables (map B.meaning shelf.old))
+        (primary_rows (map B.meaning shelf.old)) (map B.meaning shelf.old) }
+    requires runnable { IsRunnable (primary_tables (map B.meaning shelf.old)) statement.now }
+    requires draws_none { lock_of statement.now.body ≡ None }
     requires honest { All (λ b. B.is_honest b ≡ true) shelf.old }
     requires prompt { All (λ b. B.is_prompt b ≡ true) shelf.old }
     requires steady { All (λ b. B.is_steady b ≡ true) shelf.old }
@@ -37,11 +43,15 @@ pub fn run_statement<B: Backend>(
     // The answer is the statement's effect on the primary's rows, and each backend has the rows
     // after.
     ensures answer { IfOk result
-        (λ answer. IsEffect (given_on (primary_rows (map B.meaning shelf.old)) statement) answer) }
-    ensures ready { OnOk result (AreReady (rows_after (primary_rows (map B.meaning shelf.old))
-        statement) (map B.meaning shelf.new)) }
-    ensures rest { OnOk result (AreReady (primary_rows (map B.meaning shelf.new)) (map B.meaning
-        shelf.new)) }
+        (λ answer. IsEffect (given_on (primary_tables (map B.meaning shelf.old))
+        (primary_rows (map B.meaning shelf.old)) statement.now) answer) }
+    // It has the form of the statement's answers.
+    ensures form { IfOk result (λ answer. is_of_run statement.now answer ≡ true) }
+    ensures ready { OnOk result (AreReady (primary_tables (map B.meaning shelf.old))
+        (rows_after (primary_tables (map B.meaning shelf.old))
+        (primary_rows (map B.meaning shelf.old)) statement.now) (map B.meaning shelf.new)) }
+    ensures rest { OnOk result (AreReady (primary_tables (map B.meaning shelf.old))
+        (primary_rows (map B.meaning shelf.new)) (map B.meaning shelf.new)) }
 {
     let attached = first(shelf.len());
     go_down(chain, ChainKind::All, shelf, attached, s, Step::Begin)?;
@@ -55,20 +65,20 @@ pub fn run_statement<B: Backend>(
 }
 
 /// How many backends run the statement: a read runs at the primary alone.
-fn reach(statement: Checked, count: usize) -> usize
+fn reach(statement: &Checked, count: usize) -> usize
     requires { 0 < count }
-    ensures reach { result ≡ reach_of statement count }
+    ensures reach { result ≡ reach_of statement.now count }
     ensures some { 0 < result }
     ensures within { result ≤ count }
 {
-    match statement {
-        Checked::Insert { .. } => count,
-        Checked::Select { .. } => 1,
+    match class_of(statement) {
+        Class::Read => 1,
+        Class::LockingRead | Class::Write | Class::SerialInsert => count,
     }
 }
 
 /// How a transaction ends after this answer.
-fn last_step(answer: &Answer) -> Step
+fn last_step(answer: &Answer) -> Step<'static>
     ensures { result ≡ last_step answer.now }
 {
     if is_refusal(answer) {

@@ -20,10 +20,10 @@ use Rattle.session_engine.specs.declared.due.Due.{Due}
 use Rattle.session_engine.specs.declared.due.Due.TheVariants.{Resting, EnterDue, LookDue, PostDue, Waiting, LostDue, SplitDue, ChooseDue, ShowDue, LeaveSnapshotDue, UnwindDue, EnterCommitDue, LeaveCommitDue, FinishDue, ReplyDue, RowsDue, EndDue}
 use Rattle.session_engine.specs.Dues.{point_of, IsPosting, IsWaiting}
 use Rattle.session_engine.specs.Handing.{handed, gate_event, IsPost}
-use Rattle.session_engine.specs.Sound.{are_plain, IsSound, IsSplit, splits_select}
+use Rattle.session_engine.specs.Sound.{IsSound, wants_memory, WantsCopies}
 use Rattle.session_engine.proofs.Ones.{few}
 use Rattle.session_engine.proofs.Soundness.{called_sound, detached_sound}
-use Rattle.session_engine.proofs.Events.{handed_too, select_splits}
+use Rattle.session_engine.proofs.Events.{handed_too, copies_wanted}
 
 -- Where each event leads, by its rule.
 
@@ -132,20 +132,21 @@ handed_or_kept (Ok action) m n given kept sound = led (handed m) n given (handed
 handed_or_kept (Err e) m n given kept sound = led m n kept sound
 
 -- what is whole wants no memory
-pub not_split : {E : Type 0} (r : Result Action E) (m n : Machine) → m ≡ n → IfErr r (λ _. IsSplit m.point) → (IsSplit n.point → ⊥) → IfErr r (λ _. ⊥)
-not_split (Ok action) m n is split whole = tt
-not_split (Err e) m n is split whole = whole (subst (λ (x : Machine). IsSplit x.point) is split)
+pub not_wanted : {E : Type 0} (r : Result Action E) (m n : Machine) → m ≡ n → IfErr r (λ _. WantsCopies m.session.heard m.point) → (WantsCopies n.session.heard n.point → ⊥) → IfErr r (λ _. ⊥)
+not_wanted (Ok action) m n is wants whole = tt
+not_wanted (Err e) m n is wants whole = whole (subst (λ (x : Machine). WantsCopies x.session.heard x.point) is wants)
 
-pub handed_out : {E : Type 0} (r : Result Action E) (m n : Machine) → m ≡ n → IfErr r (λ _. ⊥) → IfOk r (λ action. action ≡ next_action m) → r ≡ Ok (next_action n)
-handed_out (Ok action) m n is none given = ap (λ (x : Action). Ok x) (given ∙ ap next_action is)
-handed_out (Err e) m n is none given = absurd none
+-- where none was wanted, nothing has to be shown of want of memory
+pub none_kept : {A E : Type 0} (r : Result A E) (P : Type 0) → IfErr r (λ _. ⊥) → OnErr r P
+none_kept (Ok x) P none = tt
+none_kept (Err e) P none = absurd none
 
-pub handed_on : {E : Type 0} (r : Result Action E) (m n new : Machine) → m ≡ n → IfErr r (λ _. ⊥) → OnOk r (new ≡ handed m) → new ≡ handed n
-handed_on (Ok action) m n new is none given = given ∙ ap handed is
-handed_on (Err e) m n new is none given = absurd none
+pub none_wanted : {A E : Type 0} (r : Result A E) (P : Type 0) → IfErr r (λ _. ⊥) → IfErr r (λ _. P)
+none_wanted (Ok x) P none = tt
+none_wanted (Err e) P none = absurd none
 
--- memory is wanted where answers to a SELECT differ
-pub wanted : {E : Type 0} (r : Result Action E) (m : Machine) → ∥ IsSound m ∥₁ → IfErr r (λ _. IsSplit m.point) → IfErr r (λ _. are_plain m.session.heard ≡ false)
-    → IfErr r (λ _. splits_select m.point ≡ true)
-wanted (Ok action) m sound split rows = tt
-wanted (Err e) m sound split rows = ∥∥₁_elim sound (Bool-set _ _) (λ is. select_splits m.session m.point is split rows)
+-- memory is wanted where a statement is posted, and where answers to a SELECT differ
+pub wanted : {E : Type 0} (r : Result Action E) (m : Machine) → ∥ IsSound m ∥₁ → IfErr r (λ _. WantsCopies m.session.heard m.point)
+    → IfErr r (λ _. wants_memory m.point ≡ true)
+wanted (Ok action) m sound wants = tt
+wanted (Err e) m sound wants = ∥∥₁_elim sound (Bool-set _ _) (λ is. copies_wanted m.session m.point is wants)

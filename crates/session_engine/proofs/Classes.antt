@@ -1,13 +1,14 @@
 -- Every event that may happen leads from a statement with its own class to one with its own.
-use Rattle.std.proofs.Common.{◌≡◌, ◌+◌, ℕ, ℤ, Bool, true, false, List, [], ◌∷◌, Some, None, Result, Ok, Err, OnOk, OnErr, refl, sym, subst}
+use Rattle.std.proofs.Common.{◌≡◌, ◌+◌, ◌==◌, ℕ, ℤ, Bool, true, false, List, [], ◌∷◌, Some, None, Result, Ok, Err, OnOk, OnErr, refl, sym, subst}
 use Rattle.std.specs.Prelude.{Option, not, ◌&&◌, if◌then◌else◌}
 use Rattle.pool_base.specs.declared.code.Code.{Code}
 use Rattle.pool_base.specs.declared.backend_id.BackendId.{BackendId}
 use Rattle.pool_base.specs.declared.backend_set.BackendSet.{BackendSet}
 use Rattle.pool_base.specs.declared.gate_call.GateAnswer.{GateAnswer}
 use Rattle.pool_base.specs.declared.gate_call.GateAnswer.TheVariants.{Seen, Granted, Held, Spent}
-use Rattle.backend_trait.specs.declared.checked.Checked.{Checked}
-use Rattle.backend_trait.specs.declared.checked.Checked.TheVariants.{Insert, Select}
+use Rattle.catalogue.specs.declared.checked.CheckedBody.{CheckedBody}
+use Rattle.catalogue.specs.declared.checked.CheckedBody.TheVariants as body
+use Rattle.classifier.specs.Classes.{has_serial, tables_mask}
 use Rattle.backend_trait.specs.declared.request.Request.TheVariants as requests
 use Rattle.backend_trait.specs.declared.answer.Answer.{Answer}
 use Rattle.backend_trait.specs.declared.answer.Answer.TheVariants as answers
@@ -37,11 +38,12 @@ use Rattle.session_machine.specs.declared.machine.Session.{Session}
 use Rattle.session_machine.specs.declared.machine.Machine.{Machine}
 use Rattle.session_machine.specs.Codes.{moment_out_of_range, counts_spent, no_backend}
 use Rattle.session_machine.specs.Answers.{next_of, kept, first_other, goes_on, counts, reader}
-use Rattle.session_machine.specs.Classes.{may_be, is_classed}
+use Rattle.session_machine.specs.Classes.{class_in, same_class, is_classed}
 use Rattle.session_machine.specs.Allowed.{is_resting, fits_at_rest, may_order}
-use Rattle.session_machine.specs.Rules.{due, primary, ended, released, begun, begun_at, begun_behind, failing, refused_at, refused, stranded, stranded_in, started_as, is_moment, rewritten, entering, stated, stated_at, moment_at, block_begun, idle, committing, block_committed, rolled_back, block_rolled_back, settled, leaving, left_in, left_lost, left, ordered, error_of, done_with, refusal_of, ran, opened, locked, closed, decided, split, judged, asked, reading_at, chosen, read, looked, looked_at, ticket_of, counted_read, first_chosen, shown, snapshot_entered, snapshot_left, commit_entered, in_phase, with_view, granted, called, stage_posted, posted, taken, faulted, lost_one, parted, parted_at, detached, after, after_at}
+use Rattle.session_machine.specs.Rules.{due, primary, ended, released, begun, begun_at, begun_behind, failing, refused_at, refused, stranded, stranded_in, started_as, is_moment, work_at, rewritten, entering, stated, stated_at, moment_at, block_begun, idle, committing, block_committed, rolled_back, block_rolled_back, settled, leaving, left_in, left_lost, left, ordered, error_of, done_with, refusal_of, ran, opened, locked, closed, decided, split, judged, asked, reading_at, chosen, read, looked, looked_at, ticket_of, counted_read, first_chosen, shown, snapshot_entered, snapshot_left, commit_entered, in_phase, with_view, granted, called, stage_posted, posted, taken, faulted, lost_one, parted, parted_at, detached, after, after_at}
 use Rattle.session_engine.specs.Handing.{handed_at, handed, gate_event}
-use Rattle.session_engine.specs.Sound.{is_select, is_classed_at, is_classed_in}
+use Rattle.session_engine.specs.Sound.{is_read, is_select, is_classed_at, is_classed_in}
+use Rattle.session_engine.proofs.AtMoment.{classed_at}
 
 abbrev Keeps : Machine → Type 0
 Keeps m = is_classed_in m.point ≡ true
@@ -88,16 +90,27 @@ stranded_in_keeps s Committing = refl
 stranded_in_keeps s Closing = stranded_keeps s
 stranded_in_keeps s (RollingBack ending) = released_keeps s s.gate ending
 
--- a statement that is ordered as a serial insert is no SELECT
-serial_inserts : (statement : Checked) (table tables : ℕ) → may_be statement (classes.SerialInsert table) tables ≡ true → not (is_select (requests.Run statement)) ≡ true
-serial_inserts (Insert key value) table tables own = refl
-serial_inserts (Select key) table tables own = absurd (cc)
+first_true : (t u : Bool) → (t && u) ≡ true → t ≡ true
+first_true true u e = refl
+first_true false u e = absurd (cc)
 
-started_as_keeps : (s : Session) (work : Work) (class : Class) → may_be work.statement class work.tables ≡ true → Keeps (started_as s work class)
+-- a statement that is ordered as a serial insert is no SELECT
+read_inserts : {X : Type 0} (locks : Bool) (table : ℕ) → same_class (if locks then classes.LockingRead else classes.Read) (classes.SerialInsert table) ≡ true → X
+read_inserts true table own = absurd (cc)
+read_inserts false table own = absurd (cc)
+
+serial_inserts : (b : CheckedBody) (table : ℕ) → same_class (class_in b) (classes.SerialInsert table) ≡ true → not (is_read b) ≡ true
+serial_inserts (body.Read read) table own = read_inserts read.for_update table own
+serial_inserts (body.Insert insert) table own = refl
+serial_inserts (body.Change change) table own = refl
+serial_inserts (body.Remove remove) table own = refl
+
+started_as_keeps : (s : Session) (work : Work) (class : Class) → (same_class (class_in work.statement.body) class && (tables_mask work.statement.body == work.tables)) ≡ true → Keeps (started_as s work class)
 started_as_keeps s work classes.Read own = refl
 started_as_keeps s work classes.LockingRead own = refl
 started_as_keeps s work (classes.Write verb) own = refl
-started_as_keeps s work (classes.SerialInsert table) own = serial_inserts work.statement table work.tables own
+started_as_keeps s work (classes.SerialInsert table) own =
+    serial_inserts work.statement.body table (first_true (same_class (class_in work.statement.body) (classes.SerialInsert table)) (tables_mask work.statement.body == work.tables) own)
 
 -- Orders.
 
@@ -113,7 +126,7 @@ stated_keeps s moment work true own = entering_keeps (record s { moment = moment
 
 stated_at_keeps : (s : Session) (moment : ℤ) (work : Work) → is_classed work ≡ true → Keeps (stated_at s moment work)
 unfolding stated_at
-stated_at_keeps s moment work own = stated_keeps s moment work (is_moment moment) own
+stated_at_keeps s moment work own = stated_keeps s moment (work_at moment work) (is_moment moment) (classed_at moment work own)
 
 block_begun_keeps : (s : Session) (moment : ℤ) (status : Status) → Keeps (block_begun s moment status)
 unfolding block_begun
@@ -196,10 +209,6 @@ left_keeps s (LeaveCommitDue ending) = refl
 left_keeps s (FinishDue ending) = refl
 left_keeps s (ReplyDue outcome) = leaving_keeps s s.gate
 left_keeps s EndDue = leaving_keeps s s.gate
-
-first_true : (t u : Bool) → (t && u) ≡ true → t ≡ true
-first_true true u e = refl
-first_true false u e = absurd (cc)
 
 pub ordered_keeps : (s : Session) (p : Point) (moment : ℤ) (body : OrderBody) → may_order s p body ≡ true → is_classed_in (ordered s p moment body).point ≡ true
 unfolding ordered

@@ -32,7 +32,7 @@ use Rattle.session_machine.specs.Allowed.{MayHappen, may_order, fits_at_rest, is
 use Rattle.session_machine.specs.Answers.{next_of, kept, first_other, goes_on}
 use Rattle.session_machine.specs.Classes.{is_classed}
 use Rattle.session_machine.specs.Rules.{due, action_at, primary, ended, decided, split, judged, asked, looked_at, commit_entered, with_view, in_phase, granted, called, stage_posted, posted, taken, faulted, lost_one, parted, parted_at, detached, after, after_at}
-use Rattle.session_engine.specs.Sound.{splits_select}
+use Rattle.session_engine.specs.Sound.{wants_memory}
 use Rattle.session_engine.specs.Committing.{IsOfCommit, IsCommitting, IsOver}
 
 -- under way, or over
@@ -379,11 +379,11 @@ entered_commits s call view = entered_at (in_phase (with_view s view) InCommit) 
 
 -- Nothing that is due wants memory.
 
-pub under_way_wants_nothing : (p : Point) → IsCommitting p → splits_select p ≡ false
+pub under_way_wants_nothing : (p : Point) → IsCommitting p → wants_memory p ≡ false
 under_way_wants_nothing Resting on = refl
 under_way_wants_nothing (EnterDue work) on = refl
 under_way_wants_nothing (LookDue stage) on = refl
-under_way_wants_nothing (PostDue stage c) on = refl
+under_way_wants_nothing (PostDue stage c) on = rw (is_commit stage on) refl
 under_way_wants_nothing (Waiting stage c) on = refl
 under_way_wants_nothing (LostDue stage c x y) on = refl
 under_way_wants_nothing (SplitDue stage best own among more) on = rw (is_commit stage on) refl
@@ -397,11 +397,11 @@ under_way_wants_nothing (FinishDue ending) on = refl
 under_way_wants_nothing (ReplyDue outcome) on = refl
 under_way_wants_nothing EndDue on = refl
 
-pub over_wants_nothing : (p : Point) → IsOver p → splits_select p ≡ false
+pub over_wants_nothing : (p : Point) → IsOver p → wants_memory p ≡ false
 over_wants_nothing Resting over = refl
 over_wants_nothing (EnterDue work) over = refl
 over_wants_nothing (LookDue stage) over = refl
-over_wants_nothing (PostDue stage c) over = refl
+over_wants_nothing (PostDue stage c) over = absurd over
 over_wants_nothing (Waiting stage c) over = refl
 over_wants_nothing (LostDue stage c x y) over = refl
 over_wants_nothing (SplitDue stage best own among more) over = absurd over

@@ -3,10 +3,14 @@ use Rattle.std.proofs.Common.{◌≡◌, ℕ, Bool, true, false, List, ◌∷◌
 use Rattle.pool_base.specs.declared.backend_id.BackendId.{BackendId}
 use Rattle.pool_base.specs.declared.gate_call.GateAnswer.{GateAnswer}
 use Rattle.backend_trait.specs.Acts.{IsOf}
-use Rattle.backend_trait.specs.declared.checked.Checked.TheVariants.{Insert, Select}
+use Rattle.catalogue.specs.declared.checked.CheckedBody.{CheckedBody}
+use Rattle.catalogue.specs.declared.checked.CheckedBody.TheVariants as body
+use Rattle.catalogue.specs.declared.checked.ColumnDesc.{ColumnDesc}
+use Rattle.backend_trait.specs.Runnable.{is_given}
 use Rattle.backend_trait.specs.declared.request.Request.{Request}
 use Rattle.backend_trait.specs.declared.request.Request.TheVariants as requests
 use Rattle.backend_trait.specs.declared.answer.Answer.{Answer}
+use Rattle.backend_trait.specs.declared.answer.Answer.TheVariants as answers
 use Rattle.session_machine.specs.declared.action.Action.{Action}
 use Rattle.session_machine.specs.declared.action.Action.TheVariants as actions
 use Rattle.session_machine.specs.declared.machine.Heard.{Heard}
@@ -20,16 +24,26 @@ use Rattle.session_machine.specs.Allowed.{HasForm}
 use Rattle.session_machine.specs.Answers.{has_answered}
 use Rattle.session_machine.specs.Rules.{due, action_at, request_of, stage_posted, posted, taken, faulted}
 use Rattle.session_engine.specs.Handing.{handed_at, handed}
-use Rattle.session_engine.specs.Sound.{AreOne, is_plain, are_plain, is_select, ArePlain, IsSound, IsSplit, splits_select}
+use Rattle.session_engine.specs.Sound.{AreOne, is_plain, are_plain, is_read, is_select, ArePlain, IsSound, wants_memory, WantsCopies}
 use Rattle.session_engine.proofs.Ones.{one_more, plain_more}
 
 -- only a SELECT is answered by rows
+given_plain : (b : CheckedBody) (columns : List ColumnDesc) (answer : Answer) → is_read b ≡ false → is_given b columns answer ≡ true → is_plain answer ≡ true
+given_plain (body.Read read) columns answer none form = absurd (cc)
+given_plain b columns answers.Began none form = refl
+given_plain (body.Insert insert) columns (answers.Rows rows) none form = absurd (cc)
+given_plain (body.Change change) columns (answers.Rows rows) none form = absurd (cc)
+given_plain (body.Remove remove) columns (answers.Rows rows) none form = absurd (cc)
+given_plain b columns (answers.Count n) none form = refl
+given_plain b columns answers.Locked none form = refl
+given_plain b columns answers.Done none form = refl
+given_plain b columns (answers.Serial n) none form = refl
+given_plain b columns (answers.Refused code) none form = refl
+
 plain_of : (r : Request) (answer : Answer) → is_select r ≡ false → IsOf r answer → is_plain answer ≡ true
 plain_of requests.TakeSnapshot answer none (inl e) = rw e refl
 plain_of requests.TakeSnapshot answer none (inr p) = rw p.1 refl
-plain_of (requests.Run (Insert key value)) answer none (inl p) = rw p.1 refl
-plain_of (requests.Run (Insert key value)) answer none (inr p) = rw p.1 refl
-plain_of (requests.Run (Select key)) answer none form = absurd (cc)
+plain_of (requests.Run checked) answer none form = given_plain checked.body checked.columns answer none form
 plain_of (requests.Lock table) answer none (inl e) = rw e refl
 plain_of (requests.Lock table) answer none (inr p) = rw p.1 refl
 plain_of requests.Commit answer none e = rw e refl
@@ -130,23 +144,24 @@ of_select : (t u : Bool) → (t ≡ false → u ≡ true) → u ≡ false → t 
 of_select true u plain rows = refl
 of_select false u plain rows = absurd (let both : u ≡ true = plain refl in cc)
 
-pub select_splits : (s : Session) (p : Point) → IsSound (due s p) → IsSplit p → are_plain s.heard ≡ false → splits_select p ≡ true
-select_splits s (SplitDue stage best own among more) sound split rows = of_select (is_select (request_of stage)) (are_plain s.heard) sound.1.1 rows
-select_splits s Resting sound split rows = absurd split
-select_splits s (EnterDue work) sound split rows = absurd split
-select_splits s (LookDue stage) sound split rows = absurd split
-select_splits s (PostDue stage b) sound split rows = absurd split
-select_splits s (Waiting stage b) sound split rows = absurd split
-select_splits s (LostDue stage b before after) sound split rows = absurd split
-select_splits s (ChooseDue work) sound split rows = absurd split
-select_splits s ShowDue sound split rows = absurd split
-select_splits s (LeaveSnapshotDue work) sound split rows = absurd split
-select_splits s (UnwindDue ending) sound split rows = absurd split
-select_splits s EnterCommitDue sound split rows = absurd split
-select_splits s (LeaveCommitDue ending) sound split rows = absurd split
-select_splits s (FinishDue ending) sound split rows = absurd split
-select_splits s (ReplyDue outcome) sound split rows = absurd split
-select_splits s EndDue sound split rows = absurd split
+-- the copies that are wanted are of a statement that is posted, or of a SELECT's rows
+pub copies_wanted : (s : Session) (p : Point) → IsSound (due s p) → WantsCopies s.heard p → wants_memory p ≡ true
+copies_wanted s (PostDue stage b) sound wants = wants
+copies_wanted s (SplitDue stage best own among more) sound wants = of_select (is_select (request_of stage)) (are_plain s.heard) sound.1.1 wants
+copies_wanted s Resting sound wants = absurd wants
+copies_wanted s (EnterDue work) sound wants = absurd wants
+copies_wanted s (LookDue stage) sound wants = absurd wants
+copies_wanted s (Waiting stage b) sound wants = absurd wants
+copies_wanted s (LostDue stage b before after) sound wants = absurd wants
+copies_wanted s (ChooseDue work) sound wants = absurd wants
+copies_wanted s ShowDue sound wants = absurd wants
+copies_wanted s (LeaveSnapshotDue work) sound wants = absurd wants
+copies_wanted s (UnwindDue ending) sound wants = absurd wants
+copies_wanted s EnterCommitDue sound wants = absurd wants
+copies_wanted s (LeaveCommitDue ending) sound wants = absurd wants
+copies_wanted s (FinishDue ending) sound wants = absurd wants
+copies_wanted s (ReplyDue outcome) sound wants = absurd wants
+copies_wanted s EndDue sound wants = absurd wants
 
 -- What an event leads to, handed out or not.
 

@@ -8,3 +8,4 @@ pub mod Committing
 pub mod Giving
 pub mod Classes
 pub mod Tidying
+pub mod AtMoment

@@ -8,8 +8,6 @@ use Rattle.pool_base.specs.declared.backend_set.BackendSet.{BackendSet}
 use Rattle.pool_base.specs.declared.gate_call.GateAnswer.{GateAnswer}
 use Rattle.pool_base.specs.declared.gate_call.GateAnswer.TheVariants.{Seen, Granted, Held, Spent}
 use Rattle.backend_trait.specs.Acts.{IsOf}
-use Rattle.backend_trait.specs.declared.checked.Checked.{Checked}
-use Rattle.backend_trait.specs.declared.checked.Checked.TheVariants.{Insert, Select}
 use Rattle.backend_trait.specs.declared.request.Request.{Request}
 use Rattle.backend_trait.specs.declared.request.Request.TheVariants as requests
 use Rattle.backend_trait.specs.declared.answer.Answer.{Answer}

@@ -7,6 +7,6 @@ use Rattle.session_engine.specs.Meaning.{machine_of}
 abbrev pub machine_in : Core → Machine
 machine_in core = machine_of core.standing
 
--- its last call answered want of memory
-abbrev pub must_give_up : Core → Bool
-must_give_up core = core.must_give_up
+-- its last call answered want of memory, and what is due was not handed out
+abbrev pub is_short : Core → Bool
+is_short core = core.is_short

@@ -6,7 +6,7 @@ use Rattle.session_machine.specs.declared.outcome.Outcome.TheVariants as outcome
 use Rattle.session_machine.specs.declared.machine.Heard.{Heard}
 use Rattle.session_machine.specs.declared.machine.Point.{Point}
 use Rattle.session_machine.specs.declared.machine.Point.TheVariants as points
-use Rattle.backend_trait.specs.declared.row.Row.{Row}
+use Rattle.sql_eval.specs.declared.row.Row.{Row}
 use Rattle.session_engine.specs.declared.due.Due.{Due}
 use Rattle.session_engine.specs.declared.due.Due.TheVariants.{Resting, EnterDue, LookDue, PostDue, Waiting, LostDue, SplitDue, ChooseDue, ShowDue, LeaveSnapshotDue, UnwindDue, EnterCommitDue, LeaveCommitDue, FinishDue, ReplyDue, RowsDue, EndDue}
 use Rattle.session_engine.specs.Places.{heard_at, rows_in}

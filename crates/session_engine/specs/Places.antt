@@ -2,7 +2,7 @@
 use Rattle.std.specs.Prelude.{ℕ, List, [], Option, Some, None}
 use Rattle.std.specs.List.{slice_get}
 use lib.Dec.{lit<}
-use Rattle.backend_trait.specs.declared.row.Row.{Row}
+use Rattle.sql_eval.specs.declared.row.Row.{Row}
 use Rattle.backend_trait.specs.declared.answer.Answer.{Answer}
 use Rattle.backend_trait.specs.declared.answer.Answer.TheVariants as answers
 use Rattle.session_machine.specs.declared.machine.Heard.{Heard}

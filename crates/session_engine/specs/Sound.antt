@@ -1,7 +1,8 @@
 -- What holds wherever a session stands: each backend has answered its chain once at most, the one that is asked has not
 -- answered, rows stand only among the answers to a SELECT, and the statement under way has its own class.
 use Rattle.std.specs.Prelude.{◌≡◌, Bool, true, false, ◌&&◌, not, List, [], ◌∷◌, ⊤}
-use Rattle.backend_trait.specs.declared.checked.Checked.TheVariants.{Insert, Select}
+use Rattle.catalogue.specs.declared.checked.CheckedBody.{CheckedBody}
+use Rattle.catalogue.specs.declared.checked.CheckedBody.TheVariants as body
 use Rattle.backend_trait.specs.declared.request.Request.{Request}
 use Rattle.backend_trait.specs.declared.request.Request.TheVariants as requests
 use Rattle.backend_trait.specs.declared.answer.Answer.{Answer}
@@ -12,7 +13,9 @@ use Rattle.session_machine.specs.declared.machine.Stage.TheVariants.{Opening, Re
 use Rattle.session_machine.specs.declared.machine.Point.{Point}
 use Rattle.session_machine.specs.declared.machine.Point.TheVariants.{Resting, EnterDue, LookDue, PostDue, Waiting, LostDue, SplitDue, ChooseDue, ShowDue, LeaveSnapshotDue, UnwindDue, EnterCommitDue, LeaveCommitDue, FinishDue, ReplyDue, EndDue}
 use Rattle.session_machine.specs.declared.machine.Machine.{Machine}
-use Rattle.session_machine.specs.Rules.{request_of}
+use Rattle.session_machine.specs.declared.order.OrderBody.{OrderBody}
+use Rattle.session_machine.specs.declared.order.OrderBody.TheVariants as orders
+use Rattle.session_machine.specs.Rules.{request_of, is_run}
 use Rattle.session_machine.specs.Classes.{is_classed}
 use Rattle.session_machine.specs.Answers.{has_answered}
 
@@ -54,10 +57,15 @@ abbrev pub are_plain : List Heard → Bool
 are_plain [] = true
 are_plain (h ∷ hs) = is_plain h.answer && are_plain hs
 
+abbrev pub is_read : CheckedBody → Bool
+is_read (body.Read read) = true
+is_read (body.Insert insert) = false
+is_read (body.Change change) = false
+is_read (body.Remove remove) = false
+
 abbrev pub is_select : Request → Bool
 is_select requests.TakeSnapshot = false
-is_select (requests.Run (Insert key value)) = false
-is_select (requests.Run (Select key)) = true
+is_select (requests.Run checked) = is_read checked.body
 is_select (requests.Lock table) = false
 is_select requests.Commit = false
 is_select requests.Rollback = false
@@ -89,42 +97,52 @@ FitsStage heard EndDue = ⊤
 abbrev pub IsSound : Machine → Type 0
 IsSound m = AreOne m.session.heard × (IsFresh m.session.heard m.point × FitsStage m.session.heard m.point)
 
--- answers to a SELECT differ: the copies of their rows want memory
-abbrev pub splits_select : Point → Bool
-splits_select Resting = false
-splits_select (EnterDue work) = false
-splits_select (LookDue stage) = false
-splits_select (PostDue stage b) = false
-splits_select (Waiting stage b) = false
-splits_select (LostDue stage b before after) = false
-splits_select (SplitDue stage best own among more) = is_select (request_of stage)
-splits_select (ChooseDue work) = false
-splits_select ShowDue = false
-splits_select (LeaveSnapshotDue work) = false
-splits_select (UnwindDue ending) = false
-splits_select EnterCommitDue = false
-splits_select (LeaveCommitDue ending) = false
-splits_select (FinishDue ending) = false
-splits_select (ReplyDue outcome) = false
-splits_select EndDue = false
+-- what is due there wants memory: the copy of a statement that is posted, and the copies of the rows of a SELECT that differ
+abbrev pub wants_memory : Point → Bool
+wants_memory Resting = false
+wants_memory (EnterDue work) = false
+wants_memory (LookDue stage) = false
+wants_memory (PostDue stage b) = is_run (request_of stage)
+wants_memory (Waiting stage b) = false
+wants_memory (LostDue stage b before after) = false
+wants_memory (SplitDue stage best own among more) = is_select (request_of stage)
+wants_memory (ChooseDue work) = false
+wants_memory ShowDue = false
+wants_memory (LeaveSnapshotDue work) = false
+wants_memory (UnwindDue ending) = false
+wants_memory EnterCommitDue = false
+wants_memory (LeaveCommitDue ending) = false
+wants_memory (FinishDue ending) = false
+wants_memory (ReplyDue outcome) = false
+wants_memory EndDue = false
 
-abbrev pub IsSplit : Point → Type 0
-IsSplit Resting = ⊥
-IsSplit (EnterDue work) = ⊥
-IsSplit (LookDue stage) = ⊥
-IsSplit (PostDue stage b) = ⊥
-IsSplit (Waiting stage b) = ⊥
-IsSplit (LostDue stage b before after) = ⊥
-IsSplit (SplitDue stage best own among more) = ⊤
-IsSplit (ChooseDue work) = ⊥
-IsSplit ShowDue = ⊥
-IsSplit (LeaveSnapshotDue work) = ⊥
-IsSplit (UnwindDue ending) = ⊥
-IsSplit EnterCommitDue = ⊥
-IsSplit (LeaveCommitDue ending) = ⊥
-IsSplit (FinishDue ending) = ⊥
-IsSplit (ReplyDue outcome) = ⊥
-IsSplit EndDue = ⊥
+-- a call that hands out wants memory for the copy of a statement, and for copies where rows stand among the answers that differ
+abbrev pub WantsCopies : List Heard → Point → Type 0
+WantsCopies heard Resting = ⊥
+WantsCopies heard (EnterDue work) = ⊥
+WantsCopies heard (LookDue stage) = ⊥
+WantsCopies heard (PostDue stage b) = is_run (request_of stage) ≡ true
+WantsCopies heard (Waiting stage b) = ⊥
+WantsCopies heard (LostDue stage b before after) = ⊥
+WantsCopies heard (SplitDue stage best own among more) = are_plain heard ≡ false
+WantsCopies heard (ChooseDue work) = ⊥
+WantsCopies heard ShowDue = ⊥
+WantsCopies heard (LeaveSnapshotDue work) = ⊥
+WantsCopies heard (UnwindDue ending) = ⊥
+WantsCopies heard EnterCommitDue = ⊥
+WantsCopies heard (LeaveCommitDue ending) = ⊥
+WantsCopies heard (FinishDue ending) = ⊥
+WantsCopies heard (ReplyDue outcome) = ⊥
+WantsCopies heard EndDue = ⊥
+
+-- a serial insert is under way from its first post on, and has to go on
+abbrev pub is_serial_posted : Point → Bool
+is_serial_posted (PostDue (Inserting work posted) b) = posted
+is_serial_posted point = false
+
+abbrev pub is_statement : OrderBody → Bool
+is_statement (orders.Statement work) = true
+is_statement order = false
 
 -- The statement under way was ordered with its own class: so that of a serial insert is no SELECT.
 

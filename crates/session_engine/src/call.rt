@@ -31,7 +31,10 @@ impl Standing {
         ensures { machine_of self.new ≡ first_chosen (session_of self.old) work primary }
     {
         match primary {
-            None => self.strand(),
+            None => {
+                drop(work);
+                self.strand();
+            }
             Some(_) => {
                 let ticket = self.ticket();
                 self.reads = self.reads.wrapping_add(1);
@@ -53,7 +56,10 @@ impl Standing {
         ensures { machine_of self.new ≡ snapshot_entered (session_of self.old) work primary }
     {
         match primary {
-            None => self.strand(),
+            None => {
+                drop(work);
+                self.strand();
+            }
             Some(_) => self.begin(Stage::Opening(work)),
         }
     }
@@ -62,7 +68,10 @@ impl Standing {
         ensures { machine_of self.new ≡ snapshot_left (session_of self.old) work primary }
     {
         match primary {
-            None => self.strand(),
+            None => {
+                drop(work);
+                self.strand();
+            }
             Some(_) => self.start(work),
         }
     }

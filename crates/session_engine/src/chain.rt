@@ -63,6 +63,7 @@ impl Standing {
         match refusal {
             None => self.owe(Due::LeaveSnapshotDue(work)),
             Some(code) => {
+                drop(work);
                 let outcome = self.error_of(code);
                 self.refuse(behind, outcome);
             }
@@ -76,6 +77,7 @@ impl Standing {
         match refusal {
             None => self.begin_behind(behind, Stage::Inserting(work, false)),
             Some(code) => {
+                drop(work);
                 let outcome = self.error_of(code);
                 self.refuse(behind, outcome);
             }
@@ -188,7 +190,10 @@ impl Standing {
         ensures { machine_of self.new ≡ reading_at (session_of self.old) work ticket reader }
     {
         match reader {
-            None => self.strand(),
+            None => {
+                drop(work);
+                self.strand();
+            }
             Some(b) => {
                 self.answers.clear();
                 self.owe(Due::PostDue(Stage::Reading(work, ticket), b));

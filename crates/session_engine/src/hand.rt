@@ -57,7 +57,7 @@ impl Standing {
     ghost use Rattle.session_machine.specs.Rules.{next_action};
     ghost use Rattle.session_engine.specs.Dues.{rows_reply, IsOnce, IsStanding, IsLeaving};
     ghost use Rattle.session_engine.specs.Handing.{handed};
-    ghost use Rattle.session_engine.specs.Sound.{IsSplit};
+    ghost use Rattle.session_engine.specs.Sound.{WantsCopies};
 
     /// The reply is handed out, and the session is at rest.
     fn reply(&mut self, outcome: Outcome) -> Action
@@ -154,11 +154,11 @@ impl Standing {
         requires { IsStanding self.now.due }
         ensures action { IfOk result (λ action. action ≡ next_action (machine_of self.now)) }
         ensures stays { OnOk result (machine_of self.now ≡ handed (machine_of self.now)) }
-        ensures split { IfErr result (λ _. IsSplit (machine_of self.now).point) }
-        ensures want { IfErr result (λ _. are_plain (heard_in self.now) ≡ false) }
+        ensures want { IfErr result (λ _. WantsCopies (heard_in self.now)
+            (machine_of self.now).point) }
     {
         match &self.due {
-            Due::PostDue(stage, b) => Ok(Action::Post(*b, request_of(stage))),
+            Due::PostDue(stage, b) => Ok(Action::Post(*b, request_of(stage)?)),
             Due::Waiting(_, b) => Ok(Action::WaitFor(*b)),
             Due::LostDue(_, b, before, after) => Ok(Action::Detach {
                 b: *b,
@@ -189,8 +189,8 @@ impl Standing {
         ensures action { IfOk result (λ action. action ≡ next_action (machine_of self.old)) }
         ensures ok { OnOk result (machine_of self.new ≡ handed (machine_of self.old)) }
         ensures err { OnErr result (machine_of self.new ≡ machine_of self.old) }
-        ensures split { IfErr result (λ _. IsSplit (machine_of self.old).point) }
-        ensures want { IfErr result (λ _. are_plain (heard_in self.old) ≡ false) }
+        ensures want { IfErr result (λ _. WantsCopies (heard_in self.old)
+            (machine_of self.old).point) }
     {
         if self.is_once() {
             return Ok(self.hand_over());

@@ -13,7 +13,7 @@ ghost use Rattle.session_machine.specs.declared.outcome.Outcome.{Outcome};
 ghost use Rattle.session_machine.specs.declared.status.Status.{Status};
 ghost use Rattle.session_machine.specs.Allowed.{MayHappen};
 ghost use Rattle.session_machine.specs.Rules.{due, after, next_action};
-ghost use Rattle.session_engine.specs.Sound.{splits_select};
+ghost use Rattle.session_engine.specs.Sound.{wants_memory};
 ghost use Rattle.session_engine.specs.Handing.{handed};
 ghost use Rattle.session_engine.specs.Tidying.{tidied, after_all};
 ghost use Rattle.session_engine.specs.Committing.{IsCommitting, IsOver};
@@ -26,8 +26,8 @@ pub fn commit_wants_nothing()
     ensures goes_on { (m : Machine) → (event : SessionEvent) → IsCommitting m.point
         → MayHappen m event
         → (IsCommitting (after m event).point ⊎ IsOver (after m event).point) }
-    ensures under_way { (point : Point) → IsCommitting point → splits_select point ≡ false }
-    ensures over { (point : Point) → IsOver point → splits_select point ≡ false }
+    ensures under_way { (point : Point) → IsCommitting point → wants_memory point ≡ false }
+    ensures over { (point : Point) → IsOver point → wants_memory point ≡ false }
 {}
 
 /// A reply that is handed out has been given, but for the answers behind it, which nothing reads: a

@@ -1,14 +1,15 @@
 //! Where an order leads.
-ghost use Rattle.std.specs.Prelude.{◌≡◌};
+ghost use Rattle.std.specs.Prelude.{◌≡◌, true, IfErr, OnOk, OnErr};
 ghost use Rattle.session_engine.specs.Meaning.{heard_in, session_of, machine_of};
 ghost use Rattle.session_engine.specs.Dues.{point_of, IsLeaving};
+ghost use Rattle.session_engine.specs.Sound.{is_statement};
 
 use crate::due::Due;
 use crate::standing::Standing;
-use pool_base::BackendId;
+use pool_base::{BackendId, NoMemory};
 use session_machine::{
     Ending, GatePhase, Order, OrderBody, Outcome, Stage, Status, Tag, Work, done_with, in_a_block,
-    is_moment, moment_out_of_range, outside_a_block,
+    moment_out_of_range, outside_a_block, rewritten,
 };
 use std::mem;
 
@@ -42,15 +43,22 @@ impl Standing {
 
     /// A statement, with the moment of its transaction.
     #[tactic(auto, unfolding(session_machine::specs::Rules::stated_at))]
-    fn state_at(&mut self, moment: i64, work: Work)
-        ensures { machine_of self.new ≡ stated_at (session_of self.old) moment work }
+    fn state_at(&mut self, moment: i64, work: Work) -> Result<(), NoMemory>
+        ensures stated { OnOk result (machine_of self.new
+            ≡ stated_at (session_of self.old) moment work) }
+        ensures as_before { OnErr result (machine_of self.new ≡ machine_of self.old) }
     {
-        if !is_moment(moment) {
-            let outcome = self.error_of(moment_out_of_range());
-            return self.refuse(false, outcome);
+        match rewritten(moment, work)? {
+            None => {
+                let outcome = self.error_of(moment_out_of_range());
+                self.refuse(false, outcome);
+            }
+            Some(work) => {
+                self.moment = moment;
+                self.enter(work);
+            }
         }
-        self.moment = moment;
-        self.enter(work);
+        Ok(())
     }
 
     #[tactic(auto, unfolding(session_machine::specs::Rules::block_begun))]
@@ -216,10 +224,19 @@ impl Standing {
             | Due::Waiting(stage, _)
             | Due::SplitDue { stage, .. } => self.leave_in(stage),
             Due::LostDue(stage, b, before, after) => self.leave_lost(stage, b, before, after),
-            Due::UnwindDue(_) => self.owe(Due::UnwindDue(Ending::Leaves)),
-            Due::LeaveCommitDue(_) => self.owe(Due::LeaveCommitDue(Ending::Leaves)),
-            Due::FinishDue(_) => self.owe(Due::FinishDue(Ending::Leaves)),
-            Due::Resting
+            Due::UnwindDue(ending) => {
+                drop(ending);
+                self.owe(Due::UnwindDue(Ending::Leaves));
+            }
+            Due::LeaveCommitDue(ending) => {
+                drop(ending);
+                self.owe(Due::LeaveCommitDue(Ending::Leaves));
+            }
+            Due::FinishDue(ending) => {
+                drop(ending);
+                self.owe(Due::FinishDue(Ending::Leaves));
+            }
+            rest @ (Due::Resting
             | Due::EnterDue(_)
             | Due::ChooseDue(_)
             | Due::ShowDue
@@ -227,7 +244,10 @@ impl Standing {
             | Due::EnterCommitDue
             | Due::ReplyDue(_)
             | Due::RowsDue(_)
-            | Due::EndDue => self.leave(),
+            | Due::EndDue) => {
+                drop(rest);
+                self.leave();
+            }
         }
     }
 
@@ -243,15 +263,17 @@ impl Standing {
 
     /// An order.
     #[tactic(auto, unfolding(session_machine::specs::Rules::ordered))]
-    pub(crate) fn ordered(&mut self, order: Order)
-        ensures { machine_of self.new ≡ ordered (session_of self.old)
-            (point_of (heard_in self.old) self.old.due) order.moment order.body }
+    pub(crate) fn ordered(&mut self, order: Order) -> Result<(), NoMemory>
+        ensures led { OnOk result (machine_of self.new ≡ ordered (session_of self.old)
+            (point_of (heard_in self.old) self.old.due) order.moment order.body) }
+        ensures as_before { OnErr result (machine_of self.new ≡ machine_of self.old) }
+        ensures want { IfErr result (λ _. is_statement order.body ≡ true) }
     {
         let Order { moment, body } = order;
         match body {
             OrderBody::Statement(work) => {
                 let moment = self.moment_at(moment);
-                self.state_at(moment, work);
+                self.state_at(moment, work)?;
             }
             OrderBody::Begin => self.begin_block(moment),
             OrderBody::Commit => self.commit_block(),
@@ -262,5 +284,6 @@ impl Standing {
             OrderBody::Refuse { code, name } => self.refuse(false, Outcome::Error { code, name }),
             OrderBody::Leave => self.left(),
         }
+        Ok(())
     }
 }

@@ -1,3 +1,7 @@
 pub mod Backends
+pub mod Bits
 pub mod SameCode
 pub mod Turns
+pub mod Trees
+pub mod Statements
+pub mod Same

@@ -4,11 +4,7 @@ use Rattle.pool_base.specs.declared.backend_id.BackendId.{BackendId}
 use Rattle.pool_base.specs.declared.gate_call.GateCall.{GateCall}
 use Rattle.pool_base.specs.declared.gate_call.GateCall.TheVariants as calls
 use Rattle.pool_base.specs.contracts.gate_call.GateCallPartialEq.TheImpl as call_eq
-use Rattle.pg_values.specs.declared.value.Value.{Value}
-use Rattle.pg_values.specs.declared.value.Value.TheVariants as values
-use Rattle.backend_trait.specs.declared.row.Row.{Row}
-use Rattle.backend_trait.specs.declared.checked.Checked.{Checked}
-use Rattle.backend_trait.specs.declared.checked.Checked.TheVariants.{Insert, Select}
+use Rattle.backend_trait.specs.Runnable.{is_of_run}
 use Rattle.backend_trait.specs.declared.request.Request.{Request}
 use Rattle.backend_trait.specs.contracts.request.RequestPartialEq.TheImpl as request_eq
 use Rattle.backend_trait.specs.declared.answer.Answer.{Answer}
@@ -90,40 +86,6 @@ is_end_due EndDue = true
 is_end_due point = false
 
 -- the form of an answer
-abbrev pub is_int4 : Value → Bool
-is_int4 values.Null = true
-is_int4 (values.Int4 n) = true
-is_int4 value = false
-
-abbrev pub is_int8 : Value → Bool
-is_int8 values.Null = true
-is_int8 (values.Int8 n) = true
-is_int8 value = false
-
-abbrev pub has_columns : List Value → Bool
-has_columns (id ∷ v ∷ []) = is_int4 id && is_int8 v
-has_columns cells = false
-
-abbrev pub have_columns : List Row → Bool
-have_columns [] = true
-have_columns (row ∷ rows) = has_columns row.cells && have_columns rows
-
-abbrev pub is_of_run : Checked → Answer → Bool
-is_of_run (Insert key value) answers.Began = false
-is_of_run (Insert key value) (answers.Rows rows) = false
-is_of_run (Insert key value) (answers.Count n) = true
-is_of_run (Insert key value) answers.Locked = false
-is_of_run (Insert key value) answers.Done = false
-is_of_run (Insert key value) (answers.Serial n) = false
-is_of_run (Insert key value) (answers.Refused code) = true
-is_of_run (Select key) answers.Began = false
-is_of_run (Select key) (answers.Rows rows) = have_columns rows
-is_of_run (Select key) (answers.Count n) = false
-is_of_run (Select key) answers.Locked = false
-is_of_run (Select key) answers.Done = false
-is_of_run (Select key) (answers.Serial n) = false
-is_of_run (Select key) (answers.Refused code) = true
-
 abbrev pub is_of_opening : Answer → Bool
 is_of_opening answers.Began = true
 is_of_opening (answers.Rows rows) = false

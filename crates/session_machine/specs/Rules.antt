@@ -9,7 +9,7 @@ use Rattle.pool_base.specs.declared.gate_call.GateCall.{GateCall}
 use Rattle.pool_base.specs.declared.gate_call.GateCall.TheVariants as calls
 use Rattle.pool_base.specs.declared.gate_call.GateAnswer.{GateAnswer}
 use Rattle.pool_base.specs.declared.gate_call.GateAnswer.TheVariants.{Seen, Granted, Held, Spent}
-use Rattle.backend_trait.specs.declared.checked.Checked.{Checked}
+use Rattle.time_rewrite.specs.Rewriting.{at_moment}
 use Rattle.backend_trait.specs.declared.request.Request.{Request}
 use Rattle.backend_trait.specs.declared.request.Request.TheVariants as requests
 use Rattle.backend_trait.specs.declared.answer.Answer.{Answer}
@@ -85,6 +85,16 @@ request_of (Inserting work posted) = requests.Run work.statement
 request_of Committing = requests.Commit
 request_of Closing = requests.Commit
 request_of (RollingBack ending) = requests.Rollback
+
+-- it runs a statement
+abbrev pub is_run : Request → Bool
+is_run requests.TakeSnapshot = false
+is_run (requests.Run checked) = true
+is_run (requests.Lock table) = false
+is_run requests.Commit = false
+is_run requests.Rollback = false
+is_run (requests.ReadSerial table) = false
+is_run (requests.SetSerial table n) = false
 
 -- a write, a locking read and a lock stop where the primary has refused; a serial insert draws at every backend
 abbrev pub kind_of : Stage → ChainKind
@@ -207,12 +217,16 @@ started_as session work (classes.SerialInsert table) = begun session (Locking wo
 abbrev pub started : Session → Work → Machine
 started session work = started_as session work work.class
 
--- a moment of the years 1 to 9999 can stand in place of a statement's time functions; today's statements have none
+-- a moment of the years 1 to 9999 can stand in place of a statement's time functions
 abbrev pub is_moment : ℤ → Bool
 is_moment moment = int_le (neg_ℤ (pos 63_082_281_600_000_000)) moment && int_le moment (pos 252_455_615_999_999_999)
 
+-- a statement at a moment
+abbrev pub work_at : ℤ → Work → Work
+work_at moment work = record { statement = at_moment moment work.statement; class = work.class; tables = work.tables }
+
 abbrev pub rewritten : ℤ → Work → Option Work
-rewritten moment work = if is_moment moment then Some work else None
+rewritten moment work = if is_moment moment then Some (work_at moment work) else None
 
 -- the moment of a transaction is that of its block, or of the first order of an implicit one
 abbrev pub moment_at : Status → GatePhase → ℤ → ℤ → ℤ

@@ -16,7 +16,7 @@ pub enum Cause {
 }
 
 /// What is due.
-#[derive(PartialEq, Eq, Drop)]
+#[derive(Drop)]
 pub enum Action {
     /// Nothing: an order may come.
     Rest,
@@ -30,7 +30,7 @@ pub enum Action {
 }
 
 /// What takes place at a session.
-#[derive(PartialEq, Eq, Drop)]
+#[derive(Drop)]
 pub enum SessionEvent {
     Ordered(Order),
     /// The gate's answer to a call. A call that is held and tried again is no event.

@@ -4,6 +4,7 @@
 
 mod action;
 mod answers;
+mod class;
 mod codes;
 mod machine;
 mod order;
@@ -15,12 +16,13 @@ pub use action::{Action, Cause, SessionEvent};
 pub use answers::{
     counts, first_other, goes_on, is_kept, is_other, is_refusal, kept, lowest, next_of, reader,
 };
+pub use class::{is_classed, work_copied, work_of};
 pub use codes::{counts_spent, in_a_block, moment_out_of_range, no_backend, outside_a_block};
 pub use machine::{Ending, GatePhase, Heard, Machine, Point, ReadPolicy, Session, Stage};
 pub use order::{Class, Order, OrderBody, Verb, Work};
 pub use outcome::{Outcome, Tag};
 pub use rules::{
-    commit_outcome, done_with, is_moment, phase_changed, refusal_of, request_of, stage_posted,
-    tables_of, tag_of,
+    asks, commit_outcome, done_with, is_moment, phase_changed, refusal_of, request_of, rewritten,
+    stage_posted, tables_of, tag_of,
 };
 pub use status::Status;

@@ -29,7 +29,7 @@ use std::alloc::{AllocError, Global};
 
 /// How the backend of a read is chosen: a weight for each backend by its number, whether reads are
 /// balanced, and whether each statement has its own ticket.
-#[derive(Clone, Copy, PartialEq, Eq)]
+#[derive(Clone, Copy)]
 pub struct ReadPolicy {
     pub weights: [u32; 8],
     pub balance: bool,
@@ -37,7 +37,7 @@ pub struct ReadPolicy {
 }
 
 /// Where the session stands at the gate, by its own granted calls.
-#[derive(Clone, Copy, PartialEq, Eq)]
+#[derive(Clone, Copy)]
 pub enum GatePhase {
     Out,
     /// LeaveSnapshot and then Finish are due at the end.
@@ -49,7 +49,7 @@ pub enum GatePhase {
 }
 
 /// What a backend has answered.
-#[derive(PartialEq, Eq, Drop)]
+#[derive(Drop)]
 pub struct Heard {
     pub b: BackendId,
     pub answer: Answer,
@@ -67,7 +67,7 @@ impl Clone for Heard {
 }
 
 /// What stands at the end of an order.
-#[derive(PartialEq, Eq, Drop)]
+#[derive(Drop)]
 pub enum Ending {
     Replies(Outcome),
     /// The session ends without a reply.
@@ -75,7 +75,7 @@ pub enum Ending {
 }
 
 /// One request that goes to the backends, and what it is for.
-#[derive(PartialEq, Eq, Drop)]
+#[derive(Drop)]
 pub enum Stage {
     /// The snapshots of a transaction that opens for this statement.
     Opening(Work),
@@ -94,7 +94,7 @@ pub enum Stage {
 }
 
 /// What is due.
-#[derive(PartialEq, Eq, Drop)]
+#[derive(Drop)]
 pub enum Point {
     Resting,
     EnterDue(Work),
@@ -121,7 +121,7 @@ pub enum Point {
 }
 
 /// What a session holds, whatever is due of it.
-#[derive(PartialEq, Eq, Drop)]
+#[derive(Drop)]
 pub struct Session {
     pub id: SessionId,
     pub policy: ReadPolicy,
@@ -138,7 +138,7 @@ pub struct Session {
 }
 
 /// The machine of one session.
-#[derive(PartialEq, Eq, Drop)]
+#[derive(Drop)]
 pub struct Machine {
     pub session: Session,
     pub point: Point,

@@ -24,7 +24,7 @@ pub enum Class {
 }
 
 /// A statement with its class, and the tables that it changes as the bits of a number.
-#[derive(Clone, Copy, PartialEq, Eq)]
+#[derive(Drop)]
 pub struct Work {
     pub statement: Checked,
     pub class: Class,
@@ -32,7 +32,7 @@ pub struct Work {
 }
 
 /// What is ordered.
-#[derive(PartialEq, Eq, Drop)]
+#[derive(Drop)]
 pub enum OrderBody {
     Statement(Work),
     Begin,
@@ -52,7 +52,7 @@ pub enum OrderBody {
 /// An order with its moment.
 ///
 /// Units: microseconds since 2000-01-01 00:00 UTC.
-#[derive(PartialEq, Eq, Drop)]
+#[derive(Drop)]
 pub struct Order {
     pub moment: i64,
     pub body: OrderBody,

@@ -1,28 +1,84 @@
 //! The small words of the rules.
-ghost use Rattle.std.specs.Prelude.{◌≡◌, ◌↔◌, IsTrue};
+ghost use Rattle.std.specs.Prelude.{◌≡◌, ◌↔◌, true, IfOk, IfErr, IsTrue};
 ghost use Rattle.pg_values.specs.Range.{IsMoment};
-ghost use Rattle.session_machine.specs.Rules.{request_of, tables_of, is_moment, done_with, tag_of, phase_changed, commit_outcome, stage_posted};
+ghost use Rattle.session_machine.specs.Deciding.{same_request};
+ghost use Rattle.session_machine.specs.Rules.{request_of, is_run, rewritten, work_at, tables_of, is_moment, done_with, tag_of, phase_changed, commit_outcome, stage_posted};
 
 use crate::machine::{GatePhase, Stage};
-use crate::order::{Class, Verb};
+use crate::order::{Class, Verb, Work};
 use crate::outcome::{Outcome, Tag};
 use crate::status::Status;
 use backend_trait::{Answer, Request};
-use pool_base::Code;
+use pool_base::{Code, NoMemory};
+use sql_copies::checked_copied;
+use time_rewrite::{RewriteFault, rewrite};
 
-/// What a stage asks of a backend.
-pub fn request_of(stage: &Stage) -> Request
-    ensures { result ≡ request_of stage.now }
+/// What a stage asks of a backend. The copy of a statement wants memory.
+pub fn request_of(stage: &Stage) -> Result<Request, NoMemory>
+    ensures is { IfOk result (λ request. request ≡ request_of stage.now) }
+    ensures want { IfErr result (λ _. is_run (request_of stage.now) ≡ true) }
 {
-    match stage {
+    Ok(match stage {
         Stage::Opening(_) => Request::TakeSnapshot,
         Stage::Reading(work, _) | Stage::Running(work) | Stage::Inserting(work, _) => {
-            Request::Run(work.statement)
+            Request::Run(checked_copied(&work.statement)?)
         }
         Stage::Locking(_, table) => Request::Lock(*table),
         Stage::Committing | Stage::Closing => Request::Commit,
         Stage::RollingBack(_) => Request::Rollback,
+    })
+}
+
+/// Whether a request is what a stage asks.
+pub fn asks(stage: &Stage, request: &Request) -> bool
+    ensures { result ≡ same_request (request_of stage.now) request.now }
+{
+    match stage {
+        Stage::Opening(_) => matches!(request, Request::TakeSnapshot),
+        Stage::Reading(work, _) | Stage::Running(work) | Stage::Inserting(work, _) => {
+            match request {
+                Request::Run(statement) => work.statement == *statement,
+                _ => false,
+            }
+        }
+        Stage::Locking(_, table) => matches!(request, Request::Lock(asked) if *table == *asked),
+        Stage::Committing | Stage::Closing => matches!(request, Request::Commit),
+        Stage::RollingBack(_) => matches!(request, Request::Rollback),
     }
+}
+
+/// A statement at a moment of the years 1 to 9999.
+fn work_at(moment: i64, work: Work) -> Result<Work, NoMemory>
+    requires { IsMoment moment }
+    ensures { IfOk result (λ made. made ≡ work_at moment work) }
+{
+    let Work {
+        statement,
+        class,
+        tables,
+    } = work;
+    let made = rewrite(&statement, moment);
+    drop(statement);
+    match made {
+        Ok(statement) => Ok(Work {
+            statement,
+            class,
+            tables,
+        }),
+        Err(RewriteFault::NoMemory) => Err(NoMemory),
+        Err(RewriteFault::MomentOutOfRange) => unreachable!(),
+    }
+}
+
+/// A statement at a moment. None: the moment is none of the years 1 to 9999.
+pub fn rewritten(moment: i64, work: Work) -> Result<Option<Work>, NoMemory>
+    ensures { IfOk result (λ made. made ≡ rewritten moment work) }
+{
+    if !is_moment(moment) {
+        drop(work);
+        return Ok(None);
+    }
+    Ok(Some(work_at(moment, work)?))
 }
 
 /// The tables of the writes that have succeeded.

@@ -6,15 +6,10 @@ use Rattle.pool_base.specs.declared.backend_id.BackendId.{BackendId}
 use Rattle.pool_base.specs.declared.code.Code.{Code}
 use Rattle.pool_base.specs.declared.gate_call.GateCall.{GateCall}
 use Rattle.pool_base.specs.declared.gate_call.GateCall.TheVariants as calls
-use Rattle.pg_values.specs.declared.value.Value.{Value}
-use Rattle.pg_values.specs.declared.value.Value.TheVariants as values
-use Rattle.backend_trait.specs.declared.row.Row.{Row}
-use Rattle.backend_trait.specs.declared.checked.Checked.{Checked}
-use Rattle.backend_trait.specs.declared.checked.Checked.TheVariants.{Insert, Select}
 use Rattle.backend_trait.specs.declared.request.Request.{Request}
 use Rattle.backend_trait.specs.declared.answer.Answer.{Answer}
 use Rattle.backend_trait.specs.declared.answer.Answer.TheVariants as answers
-use Rattle.backend_trait.specs.Acts.{IsInt4, IsInt8, HasColumns, HaveColumns, IsOfRun, IsOf}
+use Rattle.backend_trait.specs.Acts.{IsOf}
 use Rattle.session_machine.specs.declared.outcome.Outcome.{Outcome}
 use Rattle.session_machine.specs.declared.status.Status.{Status}
 use Rattle.session_machine.specs.declared.action.Cause.{Cause}
@@ -33,9 +28,10 @@ use Rattle.session_machine.specs.declared.machine.Machine.{Machine}
 use Rattle.session_machine.specs.Answers.{is_same}
 use Rattle.session_machine.specs.Rules.{action_at, request_of, tables_of}
 use Rattle.session_machine.specs.Allowed.{HasForm, MayHappen}
-use Rattle.session_machine.specs.Deciding.{call_at, is_call, is_post_due, is_waiting_for, is_detach_due, is_reply_due, is_end_due, is_int4, is_int8, has_columns, have_columns, is_of_run, is_of_opening, is_of_lock, is_of_end, is_of_stage, has_form, rose, happens}
+use Rattle.session_machine.specs.Deciding.{call_at, is_call, is_post_due, is_waiting_for, is_detach_due, is_reply_due, is_end_due, is_of_opening, is_of_lock, is_of_end, is_of_stage, has_form, rose, happens}
 use Rattle.session_machine.proofs.Backends.{same_backend}
-use Rattle.session_program.proofs.Same.{Tells, and_true, both_true, answer_told, request_told, outcome_told, status_told, call_told}
+use Rattle.session_machine.proofs.Trees.{Tells, and_true, both_true}
+use Rattle.session_machine.proofs.Same.{answer_told, request_told, outcome_told, status_told, call_told}
 
 -- two facts by two tests
 both_told : (s t : Bool) (P Q : Type 0) → Tells s P → Tells t Q → Tells (s && t) (P × Q)
@@ -129,51 +125,11 @@ end_due : (session : Session) (point : Point) → Tells (is_end_due point) (acti
 end_due session EndDue = (λ e. refl, λ e. refl)
 end_due session point = (λ e. absurd (cc), λ e. absurd (cc))
 
+-- a test is itself
+itself : (t : Bool) → Tells t (t ≡ true)
+itself t = (λ e. e, λ e. e)
+
 -- The form of an answer.
-
-int4_told : (v : Value) → Tells (is_int4 v) (IsInt4 v)
-int4_told values.Null = (λ e. inl refl, λ h. refl)
-int4_told (values.Int4 n) = (λ e. inr (n, refl), λ h. refl)
-int4_told v = (λ e. absurd (cc), λ h. elim h [ inl e ↦ absurd (cc) | inr p ↦ let q = p.1 in absurd (cc) ])
-
-int8_told : (v : Value) → Tells (is_int8 v) (IsInt8 v)
-int8_told values.Null = (λ e. inl refl, λ h. refl)
-int8_told (values.Int8 n) = (λ e. inr (n, refl), λ h. refl)
-int8_told v = (λ e. absurd (cc), λ h. elim h [ inl e ↦ absurd (cc) | inr p ↦ let q = p.1 in absurd (cc) ])
-
--- two cells of the right kinds
-abbrev AreColumns : List Value → Type 0
-AreColumns cells = (id : Value) × (v : Value) × (cells ≡ id ∷ v ∷ []) × IsInt4 id × IsInt8 v
-
-cells_told : (cells : List Value) → Tells (has_columns cells) (AreColumns cells)
-cells_told [] = (λ e. absurd (cc), λ h. let q = h.2 in absurd (cc))
-cells_told (id ∷ []) = (λ e. absurd (cc), λ h. let q = h.2 in absurd (cc))
-cells_told (id ∷ v ∷ []) = (
-  λ e. let h = and_true _ _ e in (id, v, refl, (int4_told id).0 h.0, (int8_told v).0 h.1),
-  λ h.
-      let first : h.0 ≡ id = let q = h.2 in cc in
-      let second : h.1 ≡ v = let q = h.2 in cc in
-      both_true _ _ ((int4_told id).1 (subst IsInt4 first h.3)) ((int8_told v).1 (subst IsInt8 second h.4)),
-)
-cells_told (id ∷ v ∷ w ∷ cells) = (λ e. absurd (cc), λ h. let q = h.2 in absurd (cc))
-
-rows_told : (rows : List Row) → Tells (have_columns rows) (HaveColumns rows)
-rows_told [] = (λ e. tt, λ h. refl)
-rows_told (row ∷ rows) = (
-  λ e. let h = and_true _ _ e in ((cells_told row.cells).0 h.0, (rows_told rows).0 h.1),
-  λ h. both_true _ _ ((cells_told row.cells).1 h.0) ((rows_told rows).1 h.1),
-)
-
-run_told : (statement : Checked) (answer : Answer) → Tells (is_of_run statement answer) (IsOfRun statement answer)
-run_told (Insert key value) (answers.Count n) = (λ e. inl (n, refl), λ h. refl)
-run_told (Insert key value) (answers.Refused code) = (λ e. inr (code, refl), λ h. refl)
-run_told (Insert key value) answer = (λ e. absurd (cc), λ h. elim h [ inl p ↦ let q = p.1 in absurd (cc) | inr p ↦ let q = p.1 in absurd (cc) ])
-run_told (Select key) (answers.Rows rows) = (
-  λ e. inl (rows, (rows_told rows).0 e, refl),
-  λ h. elim h [ inl p ↦ let same : p.0 ≡ rows = (let q = p.2 in cc) in (rows_told rows).1 (subst HaveColumns same p.1) | inr p ↦ let q = p.1 in absurd (cc) ],
-)
-run_told (Select key) (answers.Refused code) = (λ e. inr (code, refl), λ h. refl)
-run_told (Select key) answer = (λ e. absurd (cc), λ h. elim h [ inl p ↦ let q = p.2 in absurd (cc) | inr p ↦ let q = p.1 in absurd (cc) ])
 
 opening_told : (answer : Answer) → Tells (is_of_opening answer) ((answer ≡ answers.Began) ⊎ ((code : Code) × (answer ≡ answers.Refused code)))
 opening_told answers.Began = (λ e. inl refl, λ h. refl)
@@ -191,10 +147,10 @@ end_told answer = (λ e. absurd (cc), λ h. absurd (cc))
 
 stage_told : (stage : Stage) (answer : Answer) → Tells (is_of_stage stage answer) (IsOf (request_of stage) answer)
 stage_told (Opening work) answer = opening_told answer
-stage_told (Reading work ticket) answer = run_told work.statement answer
-stage_told (Running work) answer = run_told work.statement answer
+stage_told (Reading work ticket) answer = itself _
+stage_told (Running work) answer = itself _
 stage_told (Locking work table) answer = lock_told answer
-stage_told (Inserting work posted) answer = run_told work.statement answer
+stage_told (Inserting work posted) answer = itself _
 stage_told Committing answer = end_told answer
 stage_told Closing answer = end_told answer
 stage_told (RollingBack ending) answer = end_told answer
@@ -220,10 +176,6 @@ rose_told before after = (
   λ e. elim (or_true (nat_lt before after) (nat_le 18446744073709551615 after) e) [ inl h ↦ inl (ltb-true before after h) | inr h ↦ inr (leb-true 18446744073709551615 after h) ],
   λ r. elim r [ inl h ↦ or_left _ _ (lt-ltb before after h) | inr h ↦ or_right _ _ (le-leb 18446744073709551615 after h) ],
 )
-
--- a test is itself
-itself : (t : Bool) → Tells t (t ≡ true)
-itself t = (λ e. e, λ e. e)
 
 pub told : (session : Session) (point : Point) (event : SessionEvent) → Tells (happens session point event) (MayHappen (record { session = session; point = point }) event)
 told session point (events.Ordered order) = itself _

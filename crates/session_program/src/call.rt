@@ -27,7 +27,10 @@ fn first_chosen(mut session: Session, work: Work, primary: Option<BackendId>) ->
     ensures { result ≡ first_chosen session work primary }
 {
     match primary {
-        None => stranded(session),
+        None => {
+            drop(work);
+            stranded(session)
+        }
         Some(_) => {
             let ticket = ticket_of(&session);
             session.reads = session.reads.wrapping_add(1);
@@ -52,7 +55,10 @@ fn snapshot_entered(session: Session, work: Work, primary: Option<BackendId>) ->
     ensures { result ≡ snapshot_entered session work primary }
 {
     match primary {
-        None => stranded(session),
+        None => {
+            drop(work);
+            stranded(session)
+        }
         Some(_) => begun(session, Stage::Opening(work)),
     }
 }
@@ -61,7 +67,10 @@ fn snapshot_left(session: Session, work: Work, primary: Option<BackendId>) -> Ma
     ensures { result ≡ snapshot_left session work primary }
 {
     match primary {
-        None => stranded(session),
+        None => {
+            drop(work);
+            stranded(session)
+        }
         Some(_) => started(session, work),
     }
 }

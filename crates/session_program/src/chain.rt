@@ -141,15 +141,20 @@ pub(crate) fn started(mut session: Session, work: Work) -> Machine
     }
 }
 
+/// A refusal by a backend.
+fn refused_by(behind: bool, session: Session, code: Code) -> Machine
+    ensures { result ≡ refused behind session (error_of code) }
+{
+    let outcome = error_of(&session, code);
+    refused(behind, session, outcome)
+}
+
 /// A statement has its answer.
-fn ran(behind: bool, mut session: Session, work: Work, answer: Answer) -> Machine
-    ensures { result ≡ ran behind session work answer }
+fn ran(behind: bool, mut session: Session, work: &Work, answer: Answer) -> Machine
+    ensures { result ≡ ran behind session work.now answer }
 {
     match answer {
-        Answer::Refused(code) => {
-            let outcome = error_of(&session, code);
-            refused(behind, session, outcome)
-        }
+        Answer::Refused(code) => refused_by(behind, session, code),
         Answer::Rows(rows) => {
             let tag = Tag::Select(rows.len() as u64);
             due(session, Point::ReplyDue(Outcome::Rows { rows, tag }))
@@ -172,8 +177,8 @@ fn opened(behind: bool, session: Session, work: Work, refusal: Option<Code>) -> 
     match refusal {
         None => due(session, Point::LeaveSnapshotDue(work)),
         Some(code) => {
-            let outcome = error_of(&session, code);
-            refused(behind, session, outcome)
+            drop(work);
+            refused_by(behind, session, code)
         }
     }
 }
@@ -185,8 +190,8 @@ fn locked(behind: bool, session: Session, work: Work, refusal: Option<Code>) -> 
     match refusal {
         None => begun_behind(behind, session, Stage::Inserting(work, false)),
         Some(code) => {
-            let outcome = error_of(&session, code);
-            refused(behind, session, outcome)
+            drop(work);
+            refused_by(behind, session, code)
         }
     }
 }
@@ -206,7 +211,9 @@ fn closed(behind: bool, session: Session, stage: Stage, answer: Answer) -> Machi
     match stage {
         Stage::Opening(work) => opened(behind, session, work, refusal_of(&answer)),
         Stage::Reading(work, _) | Stage::Running(work) | Stage::Inserting(work, _) => {
-            ran(behind, session, work, answer)
+            let ran = ran(behind, session, &work, answer);
+            drop(work);
+            ran
         }
         Stage::Locking(work, _) => locked(behind, session, work, refusal_of(&answer)),
         Stage::Committing => {
@@ -293,7 +300,10 @@ fn reading_at(mut session: Session, work: Work, ticket: u64, reader: Option<Back
     ensures { result ≡ reading_at session work ticket reader }
 {
     match reader {
-        None => stranded(session),
+        None => {
+            drop(work);
+            stranded(session)
+        }
         Some(b) => {
             session.heard.truncate(0);
             due(session, Point::PostDue(Stage::Reading(work, ticket), b))
@@ -318,8 +328,13 @@ fn read(session: Session, work: Work, ticket: u64) -> Result<Machine, NoMemory>
     if !counts(session.view.attached, heard) {
         return Ok(chosen(session, work, ticket));
     }
-    let answer = heard.answer.clone()?;
-    Ok(closed(true, session, Stage::Reading(work, ticket), answer))
+    match heard.answer.clone() {
+        Ok(answer) => Ok(closed(true, session, Stage::Reading(work, ticket), answer)),
+        Err(_) => {
+            drop(work);
+            Err(NoMemory)
+        }
+    }
 }
 
 /// A chain of this kind at a Look.

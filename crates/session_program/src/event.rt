@@ -45,9 +45,9 @@ fn faulted(session: Session, before: u64, after: u64, point: Point) -> Machine
 }
 
 /// An order, whatever was due.
-fn told(session: Session, point: Point, order: Order) -> Machine
-    ensures { result ≡ Rattle.session_machine.specs.Rules.ordered session point order.moment
-        order.body }
+fn told(session: Session, point: Point, order: Order) -> Result<Machine, NoMemory>
+    ensures { IfOk result (λ m. m ≡ Rattle.session_machine.specs.Rules.ordered session point
+        order.moment order.body) }
 {
     let Order { moment, body } = order;
     let told = ordered(session, &point, moment, body);
@@ -77,15 +77,15 @@ fn after_at(session: Session, point: Point, event: SessionEvent) -> Result<Machi
     ensures { IfOk result (λ m. m ≡ after_at session point event) }
 {
     match event {
-        SessionEvent::Ordered(order) => Ok(told(session, point, order)),
+        SessionEvent::Ordered(order) => told(session, point, order),
         SessionEvent::Called {
             call: _call,
             answer,
         } => called(session, point, answer),
-        SessionEvent::Posted {
-            b: _b,
-            request: _request,
-        } => Ok(posted(session, point)),
+        SessionEvent::Posted { b: _b, request } => {
+            drop(request);
+            Ok(posted(session, point))
+        }
         SessionEvent::Taken { b, answer } => taken(session, b, answer, point),
         SessionEvent::Faulted {
             b: _b,

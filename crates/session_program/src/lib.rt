@@ -4,7 +4,6 @@
 
 mod call;
 mod chain;
-mod class;
 mod event;
 mod form;
 mod may;

@@ -3,13 +3,12 @@ ghost use Rattle.std.specs.Prelude.{◌≡◌, ◌↔◌, IsTrue};
 ghost use Rattle.session_machine.specs.Allowed.{MayHappen, is_resting, is_out, fits, may_stop, may_leave, fits_at_rest, may_order, is_seen, is_granted, is_granted_or_spent, is_seen_or_granted, answers_call};
 ghost use Rattle.session_machine.specs.Deciding.{call_at, is_call, is_post_due, is_waiting_for, is_fault, is_difference, is_detach_due, is_reply_due, is_end_due, has_form, rose, happens};
 
-use crate::class::is_classed;
 use crate::form::is_of_stage;
 use backend_trait::{Answer, Request};
 use pool_base::{BackendId, GateAnswer, GateCall};
 use session_machine::{
     Cause, GatePhase, Machine, OrderBody, Outcome, Point, Session, SessionEvent, Stage, Status,
-    request_of, tables_of,
+    asks, is_classed, tables_of,
 };
 
 fn is_resting(point: &Point) -> bool
@@ -126,7 +125,7 @@ fn may_order(session: &Session, point: &Point, body: &OrderBody) -> bool
         OrderBody::Leave => may_leave(point),
         OrderBody::Recover(_) => false,
         OrderBody::Statement(work) => {
-            is_classed(*work) && fits_at_rest(is_resting(point), session.status, session.gate, body)
+            is_classed(work) && fits_at_rest(is_resting(point), session.status, session.gate, body)
         }
         OrderBody::Begin
         | OrderBody::Commit
@@ -232,7 +231,7 @@ fn is_post_due(point: &Point, b: BackendId, request: &Request) -> bool
     ensures { result ≡ is_post_due point.now b request.now }
 {
     if let Point::PostDue(stage, due) = point {
-        return due.number == b.number && request_of(stage) == *request;
+        return due.number == b.number && asks(stage, request);
     }
     false
 }

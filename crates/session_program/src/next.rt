@@ -16,7 +16,7 @@ fn action_at(session: &Session, point: &Point) -> Result<Action, NoMemory>
         Point::Resting => Action::Rest,
         Point::EnterDue(_) => Action::Gate(GateCall::EnterSnapshot),
         Point::LookDue(_) | Point::ChooseDue(_) | Point::ShowDue => Action::Gate(GateCall::Look),
-        Point::PostDue(stage, b) => Action::Post(*b, request_of(stage)),
+        Point::PostDue(stage, b) => Action::Post(*b, request_of(stage)?),
         Point::Waiting(_, b) => Action::WaitFor(*b),
         Point::LostDue(_, b, before, after) => Action::Detach {
             b: *b,

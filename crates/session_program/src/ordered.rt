@@ -1,13 +1,12 @@
 //! Where an order leads.
-ghost use Rattle.std.specs.Prelude.{◌≡◌, ◌↔◌, IsTrue, Some};
-ghost use Rattle.pg_values.specs.Range.{IsMoment};
-ghost use Rattle.session_machine.specs.Rules.{is_moment, moment_at, entering, stated_at, block_begun, committing, block_committed, rolled_back, block_rolled_back, settled, leaving, left_in, left_lost, left, ordered};
+ghost use Rattle.std.specs.Prelude.{◌≡◌, IfOk};
+ghost use Rattle.session_machine.specs.Rules.{moment_at, entering, stated_at, block_begun, committing, block_committed, rolled_back, block_rolled_back, settled, leaving, left_in, left_lost, left, ordered};
 
 use crate::chain::{begun, due, error_of, idle, refused, started};
-use pool_base::BackendId;
+use pool_base::{BackendId, NoMemory};
 use session_machine::{
     Ending, GatePhase, Machine, OrderBody, Outcome, Point, Session, Stage, Status, Tag, Work,
-    done_with, in_a_block, is_moment, moment_out_of_range, outside_a_block,
+    done_with, in_a_block, moment_out_of_range, outside_a_block, rewritten,
 };
 
 /// The moment of the transaction.
@@ -37,15 +36,19 @@ fn entering(session: Session, work: Work) -> Machine
 
 /// A statement, with the moment of its transaction.
 #[tactic(auto, unfolding(session_machine::specs::Rules::stated_at))]
-fn stated_at(mut session: Session, moment: i64, work: Work) -> Machine
-    ensures { result ≡ stated_at session moment work }
+fn stated_at(mut session: Session, moment: i64, work: Work) -> Result<Machine, NoMemory>
+    ensures { IfOk result (λ m. m ≡ stated_at session moment work) }
 {
-    if !is_moment(moment) {
-        let outcome = error_of(&session, moment_out_of_range());
-        return refused(false, session, outcome);
+    match rewritten(moment, work)? {
+        None => {
+            let outcome = error_of(&session, moment_out_of_range());
+            Ok(refused(false, session, outcome))
+        }
+        Some(work) => {
+            session.moment = moment;
+            Ok(entering(session, work))
+        }
     }
-    session.moment = moment;
-    entering(session, work)
 }
 
 #[tactic(auto, unfolding(session_machine::specs::Rules::block_begun))]
@@ -215,13 +218,18 @@ fn left(session: Session, point: &Point) -> Machine
 
 /// An order.
 #[tactic(auto, unfolding(session_machine::specs::Rules::ordered))]
-pub(crate) fn ordered(session: Session, point: &Point, moment: i64, body: OrderBody) -> Machine
-    ensures { result ≡ ordered session point.now moment body }
+pub(crate) fn ordered(
+    session: Session,
+    point: &Point,
+    moment: i64,
+    body: OrderBody,
+) -> Result<Machine, NoMemory>
+    ensures { IfOk result (λ m. m ≡ ordered session point.now moment body) }
 {
-    match body {
+    Ok(match body {
         OrderBody::Statement(work) => {
             let moment = moment_at(&session, moment);
-            stated_at(session, moment, work)
+            stated_at(session, moment, work)?
         }
         OrderBody::Begin => block_begun(session, moment),
         OrderBody::Commit => block_committed(session),
@@ -231,5 +239,5 @@ pub(crate) fn ordered(session: Session, point: &Point, moment: i64, body: OrderB
         OrderBody::Recover(_b) => due(session, Point::Resting),
         OrderBody::Refuse { code, name } => refused(false, session, Outcome::Error { code, name }),
         OrderBody::Leave => left(session, point),
-    }
+    })
 }

@@ -2,7 +2,7 @@
 
 use crate::fault::Fault;
 use crate::turn::{call, detach, order, poll, post};
-use backend_trait::Request;
+use backend_trait::{Backend, Request};
 use model_store::MemoryStore;
 use pool_base::{BackendId, BackendSet, NoMemory, SessionId};
 use session_engine::Core;
@@ -10,6 +10,7 @@ use session_machine::{Action, Order, OrderBody, Outcome, ReadPolicy, Status};
 use snapshot_gate::Gate;
 use std::alloc::Global;
 use std::mem;
+use trial_statements::trial_tables;
 
 /// What a step came to.
 #[derive(Drop)]
@@ -35,13 +36,33 @@ pub struct Place {
 }
 
 impl Place {
-    /// Two empty stores, both attached.
+    /// Two stores of the table for trials, without rows, both attached.
     pub fn new(alloc: Global) -> Result<Place, NoMemory> {
-        Ok(Place {
-            gate: Gate::new(BackendSet { bits: 3 }),
-            first: MemoryStore::new(alloc)?,
-            second: MemoryStore::new(alloc)?,
-        })
+        let first = prepared(alloc)?;
+        match prepared(alloc) {
+            Ok(second) => Ok(Place {
+                gate: Gate::new(BackendSet { bits: 3 }),
+                first,
+                second,
+            }),
+            Err(NoMemory) => {
+                drop(first);
+                Err(NoMemory)
+            }
+        }
+    }
+}
+
+/// A store of the table for trials, without rows.
+fn prepared(alloc: Global) -> Result<MemoryStore, NoMemory> {
+    let tables = trial_tables(alloc)?;
+    let mut store = MemoryStore::new(alloc)?;
+    match store.prepare(&tables) {
+        Ok(()) => Ok(store),
+        Err(NoMemory) => {
+            drop(store);
+            Err(NoMemory)
+        }
     }
 }
 
@@ -97,15 +118,22 @@ impl Client {
         }
     }
 
+    /// Holds what was handed out.
+    fn hold(&mut self, due: Action) {
+        drop(mem::replace(&mut self.due, due));
+    }
+
     /// What is due next, or `action` again, which did not come to an end.
     fn went(&mut self, next: Option<Action>, action: Action, stands: Moved) -> Moved {
         match next {
             Some(next) => {
-                self.due = next;
+                self.hold(next);
+                drop(action);
+                drop(stands);
                 Moved::Went
             }
             None => {
-                self.due = action;
+                self.hold(action);
                 stands
             }
         }
@@ -120,11 +148,13 @@ impl Client {
                 Ok(self.went(next, Action::Gate(due), Moved::Held))
             }
             Action::Detach { b, cause } => {
-                self.due = detach(alloc, &mut self.core, &mut at.gate, b, cause)?;
+                let next = detach(alloc, &mut self.core, &mut at.gate, b, cause)?;
+                self.hold(next);
                 Ok(Moved::Went)
             }
             Action::Post(b, request) => {
-                self.due = self.post(alloc, at, b, request)?;
+                let next = self.post(alloc, at, b, request)?;
+                self.hold(next);
                 Ok(Moved::Went)
             }
             Action::WaitFor(b) => {
@@ -160,7 +190,8 @@ impl Client {
 
     /// Gives an order.
     pub fn tell(&mut self, alloc: Global, body: OrderBody) -> Result<(), Fault> {
-        self.due = order(alloc, &mut self.core, Order { moment: 0, body })?;
+        let due = order(alloc, &mut self.core, Order { moment: 0, body })?;
+        self.hold(due);
         Ok(())
     }
 }

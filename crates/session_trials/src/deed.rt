@@ -2,11 +2,12 @@
 
 use crate::client::{Client, Moved, Place};
 use crate::fault::Fault;
-use backend_trait::{Backend, Checked, Row};
+use backend_trait::{Backend, Row};
 use pg_values::Value;
 use pool_base::{List, NoMemory, SessionId};
-use session_machine::{Class, OrderBody, Outcome, Status, Tag, Verb, Work};
+use session_machine::{OrderBody, Outcome, Status, Tag, work_of};
 use std::alloc::Global;
+use trial_statements::{insert_of, select_of};
 
 /// Which of two sessions.
 #[derive(Clone, Copy)]
@@ -53,29 +54,24 @@ pub enum Seen {
 /// A session is told something, and something is to be seen.
 pub type Step = (Who, Deed, Seen);
 
-fn statement(statement: Checked, class: Class, tables: u64) -> OrderBody {
-    OrderBody::Statement(Work {
-        statement,
-        class,
-        tables,
-    })
-}
-
 /// The order of a deed. None: it has no order.
-fn order_of(deed: Deed) -> Option<OrderBody> {
-    match deed {
+fn order_of(alloc: Global, deed: Deed) -> Result<Option<OrderBody>, NoMemory> {
+    Ok(match deed {
         Deed::Begin => Some(OrderBody::Begin),
         Deed::Insert(key, value) => {
-            let insert = Checked::Insert { key, value };
-            Some(statement(insert, Class::Write(Verb::Insert), 1))
+            let insert = insert_of(alloc, key, value)?;
+            Some(OrderBody::Statement(work_of(insert)))
         }
-        Deed::Select(key) => Some(statement(Checked::Select { key }, Class::Read, 0)),
+        Deed::Select(key) => {
+            let select = select_of(alloc, key, false)?;
+            Some(OrderBody::Statement(work_of(select)))
+        }
         Deed::Commit => Some(OrderBody::Commit),
         Deed::Rollback => Some(OrderBody::Rollback),
         Deed::Settle | Deed::SettleToCommit => Some(OrderBody::Settle),
         Deed::Leave => Some(OrderBody::Leave),
         Deed::GoOn => None,
-    }
+    })
 }
 
 /// A row of the table: its key and its value.
@@ -132,7 +128,7 @@ fn seen_of(moved: &Moved) -> Seen {
 
 /// What is seen of a session that is told something.
 fn told(alloc: Global, client: &mut Client, at: &mut Place, deed: Deed) -> Result<Seen, Fault> {
-    if let Some(body) = order_of(deed) {
+    if let Some(body) = order_of(alloc, deed)? {
         client.tell(alloc, body)?;
     }
     let moved = match deed {

@@ -2,37 +2,45 @@
 // The lists follow Pangea (VLDB 2009): snapshots and commits on all replicas between the gate's
 // calls, the primary first; the replies follow PostgreSQL's manual, "COMMIT" and "PostgreSQL Error
 // Codes".
+ghost use Rattle.std.specs.Prelude.{IfOk};
+ghost use Rattle.classifier.specs.Classes.{WritesOneOf64};
+
 use crate::{Fault, Lone};
 use backend_trait::{Answer, Checked, Request, Row};
 use pg_values::Value;
 use pool_base::{BackendId, BackendSet, Code, GateAnswer, GateCall, List, NoMemory, Text, View};
-use session_machine::{
-    Cause, Class, Order, OrderBody, Outcome, SessionEvent, Status, Tag, Verb, Work,
-};
+use session_machine::{Cause, Order, OrderBody, Outcome, SessionEvent, Status, Tag, work_of};
 use std::alloc::Global;
+use trial_statements::{insert_of, select_of};
 
 const B0: BackendId = BackendId { number: 0 };
 
 const B1: BackendId = BackendId { number: 1 };
 
-const INSERT: Checked = Checked::Insert { key: 1, value: 10 };
+fn insert(alloc: Global) -> Result<Checked, NoMemory>
+    ensures { IfOk result (λ statement. WritesOneOf64 statement.body) }
+{
+    insert_of(alloc, 1, 10)
+}
 
-const SELECT: Checked = Checked::Select { key: 1 };
+fn locking_select(alloc: Global) -> Result<Checked, NoMemory>
+    ensures { IfOk result (λ statement. WritesOneOf64 statement.body) }
+{
+    select_of(alloc, 1, true)
+}
 
 fn ordered(body: OrderBody) -> SessionEvent {
     SessionEvent::Ordered(Order { moment: 0, body })
 }
 
-fn statement(statement: Checked, class: Class, tables: u64) -> SessionEvent {
-    ordered(OrderBody::Statement(Work {
-        statement,
-        class,
-        tables,
-    }))
+fn statement(statement: Checked) -> SessionEvent
+    requires { WritesOneOf64 statement.body }
+{
+    ordered(OrderBody::Statement(work_of(statement)))
 }
 
-fn insert_order() -> SessionEvent {
-    statement(INSERT, Class::Write(Verb::Insert), 1)
+fn insert_order(alloc: Global) -> Result<SessionEvent, NoMemory> {
+    Ok(statement(insert(alloc)?))
 }
 
 fn view(bits: u8) -> View {
@@ -110,9 +118,21 @@ fn settled(list: &mut Vec<SessionEvent>, bits: u8) -> Result<(), NoMemory> {
 
 fn insert_commits(alloc: Global) -> Result<Vec<SessionEvent>, NoMemory> {
     let mut list = Vec::new(alloc);
-    opening(&mut list, insert_order())?;
-    asked(&mut list, B0, Request::Run(INSERT), Answer::Count(1), 3)?;
-    asked(&mut list, B1, Request::Run(INSERT), Answer::Count(1), 3)?;
+    opening(&mut list, insert_order(alloc)?)?;
+    asked(
+        &mut list,
+        B0,
+        Request::Run(insert(alloc)?),
+        Answer::Count(1),
+        3,
+    )?;
+    asked(
+        &mut list,
+        B1,
+        Request::Run(insert(alloc)?),
+        Answer::Count(1),
+        3,
+    )?;
     list.push(done(Tag::Insert(1), Status::Idle))?;
     settled(&mut list, 3)?;
     Ok(list)
@@ -124,11 +144,11 @@ fn insert_refused(alloc: Global) -> Result<Vec<SessionEvent>, NoMemory> {
     let mut list = Vec::new(alloc);
     list.push(ordered(OrderBody::Begin))?;
     list.push(done(Tag::Begin, Status::InBlock))?;
-    opening(&mut list, insert_order())?;
+    opening(&mut list, insert_order(alloc)?)?;
     asked(
         &mut list,
         B0,
-        Request::Run(INSERT),
+        Request::Run(insert(alloc)?),
         Answer::Refused(code),
         3,
     )?;
@@ -151,10 +171,10 @@ fn insert_refused(alloc: Global) -> Result<Vec<SessionEvent>, NoMemory> {
 fn primary_fails(alloc: Global) -> Result<Vec<SessionEvent>, NoMemory> {
     let (b, before, after) = (B0, 0, 1);
     let mut list = Vec::new(alloc);
-    opening(&mut list, insert_order())?;
+    opening(&mut list, insert_order(alloc)?)?;
     list.push(SessionEvent::Posted {
         b,
-        request: Request::Run(INSERT),
+        request: Request::Run(insert(alloc)?),
     })?;
     list.push(SessionEvent::Faulted { b, before, after })?;
     Ok(list)
@@ -176,7 +196,13 @@ fn primary_detached(list: &mut Vec<SessionEvent>) -> Result<(), NoMemory> {
 fn primary_lost(alloc: Global) -> Result<Vec<SessionEvent>, NoMemory> {
     let mut list = primary_fails(alloc)?;
     primary_detached(&mut list)?;
-    asked(&mut list, B1, Request::Run(INSERT), Answer::Count(1), 2)?;
+    asked(
+        &mut list,
+        B1,
+        Request::Run(insert(alloc)?),
+        Answer::Count(1),
+        2,
+    )?;
     list.push(done(Tag::Insert(1), Status::Idle))?;
     settled(&mut list, 2)?;
     Ok(list)
@@ -191,13 +217,22 @@ fn rows(alloc: Global) -> Result<Answer, NoMemory> {
     Ok(Answer::Rows(rows))
 }
 
+/// A backend is asked for the row that it holds from now on, and answers, and there is a Look.
+fn locked(
+    alloc: Global,
+    list: &mut Vec<SessionEvent>,
+    b: BackendId,
+    answer: Answer,
+) -> Result<(), NoMemory> {
+    asked(list, b, Request::Run(locking_select(alloc)?), answer, 3)
+}
+
 /// The second backend has no row where the primary has one.
 fn differing(alloc: Global) -> Result<Vec<SessionEvent>, NoMemory> {
-    let none = Answer::Rows(List::new(alloc));
     let mut list = Vec::new(alloc);
-    opening(&mut list, statement(SELECT, Class::LockingRead, 0))?;
-    asked(&mut list, B0, Request::Run(SELECT), rows(alloc)?, 3)?;
-    asked(&mut list, B1, Request::Run(SELECT), none, 3)?;
+    opening(&mut list, statement(locking_select(alloc)?))?;
+    locked(alloc, &mut list, B0, rows(alloc)?)?;
+    locked(alloc, &mut list, B1, Answer::Rows(List::new(alloc)))?;
     Ok(list)
 }
 
@@ -247,7 +282,9 @@ fn left_one(alloc: Global) -> Result<Vec<SessionEvent>, NoMemory> {
 fn happens(alloc: Global, list: Result<Vec<SessionEvent>, NoMemory>) -> Result<bool, Fault> {
     let list = list?;
     let mut lone = Lone::new(alloc)?;
-    match lone.take_all(alloc, list) {
+    let taken = lone.take_all(alloc, list);
+    drop(lone);
+    match taken {
         Ok(()) => Ok(true),
         Err(Fault::NoMemory) => Err(Fault::NoMemory),
         Err(Fault::NotAllowed) => Ok(false),
@@ -278,15 +315,27 @@ fn a_backend_that_differs_is_detached(rt: HostRuntime) {
     assert_eq!(rt; happens(alloc, parted(alloc)), Ok(true));
 }
 
+/// The events happen, the session gives up, and so it ends.
+fn gives_up(
+    alloc: Global,
+    lone: &mut Lone,
+    events: Vec<SessionEvent>,
+    end: Vec<SessionEvent>,
+) -> Result<bool, Fault> {
+    lone.take_all(alloc, events)?;
+    lone.give_up(alloc)?;
+    lone.take_all(alloc, end)?;
+    Ok(true)
+}
+
 /// The session gives up between the loss of the primary and its detachment.
 fn lost_and_leaves(alloc: Global) -> Result<bool, Fault> {
     let events = primary_fails(alloc)?;
     let end = left_one(alloc)?;
     let mut lone = Lone::new(alloc)?;
-    lone.take_all(alloc, events)?;
-    lone.give_up(alloc)?;
-    lone.take_all(alloc, end)?;
-    Ok(true)
+    let left = gives_up(alloc, &mut lone, events, end);
+    drop(lone);
+    left
 }
 
 #[test]
@@ -294,13 +343,15 @@ fn a_lost_primary_is_detached_before_the_session_ends(rt: HostRuntime) {
     assert_eq!(rt; lost_and_leaves(rt.alloc()), Ok(true));
 }
 
-/// Where the copies of the rows that differ want memory the session gives up, and comes to its end.
-fn differs_or_leaves(alloc: Global) -> Result<bool, Fault> {
-    let events = differing(alloc)?;
-    let end = left(alloc)?;
-    let mut lone = Lone::new(alloc)?;
+/// Behind the events the session gives up, also where one of them wanted memory, and so it ends.
+fn gives_up_at_last(
+    alloc: Global,
+    lone: &mut Lone,
+    events: Vec<SessionEvent>,
+    end: Vec<SessionEvent>,
+) -> Result<bool, Fault> {
     let fault = lone.take_all(alloc, events);
-    if !lone.must_give_up() {
+    if !lone.is_short() {
         fault?;
         lone.give_up(alloc)?;
         lone.take_all(alloc, end)?;
@@ -312,6 +363,16 @@ fn differs_or_leaves(alloc: Global) -> Result<bool, Fault> {
     lone.give_up(alloc)?;
     lone.take_all(alloc, end)?;
     Ok(true)
+}
+
+/// Where the copies of the rows that differ want memory the session gives up, and comes to its end.
+fn differs_or_leaves(alloc: Global) -> Result<bool, Fault> {
+    let events = differing(alloc)?;
+    let end = left(alloc)?;
+    let mut lone = Lone::new(alloc)?;
+    let left = gives_up_at_last(alloc, &mut lone, events, end);
+    drop(lone);
+    left
 }
 
 // Each allocation may be refused in turn: the session leaves all the same.

@@ -45,12 +45,19 @@ impl Lone {
         }
     }
 
+    /// Holds what was handed out.
+    fn hold(&mut self, due: Action) {
+        drop(mem::replace(&mut self.due, due));
+    }
+
     /// Takes an event of what was handed out.
     pub fn take(&mut self, alloc: Global, event: SessionEvent) -> Result<(), Fault> {
         if !is_due(&self.due, &event) {
+            drop(event);
             return Err(Fault::NotAllowed);
         }
-        self.due = self.next(alloc, event)?;
+        let due = self.next(alloc, event)?;
+        self.hold(due);
         Ok(())
     }
 
@@ -64,28 +71,29 @@ impl Lone {
 
     /// The client is gone.
     pub fn give_up(&mut self, alloc: Global) -> Result<(), Fault> {
-        self.due = give_up(alloc, &mut self.core)?;
+        let due = give_up(alloc, &mut self.core)?;
+        self.hold(due);
         Ok(())
     }
 
-    /// Whether memory was wanted: giving up is left.
-    pub fn must_give_up(&self) -> bool {
-        self.core.must_give_up()
+    /// Whether memory was wanted for what is due.
+    pub fn is_short(&self) -> bool {
+        self.core.is_short()
     }
 }
 
 /// Whether the event is of what was handed out; at rest an order is.
 fn is_due(due: &Action, event: &SessionEvent) -> bool {
     match event {
-        SessionEvent::Ordered(_) => *due == Action::Rest,
-        SessionEvent::Called { call, .. } => *due == Action::Gate(*call),
+        SessionEvent::Ordered(_) => matches!(due, Action::Rest),
+        SessionEvent::Called { call, .. } => matches!(due, Action::Gate(asked) if *asked == *call),
         SessionEvent::Posted { b, request } => is_post(due, *b, request),
         SessionEvent::Taken { b, .. } | SessionEvent::Faulted { b, .. } => {
-            *due == Action::WaitFor(*b)
+            matches!(due, Action::WaitFor(asked) if *asked == *b)
         }
         SessionEvent::Detached { b, cause, .. } => is_detachment(due, *b, cause),
         SessionEvent::Replied { outcome, status } => is_reply(due, outcome, *status),
-        SessionEvent::Ended => *due == Action::End,
+        SessionEvent::Ended => matches!(due, Action::End),
         SessionEvent::Swapped { .. } => false,
     }
 }

@@ -1,8 +1,11 @@
 //! One event of a core at the gate or at a store, where the definitions allow it.
-ghost use Rattle.std.specs.Prelude.{◌≡◌, false, IsTrue, OnOk};
+ghost use Rattle.std.specs.Prelude.{◌≡◌, false, IsTrue, None, OnOk};
+ghost use Rattle.backend_trait.specs.Store.{MayPost};
+ghost use Rattle.model_store.specs.Meaning.{meaning};
+ghost use Rattle.session_machine.specs.declared.action.SessionEvent.TheVariants as events;
 ghost use Rattle.session_machine.specs.Allowed.{MayHappen};
 ghost use Rattle.session_machine.specs.Rules.{next_action};
-ghost use Rattle.session_engine.specs.Cores.{machine_in, must_give_up};
+ghost use Rattle.session_engine.specs.Cores.{machine_in, is_short};
 ghost use Rattle.session_engine.specs.Handing.{IsPost};
 ghost use Rattle.snapshot_gate.specs.Function.{MayCall};
 
@@ -26,18 +29,30 @@ fn is_allowed(core: &Core, m: &Machine, event: &SessionEvent) -> bool
 }
 
 /// The event may happen where the core stands, which has not wanted memory.
-fn allow(alloc: Global, core: &Core, event: &SessionEvent) -> Result<(), Fault>
+fn judge(alloc: Global, core: &Core, event: &SessionEvent) -> Result<(), Fault>
     ensures may { OnOk result (MayHappen (machine_in core.now) event.now) }
-    ensures going { OnOk result (must_give_up core.now ≡ false) }
+    ensures going { OnOk result (is_short core.now ≡ false) }
 {
-    if core.must_give_up() {
+    if core.is_short() {
         return Err(Fault::NotAllowed);
     }
     let m = machine(alloc, core)?;
-    if !is_allowed(core, &m, event) {
+    let may = is_allowed(core, &m, event);
+    drop(m);
+    if !may {
         return Err(Fault::NotAllowed);
     }
     Ok(())
+}
+
+/// The event, which is let go, may happen where the core stands, which has not wanted memory.
+fn allow(alloc: Global, core: &Core, event: SessionEvent) -> Result<(), Fault>
+    ensures may { OnOk result (MayHappen (machine_in core.now) event) }
+    ensures going { OnOk result (is_short core.now ≡ false) }
+{
+    let judged = judge(alloc, core, &event);
+    drop(event);
+    judged
 }
 
 /// Whether a session may make that call of the gate now.
@@ -73,7 +88,7 @@ pub(crate) fn called(
     call: GateCall,
     answer: GateAnswer,
 ) -> Result<Action, Fault> {
-    allow(alloc, core, &SessionEvent::Called { call, answer })?;
+    allow(alloc, core, SessionEvent::Called { call, answer })?;
     Ok(core.gate_answer(answer)?)
 }
 
@@ -99,7 +114,7 @@ pub(crate) fn detached(
     cause: Cause,
     answer: GateAnswer,
 ) -> Result<Action, Fault> {
-    allow(alloc, core, &SessionEvent::Detached { b, cause, answer })?;
+    allow(alloc, core, SessionEvent::Detached { b, cause, answer })?;
     Ok(core.gate_answer(answer)?)
 }
 
@@ -115,13 +130,12 @@ pub(crate) fn detach(
     detached(alloc, core, b, cause, answer)
 }
 
-/// The core may be told that the request is posted.
-fn allow_post(alloc: Global, core: &Core, b: BackendId, request: &Request) -> Result<(), Fault>
+/// The core may be told that the request, which is let go, is posted.
+fn allow_posted(alloc: Global, core: &Core, b: BackendId, request: Request) -> Result<(), Fault>
     ensures may { OnOk result (IsPost (next_action (machine_in core.now))) }
-    ensures going { OnOk result (must_give_up core.now ≡ false) }
+    ensures going { OnOk result (is_short core.now ≡ false) }
 {
-    let request = copied_request(request);
-    allow(alloc, core, &SessionEvent::Posted { b, request })
+    allow(alloc, core, SessionEvent::Posted { b, request })
 }
 
 /// Tells the core that the request that was due is posted.
@@ -131,8 +145,28 @@ pub(crate) fn posted(
     b: BackendId,
     request: Request,
 ) -> Result<Action, Fault> {
-    allow_post(alloc, core, b, &request)?;
+    allow_posted(alloc, core, b, request)?;
     Ok(core.posted())
+}
+
+/// The core may be told that the request is posted, and the store admits it.
+fn allow_post(
+    alloc: Global,
+    core: &Core,
+    store: &MemoryStore,
+    id: SessionId,
+    b: BackendId,
+    request: &Request,
+) -> Result<(), Fault>
+    ensures may { OnOk result (IsPost (next_action (machine_in core.now))) }
+    ensures going { OnOk result (is_short core.now ≡ false) }
+    ensures idle { OnOk result ((meaning store.now).pending id.number ≡ None) }
+    ensures admits { OnOk result (MayPost (meaning store.now) id.number request.now) }
+{
+    if !store.may_post(id, request) {
+        return Err(Fault::NotAllowed);
+    }
+    allow_posted(alloc, core, b, copied_request(request)?)
 }
 
 /// Posts the request that was due.
@@ -144,13 +178,18 @@ pub(crate) fn post(
     b: BackendId,
     request: Request,
 ) -> Result<Action, Fault> {
-    allow_post(alloc, core, b, &request)?;
-    if !store.may_post(id, &request) {
-        return Err(Fault::NotAllowed);
-    }
-    match store.post(id, request) {
-        Posted::Accepted => Ok(core.posted()),
-        Posted::NoMemory(_) => Err(Fault::NoMemory),
+    match allow_post(alloc, core, store, id, b, &request) {
+        Ok(()) => match store.post(id, request) {
+            Posted::Accepted => Ok(core.posted()),
+            Posted::NoMemory(back) => {
+                drop(back);
+                Err(Fault::NoMemory)
+            }
+        },
+        Err(fault) => {
+            drop(request);
+            Err(fault)
+        }
     }
 }
 
@@ -162,7 +201,7 @@ pub(crate) fn answered(
     answer: Answer,
 ) -> Result<Action, Fault> {
     let copy = copied_answer(&answer)?;
-    allow(alloc, core, &SessionEvent::Taken { b, answer: copy })?;
+    allow(alloc, core, SessionEvent::Taken { b, answer: copy })?;
     Ok(core.backend_answer(b, answer)?)
 }
 
@@ -174,7 +213,7 @@ pub(crate) fn lost(
     before: u64,
     after: u64,
 ) -> Result<Action, Fault> {
-    allow(alloc, core, &SessionEvent::Faulted { b, before, after })?;
+    allow(alloc, core, SessionEvent::Faulted { b, before, after })?;
     Ok(core.backend_lost(b, before, after))
 }
 
@@ -198,11 +237,24 @@ pub(crate) fn poll(
     }
 }
 
+/// The core may be given the order.
+fn allow_order(alloc: Global, core: &Core, order: &Order) -> Result<(), Fault>
+    ensures may { OnOk result (MayHappen (machine_in core.now) (events.Ordered order.now)) }
+    ensures going { OnOk result (is_short core.now ≡ false) }
+{
+    let copy = copied_order(order)?;
+    allow(alloc, core, SessionEvent::Ordered(copy))
+}
+
 /// Gives the core an order.
 pub(crate) fn order(alloc: Global, core: &mut Core, order: Order) -> Result<Action, Fault> {
-    let copy = copied_order(&order)?;
-    allow(alloc, core, &SessionEvent::Ordered(copy))?;
-    Ok(core.order(order)?)
+    match allow_order(alloc, core, &order) {
+        Ok(()) => Ok(core.order(order)?),
+        Err(fault) => {
+            drop(order);
+            Err(fault)
+        }
+    }
 }
 
 /// The client is gone, where the definitions allow it, whatever memory was wanted.
@@ -212,7 +264,10 @@ pub(crate) fn give_up(alloc: Global, core: &mut Core) -> Result<Action, Fault> {
         moment: 0,
         body: OrderBody::Leave,
     });
-    if !is_allowed(core, &m, &event) {
+    let may = is_allowed(core, &m, &event);
+    drop(event);
+    drop(m);
+    if !may {
         return Err(Fault::NotAllowed);
     }
     Ok(core.give_up())

@@ -8,7 +8,10 @@ use crate::fault::Fault;
 use backend_trait::{Answer, Request};
 use pool_base::{BackendId, List, NoMemory};
 use session_engine::{Core, Due};
-use session_machine::{Ending, Heard, Machine, Order, OrderBody, Point, Session, Stage};
+use session_machine::{
+    Ending, Heard, Machine, Order, OrderBody, Point, Session, Stage, work_copied,
+};
+use sql_copies::checked_copied;
 use std::alloc::Global;
 
 fn copied_ending(ending: &Ending) -> Result<Ending, NoMemory>
@@ -24,11 +27,11 @@ fn copied_stage(stage: &Stage) -> Result<Stage, NoMemory>
     ensures { IfOk result (λ copy. copy ≡ stage.now) }
 {
     Ok(match stage {
-        Stage::Opening(work) => Stage::Opening(*work),
-        Stage::Reading(work, ticket) => Stage::Reading(*work, *ticket),
-        Stage::Running(work) => Stage::Running(*work),
-        Stage::Locking(work, table) => Stage::Locking(*work, *table),
-        Stage::Inserting(work, posted) => Stage::Inserting(*work, *posted),
+        Stage::Opening(work) => Stage::Opening(work_copied(work)?),
+        Stage::Reading(work, ticket) => Stage::Reading(work_copied(work)?, *ticket),
+        Stage::Running(work) => Stage::Running(work_copied(work)?),
+        Stage::Locking(work, table) => Stage::Locking(work_copied(work)?, *table),
+        Stage::Inserting(work, posted) => Stage::Inserting(work_copied(work)?, *posted),
         Stage::Committing => Stage::Committing,
         Stage::Closing => Stage::Closing,
         Stage::RollingBack(ending) => Stage::RollingBack(copied_ending(ending)?),
@@ -67,7 +70,7 @@ fn point(heard: &[Heard], due: &Due) -> Result<Point, Fault>
 {
     Ok(match due {
         Due::Resting => Point::Resting,
-        Due::EnterDue(work) => Point::EnterDue(*work),
+        Due::EnterDue(work) => Point::EnterDue(work_copied(work)?),
         Due::LookDue(stage) => Point::LookDue(copied_stage(stage)?),
         Due::PostDue(stage, b) => Point::PostDue(copied_stage(stage)?, *b),
         Due::Waiting(stage, b) => Point::Waiting(copied_stage(stage)?, *b),
@@ -80,16 +83,14 @@ fn point(heard: &[Heard], due: &Due) -> Result<Point, Fault>
             own,
             among,
             more,
-        } => Point::SplitDue(
-            copied_stage(stage)?,
-            copied_at(heard, *best)?,
-            copied_at(heard, *own)?,
-            *among,
-            *more,
-        ),
-        Due::ChooseDue(work) => Point::ChooseDue(*work),
+        } => {
+            let best = copied_at(heard, *best)?;
+            let own = copied_at(heard, *own)?;
+            Point::SplitDue(copied_stage(stage)?, best, own, *among, *more)
+        }
+        Due::ChooseDue(work) => Point::ChooseDue(work_copied(work)?),
         Due::ShowDue => Point::ShowDue,
-        Due::LeaveSnapshotDue(work) => Point::LeaveSnapshotDue(*work),
+        Due::LeaveSnapshotDue(work) => Point::LeaveSnapshotDue(work_copied(work)?),
         Due::UnwindDue(ending) => Point::UnwindDue(copied_ending(ending)?),
         Due::EnterCommitDue => Point::EnterCommitDue,
         Due::LeaveCommitDue(ending) => Point::LeaveCommitDue(copied_ending(ending)?),
@@ -106,19 +107,19 @@ pub(crate) fn copied_answer(answer: &Answer) -> Result<Answer, NoMemory>
     Ok(answer.clone()?)
 }
 
-/// A copy of a request. It wants no memory.
-pub(crate) fn copied_request(request: &Request) -> Request
-    ensures { result ≡ request.now }
+/// A copy of a request.
+pub(crate) fn copied_request(request: &Request) -> Result<Request, NoMemory>
+    ensures { IfOk result (λ copy. copy ≡ request.now) }
 {
-    match request {
+    Ok(match request {
         Request::TakeSnapshot => Request::TakeSnapshot,
-        Request::Run(statement) => Request::Run(*statement),
+        Request::Run(statement) => Request::Run(checked_copied(statement)?),
         Request::Lock(table) => Request::Lock(*table),
         Request::Commit => Request::Commit,
         Request::Rollback => Request::Rollback,
         Request::ReadSerial(table) => Request::ReadSerial(*table),
         Request::SetSerial(table, next) => Request::SetSerial(*table, *next),
-    }
+    })
 }
 
 /// A copy of an order.
@@ -126,7 +127,7 @@ pub(crate) fn copied_order(order: &Order) -> Result<Order, NoMemory>
     ensures { IfOk result (λ copy. copy ≡ order.now) }
 {
     let body = match &order.body {
-        OrderBody::Statement(work) => OrderBody::Statement(*work),
+        OrderBody::Statement(work) => OrderBody::Statement(work_copied(work)?),
         OrderBody::Begin => OrderBody::Begin,
         OrderBody::Commit => OrderBody::Commit,
         OrderBody::Rollback => OrderBody::Rollback,
@@ -150,8 +151,8 @@ pub(crate) fn machine(alloc: Global, core: &Core) -> Result<Machine, Fault>
     ensures { IfOk result (λ m. m ≡ machine_in core.now) }
 {
     let at = core.standing();
-    let point = point(at.answers.as_slice(), &at.due)?;
     let heard = copied(alloc, at.answers.as_slice())?;
+    let point = point(at.answers.as_slice(), &at.due)?;
     Ok(Machine {
         session: Session {
             id: at.id,

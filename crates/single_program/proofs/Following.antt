@@ -1,6 +1,10 @@
 -- The parts of a step lead where the definitions say.
-use Rattle.std.proofs.Common.{◌≡◌, ℕ, Bool, true, false, List, length, refl, sym, ap, ◌∙◌, inl, inr}
+use Rattle.std.proofs.Common.{◌≡◌, ℕ, zero, suc, Bool, true, false, List, length, refl, sym, ap, ◌∙◌, subst, inl, inr}
 use Rattle.std.specs.Prelude.{Option, None, if◌then◌else◌, not, ◌&&◌}
+use Rattle.std.proofs.Math.Logic.{∥∥₁_elim}
+use mathlib.Core.Bool.{Bool-set}
+use Rattle.pool_base.specs.declared.code.Code.{Code}
+use Rattle.schema.specs.declared.catalogue.TableDef.{TableDef}
 use Rattle.std.proofs.lemmas.Bool.Decides.{eqb_tells}
 use Rattle.pool_base.specs.declared.gate_call.GateCall.{GateCall}
 use Rattle.pool_base.specs.declared.gate_call.GateCall.TheVariants as calls
@@ -15,10 +19,13 @@ use Rattle.one_copy_model.specs.declared.event.Event.{Event}
 use Rattle.one_copy_model.specs.declared.event.Event.TheVariants.{Of, Act, Lost}
 use Rattle.one_copy_model.specs.declared.deed.Entry.{Entry}
 use Rattle.one_copy_model.specs.World.{World, MayHappen, after}
-use Rattle.one_copy_model.specs.SingleRun.{store_after}
+use Rattle.one_copy_model.specs.declared.deed.Deed.{Deed}
+use Rattle.one_copy_model.specs.SingleRun.{store_after, IsRun}
+use Rattle.one_copy_model.specs.Places.{place_of, opening_of, refused_opening, code_in}
 use Rattle.one_copy_model.specs.Deaths.{is_live, is_alive, death_in, stage_at, recorded, fell, fallen}
-use Rattle.one_copy_model.specs.Tracking.{Told, Tracked, history_after, orders_after, done_after, tracked_after, attached_in, joined, done_of, done_called, nobody}
-use Rattle.single_program.specs.Steps.{enters, enters_commit, placed_by, told_by, done_by}
+use Rattle.one_copy_model.specs.Tracking.{Told, Tracked, with_code, opened_if, placed, history_after, orders_after, done_after, tracked_after, attached_in, joined, done_of, done_called, nobody}
+use Rattle.run_program.proofs.Stepping.{recorded_run}
+use Rattle.single_program.specs.Steps.{opened_at, placed_of, enters, enters_commit, placed_by, told_by, done_by}
 
 -- no session attaches a backend
 never_attaches : (m : Machine) (event : SessionEvent) → MachineMay m event → attached_in event ≡ None
@@ -115,6 +122,84 @@ kept_is done s event is =
     sym (ap (with_at done s) (of_event event (done s) ∙ ap (λ b. if b then nobody else done s) is) ∙ (λ i o. same_at done s o i))
 
 -- the number 0 has no transaction, so it does not die
-pub nobody_falls : (w : World) (s : ℕ) (history : List Entry) → is_live ((store_after history).transaction s) ≡ false → fell w s history ≡ history
+pub nobody_falls : (w : World) (s : ℕ) (history : List Entry) → is_live ((store_after w.tables history).transaction s) ≡ false → fell w s history ≡ history
 nobody_falls w s history none =
     ap (λ t. if t && not (is_alive w s) then recorded s (death_in w s (stage_at (w.machine s).point)) history else history) none
+
+-- the same tables have the same run
+pub lives_alike : (one other : List TableDef) (history : List Entry) (s : ℕ) → ∥ one ≡ other ∥₁
+    → is_live ((store_after one history).transaction s) ≡ is_live ((store_after other history).transaction s)
+lives_alike one other history s same =
+    ∥∥₁_elim same (Bool-set _ _) (λ e. ap (λ (tables : List TableDef). is_live ((store_after tables history).transaction s)) e)
+
+-- an event leaves the tables
+pub same_tables : (w : World) (e : Event) → (after w e).tables ≡ w.tables
+same_tables w (Of s event) = refl
+same_tables w (Act s b answer) = refl
+same_tables w (Lost b) = refl
+
+-- the entries of an event of a session
+pub placed_live : (w : World) (s : ℕ) (event : SessionEvent) (history : List Entry) (m : Machine) (live : Bool) (deeds slice : List Deed) → slice ≡ deeds
+    → deeds ≡ place_of m.session m.point event → m ≡ w.machine s → live ≡ is_live ((store_after w.tables history).transaction s) → live ≡ true
+    → recorded s slice history ≡ placed_of w s event history
+placed_live w s event history m live deeds slice a b c d e =
+    ap (λ (ds : List Deed). recorded s ds history) (a ∙ (b ∙ ap (λ (x : Machine). place_of x.session x.point event) c))
+    ∙ sym (ap (λ (t : Bool). placed t w s (w.machine s) event history) (sym d ∙ e))
+
+pub opened_now : (w : World) (s : ℕ) (event : SessionEvent) (deeds : List Deed) (history : List Entry) (m : Machine) (code : Option Code) (coded : List Entry)
+    (opening slice : List Deed) (alive : Bool)
+    → m ≡ w.machine s → code ≡ code_in deeds → coded ≡ with_code s code history → slice ≡ opening → opening ≡ opening_of m.point event → alive ≡ is_alive w s
+    → opened_if alive s slice coded ≡ opened_if (is_alive w s) s (opening_of (w.machine s).point event) (with_code s (code_in deeds) history)
+opened_now w s event deeds history m code coded opening slice alive a b c d e f =
+    ap (λ (t : Bool). opened_if t s slice coded) f
+    ∙ (ap (λ (ds : List Deed). opened_if (is_alive w s) s ds coded) (d ∙ (e ∙ ap (λ (x : Machine). opening_of x.point event) a))
+    ∙ ap (opened_if (is_alive w s) s (opening_of (w.machine s).point event)) (c ∙ ap (λ (x : Option Code). with_code s x history) b))
+
+pub opened_is : (w : World) (s : ℕ) (event : SessionEvent) (deeds : List Deed) (history : List Entry) (m : Machine) (code : Option Code) (coded : List Entry)
+    (opening slice : List Deed) (alive : Bool) (opened : List Entry) (refusals refused : List Deed)
+    → m ≡ w.machine s → code ≡ code_in deeds → coded ≡ with_code s code history → slice ≡ opening → opening ≡ opening_of m.point event → alive ≡ is_alive w s
+    → opened ≡ opened_if alive s slice coded → refused ≡ refusals → refusals ≡ refused_opening m.session m.point event
+    → recorded s refused opened ≡ opened_at w s event deeds history
+opened_is w s event deeds history m code coded opening slice alive opened refusals refused a b c d e f g h k =
+    ap (λ (ds : List Deed). recorded s ds opened) (h ∙ (k ∙ ap (λ (x : Machine). refused_opening x.session x.point event) a))
+    ∙ ap (recorded s (refused_opening (w.machine s).session (w.machine s).point event))
+    (g ∙ opened_now w s event deeds history m code coded opening slice alive a b c d e f)
+
+-- the deaths
+pub fell_is : (w : World) (s : ℕ) (history : List Entry) (m : Machine) (falls : Bool) (deeds slice : List Deed) → slice ≡ deeds → deeds ≡ death_in w s (stage_at m.point) → m ≡ w.machine s
+    → falls ≡ (is_live ((store_after w.tables history).transaction s) && not (is_alive w s)) → falls ≡ true → recorded s slice history ≡ fell w s history
+fell_is w s history m falls deeds slice a b c d e =
+    ap (λ (ds : List Deed). recorded s ds history) (a ∙ (b ∙ ap (λ (x : Machine). death_in w s (stage_at x.point)) c))
+    ∙ sym (ap (λ (t : Bool). if t then recorded s (death_in w s (stage_at (w.machine s).point)) history else history) (sym d ∙ e))
+
+pub stays_is : (w : World) (s : ℕ) (history : List Entry) (falls : Bool) → falls ≡ (is_live ((store_after w.tables history).transaction s) && not (is_alive w s)) → falls ≡ false
+    → history ≡ fell w s history
+stays_is w s history falls d e =
+    sym (ap (λ (t : Bool). if t then recorded s (death_in w s (stage_at (w.machine s).point)) history else history) (sym d ∙ e))
+
+-- what a run has before an event's entries is a run
+pub fell_run : (tables : List TableDef) (w : World) (s : ℕ) (history : List Entry) → IsRun tables (fell w s history) → IsRun tables history
+fell_run tables w s history run = go (is_live ((store_after w.tables history).transaction s) && not (is_alive w s)) run
+  where
+    go : (t : Bool) → IsRun tables (if t then recorded s (death_in w s (stage_at (w.machine s).point)) history else history) → IsRun tables history
+    go true r = recorded_run tables s (death_in w s (stage_at (w.machine s).point)) history r
+    go false r = r
+
+fallen_run : (tables : List TableDef) (w : World) (history : List Entry) (n : ℕ) → IsRun tables (fallen w history n) → IsRun tables history
+unfolding fallen
+fallen_run tables w history zero run = run
+fallen_run tables w history (suc n) run = fallen_run tables w history n (fell_run tables w n (fallen w history n) run)
+
+pub placed_run : (tables : List TableDef) (t : Tracked) (e : Event) → IsRun tables (tracked_after t e).history → IsRun tables (placed_by t.world e t.history)
+placed_run tables t e run =
+    fallen_run tables (after t.world e) (placed_by t.world e t.history) 65
+    (subst (λ (history : List Entry). IsRun tables history) (history_is t e (after t.world e)) run)
+
+pub fallen_is_run : (tables other : List TableDef) (t : Tracked) (e : Event) (world : World) (placed : List Entry) → other ≡ tables → world ≡ after t.world e → placed ≡ placed_by t.world e t.history
+    → IsRun tables (tracked_after t e).history → IsRun other (fallen world placed 65)
+fallen_is_run tables other t e world placed a b c run =
+    subst (λ (ts : List TableDef). IsRun ts (fallen world placed 65)) (sym a)
+    (subst (λ (history : List Entry). IsRun tables history)
+    (history_is t e (after t.world e)
+    ∙ (ap (λ (w : World). fallen w (placed_by t.world e t.history) 65) (sym b) ∙ ap (λ (history : List Entry). fallen world history 65) (sym c)))
+    run)

@@ -2,3 +2,4 @@ pub mod Setting
 pub mod Following
 pub mod Rightness
 pub mod Counting
+pub mod Refusing

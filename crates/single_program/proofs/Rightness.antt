@@ -10,8 +10,8 @@ use Rattle.session_machine.specs.declared.order.OrderBody.{OrderBody}
 use Rattle.session_machine.specs.declared.order.OrderBody.TheVariants as orders
 use Rattle.session_machine.specs.declared.outcome.Outcome.{Outcome}
 use Rattle.session_machine.specs.declared.outcome.Outcome.TheVariants as outcomes
-use Rattle.session_machine.specs.Rules.{error_of, is_moment}
-use Rattle.session_program.proofs.Same.{outcome_told}
+use Rattle.session_machine.specs.Rules.{error_of, is_moment, work_at}
+use Rattle.session_machine.proofs.Same.{outcome_told}
 use Rattle.one_copy_model.specs.World.{World}
 use Rattle.one_copy_model.specs.Deaths.{is_live}
 use Rattle.one_copy_model.specs.Tracking.{Told, Tracked, single}
@@ -27,7 +27,7 @@ moment_told true work = (λ e. absurd (cc), λ e. absurd (cc))
 moment_told false work = (λ e. refl, λ e. refl)
 
 unwritten_told : (told : Told) (body : OrderBody) → Tells (is_unwritten told body) (IsUnwritten told body)
-unwritten_told told (orders.Statement work) = moment_told (is_moment told.moment) work
+unwritten_told told (orders.Statement work) = moment_told (is_moment told.moment) (work_at told.moment work)
 unwritten_told told orders.Begin = never _ (λ h. h)
 unwritten_told told orders.Commit = never _ (λ h. h)
 unwritten_told told orders.Rollback = never _ (λ h. h)

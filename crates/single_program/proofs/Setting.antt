@@ -3,7 +3,7 @@ use Rattle.std.proofs.Common.{◌≡◌, ◌<◌, ℕ, zero, suc, true, false, L
 use Rattle.std.specs.Prelude.{Option, Some, None, slice_get, slice_set, if◌then◌else◌}
 use Rattle.std.proofs.lemmas.Bool.Decides.{eqb_tells}
 use Rattle.plain_store.specs.Blanks.{AllAre}
-use Rattle.plain_store.proofs.StepLaws.{set_same, set_other}
+use Rattle.world_program.proofs.Stepping.{set_same, set_other}
 use Rattle.pool_base.specs.declared.backend_id.BackendId.{BackendId}
 use Rattle.backend_trait.specs.Rows.{with_at}
 use Rattle.run_program.specs.declared.data.Told.{Told as Kept}

@@ -2,3 +2,4 @@ pub mod Meaning
 pub mod Steps
 pub mod Answers
 pub mod Judging
+pub mod Faults

@@ -25,7 +25,7 @@ opened_at w s event deeds history =
 
 -- the entries that an event of a session adds, and those of every event, before the deaths
 abbrev pub placed_of : World → ℕ → SessionEvent → List Entry → List Entry
-placed_of w s event history = placed (is_live ((store_after history).transaction s)) w s (w.machine s) event history
+placed_of w s event history = placed (is_live ((store_after w.tables history).transaction s)) w s (w.machine s) event history
 
 abbrev pub placed_by : World → Event → List Entry → List Entry
 placed_by w (Of s event) history = placed_of w s.number event history

@@ -4,10 +4,12 @@ ghost use Rattle.plain_store.specs.Meaning.{transaction_of, store_of};
 ghost use Rattle.world_program.specs.Meaning.{world_of};
 ghost use Rattle.one_copy_model.specs.Deaths.{is_live, is_alive_at, is_alive};
 ghost use Rattle.one_copy_model.specs.Numbers.{some_below};
+ghost use Rattle.one_copy_model.specs.SingleRun.{store_after};
 
 use crate::seeing::store;
 use plain_store::{Database, Phase};
 use pool_base::{BackendId, SessionId};
+use run_program::{Run, has_live};
 use world_program::Replicas;
 
 fn is_alive_phase(phase: &Phase) -> bool
@@ -41,6 +43,15 @@ fn alive_below(w: &Replicas, s: SessionId, n: u8) -> bool
         return false;
     }
     is_alive_at(w, s, BackendId { number: n - 1 }) || alive_below(w, s, n - 1)
+}
+
+/// Whether a session has a live transaction in the single run of a world.
+pub(crate) fn lives(w: &Replicas, run: &Run, s: SessionId) -> bool
+    requires { ∥ run.now.store.catalogue ≡ w.now.catalogue ∥₁ }
+    ensures { result ≡ is_live
+        ((store_after (world_of w.now).tables run.now.entries).transaction s.number) }
+{
+    has_live(run, s)
 }
 
 /// Whether a session's transaction is alive at an attached backend.

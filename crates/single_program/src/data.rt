@@ -15,4 +15,6 @@ pub struct Track {
     pub done: Vec<List<BackendId>>,
     ghost ordered: { length orders.items ≡ 65 },
     ghost counted: { length done.items ≡ 65 },
+    // The single store has the tables of the world.
+    ghost alike: { ∥ run.store.catalogue ≡ world.catalogue ∥₁ },
 }

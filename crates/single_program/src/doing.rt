@@ -38,7 +38,7 @@ fn told(
 {
     let old = mem::replace(&mut orders[s.number as usize], None);
     let new = told_after(&machine(w, s).session, entries, event, old)?;
-    orders[s.number as usize] = new;
+    drop(mem::replace(&mut orders[s.number as usize], new));
     Ok(orders)
 }
 

@@ -1,16 +1,18 @@
 //! The deaths behind an event.
-ghost use Rattle.std.specs.Prelude.{◌≡◌, ◌<◌, ◌≤◌, ◌∷◌, [], None, Some, IfOk};
+ghost use Rattle.std.specs.Prelude.{◌≡◌, ◌<◌, ◌≤◌, ◌∷◌, [], ◌&&◌, not, None, Some, Err, IfOk};
+ghost use Rattle.one_copy_model.specs.SingleRun.{IsRun, store_after};
 ghost use Rattle.one_copy_model.specs.declared.deed.Deed.TheVariants.{Falls};
 ghost use Rattle.world_program.specs.Meaning.{world_of};
-ghost use Rattle.one_copy_model.specs.Deaths.{stage_at, heard_from, answer_from, code_from, code_of_lowest, death_of, death_in, fell, fallen};
+ghost use Rattle.one_copy_model.specs.Deaths.{is_live, is_alive, stage_at, heard_from, answer_from, code_from, code_of_lowest, death_of, death_in, fell, fallen};
 
-use crate::alive::is_alive;
+use crate::alive::{is_alive, lives};
 use crate::seeing::{machine, mail};
 use backend_trait::{Answer, Request};
 use one_copy_model::Deed;
 use pool_base::{BackendId, Code, List, NoMemory, SessionId};
-use run_program::{Run, has_live, recorded};
+use run_program::{Run, RunFault, recorded};
 use session_machine::{Heard, Point, Stage, Work, lowest, refusal_of};
+use sql_copies::checked_copied;
 use std::alloc::Global;
 use world_program::Replicas;
 
@@ -63,7 +65,7 @@ fn death_of(alloc: Global, work: &Work, code: Option<Code>) -> Result<List<Deed>
     };
     let mut deeds = List::new(alloc);
     deeds.push(Deed::Gets(Answer::Locked))?;
-    deeds.push(Deed::Asks(Request::Run(work.statement)))?;
+    deeds.push(Deed::Asks(Request::Run(checked_copied(&work.statement)?)))?;
     deeds.push(Deed::Falls(Some(code)))?;
     Ok(deeds)
 }
@@ -112,21 +114,39 @@ fn death_at(w: &Replicas, s: SessionId, point: &Point) -> Result<List<Deed>, NoM
     }
 }
 
-/// A session whose transaction is alive at no attached backend any more.
-fn fell(w: &Replicas, run: Run, s: SessionId) -> Result<Run, NoMemory>
-    ensures { IfOk result (λ new. new.entries ≡ fell (world_of w.now) s.number run.entries) }
+/// Whether a session's transaction is alive in the run, and at no attached backend any more.
+fn falls(w: &Replicas, run: &Run, s: SessionId) -> bool
+    requires { ∥ run.now.store.catalogue ≡ w.now.catalogue ∥₁ }
+    ensures { result ≡ (is_live ((store_after (world_of w.now).tables run.now.entries).transaction
+        s.number) && not (is_alive (world_of w.now) s.number)) }
 {
-    if has_live(&run, s) && !is_alive(w, s) {
-        let deeds = death_at(w, s, &machine(w, s).point)?;
-        return recorded(run, s, deeds.as_slice());
+    lives(w, run, s) && !is_alive(w, s)
+}
+
+/// A session whose transaction is alive at no attached backend any more.
+fn fell(w: &Replicas, run: Run, s: SessionId) -> Result<Run, RunFault>
+    requires { ∥ run.store.catalogue ≡ w.now.catalogue ∥₁ }
+    ensures entries { IfOk result (λ new. new.entries
+        ≡ fell (world_of w.now) s.number run.entries) }
+    ensures tables { IfOk result (λ new. new.store.catalogue ≡ run.store.catalogue) }
+    ensures refused { result ≡ Err RunFault.NotAdmitted → ¬ (IsRun run.store.catalogue
+        (fell (world_of w.now) s.number run.entries)) }
+{
+    if !falls(w, &run, s) {
+        return Ok(run);
     }
-    Ok(run)
+    let deeds = death_at(w, s, &machine(w, s).point)?;
+    recorded(run, s, deeds.as_slice())
 }
 
 /// The same of a number: no session has the number 0.
-fn fell_at(w: &Replicas, run: Run, n: u32) -> Result<Run, NoMemory>
-    requires { n < 65 }
-    ensures { IfOk result (λ new. new.entries ≡ fell (world_of w.now) n run.entries) }
+fn fell_at(w: &Replicas, run: Run, n: u32) -> Result<Run, RunFault>
+    requires below { n < 65 }
+    requires alike { ∥ run.store.catalogue ≡ w.now.catalogue ∥₁ }
+    ensures entries { IfOk result (λ new. new.entries ≡ fell (world_of w.now) n run.entries) }
+    ensures tables { IfOk result (λ new. new.store.catalogue ≡ run.store.catalogue) }
+    ensures refused { result ≡ Err RunFault.NotAdmitted → ¬ (IsRun run.store.catalogue
+        (fell (world_of w.now) n run.entries)) }
 {
     match SessionId::from_number(n) {
         Some(s) => fell(w, run, s),
@@ -134,9 +154,13 @@ fn fell_at(w: &Replicas, run: Run, n: u32) -> Result<Run, NoMemory>
     }
 }
 
-fn fallen_below(w: &Replicas, run: Run, n: u32) -> Result<Run, NoMemory>
-    requires { n ≤ 65 }
-    ensures { IfOk result (λ new. new.entries ≡ fallen (world_of w.now) run.entries n) }
+fn fallen_below(w: &Replicas, run: Run, n: u32) -> Result<Run, RunFault>
+    requires below { n ≤ 65 }
+    requires alike { ∥ run.store.catalogue ≡ w.now.catalogue ∥₁ }
+    ensures entries { IfOk result (λ new. new.entries ≡ fallen (world_of w.now) run.entries n) }
+    ensures tables { IfOk result (λ new. new.store.catalogue ≡ run.store.catalogue) }
+    ensures refused { result ≡ Err RunFault.NotAdmitted → ¬ (IsRun run.store.catalogue
+        (fallen (world_of w.now) run.entries n)) }
 {
     if n == 0 {
         return Ok(run);
@@ -146,8 +170,12 @@ fn fallen_below(w: &Replicas, run: Run, n: u32) -> Result<Run, NoMemory>
 }
 
 /// The run with the deaths that stand behind an event, by rising number.
-pub(crate) fn fallen(w: &Replicas, run: Run) -> Result<Run, NoMemory>
-    ensures { IfOk result (λ new. new.entries ≡ fallen (world_of w.now) run.entries 65) }
+pub(crate) fn fallen(w: &Replicas, run: Run) -> Result<Run, RunFault>
+    requires { ∥ run.store.catalogue ≡ w.now.catalogue ∥₁ }
+    ensures entries { IfOk result (λ new. new.entries ≡ fallen (world_of w.now) run.entries 65) }
+    ensures tables { IfOk result (λ new. new.store.catalogue ≡ run.store.catalogue) }
+    ensures refused { result ≡ Err RunFault.NotAdmitted → ¬ (IsRun run.store.catalogue
+        (fallen (world_of w.now) run.entries 65)) }
 {
     fallen_below(w, run, 65)
 }

@@ -10,11 +10,12 @@ ghost use Rattle.run_program.specs.Meaning.{told_of};
 ghost use Rattle.single_program.specs.Meaning.{tracked_of};
 ghost use Rattle.single_program.specs.Judging.{is_given, is_unwritten, is_refused, is_list, is_error, is_own};
 
+use crate::alive::lives;
 use crate::answering::given_to;
 use crate::data::Track;
 use crate::seeing::machine;
 use pool_base::{BackendSet, Code, NoMemory, SessionId, Text};
-use run_program::{Told, has_live};
+use run_program::Told;
 use session_machine::{
     OrderBody, Outcome, counts_spent, is_moment, moment_out_of_range, no_backend,
 };
@@ -148,7 +149,7 @@ fn is_right(t: &Track, s: SessionId, told: &Told, outcome: &Outcome) -> Result<b
     let alloc = *t.orders.allocator();
     let nobody = is_nobody(&t.world);
     let shown = machine(&t.world, s).session.view.attached;
-    let live = has_live(&t.run, s);
+    let live = lives(&t.world, &t.run, s);
     let own = is_own(alloc, nobody, shown, told, live, outcome)?;
     Ok(is_given_or_own(&given, own, outcome))
 }

@@ -7,6 +7,7 @@ mod answering;
 mod data;
 mod doing;
 mod falling;
+mod fault;
 mod first;
 mod judging;
 mod placing;
@@ -15,5 +16,6 @@ mod stepping;
 
 pub use answering::{given, has_done};
 pub use data::Track;
+pub use fault::TrackFault;
 pub use judging::is_reply;
 pub use stepping::after;

@@ -4,6 +4,7 @@
 mod lines;
 mod playing;
 mod runs;
+mod serial;
 mod words;
 
 use lines::Line;
@@ -98,6 +99,7 @@ fn first_updater_wins(alloc: Global, attached: u8) -> Result<bool, NoMemory> {
         ],
         replies: (5, 0),
         keys: (true, false),
+        next: 1,
     };
     leads(alloc, schedule)
 }
@@ -134,6 +136,7 @@ fn a_death_has_its_reason_later(rt: HostRuntime) {
         ],
         replies: (4, 0),
         keys: (true, false),
+        next: 1,
     };
     assert!(rt; leads(rt.alloc(), schedule) == Ok(true));
 }
@@ -176,6 +179,7 @@ fn a_rollback_lets_the_second_go_on(rt: HostRuntime) {
         ],
         replies: (5, 0),
         keys: (false, false),
+        next: 1,
     };
     assert!(rt; leads(rt.alloc(), schedule) == Ok(true));
 }
@@ -226,6 +230,7 @@ fn no_snapshot_is_taken_during_a_commit(rt: HostRuntime) {
         ],
         replies: (4, 0),
         keys: (false, true),
+        next: 1,
     };
     assert!(rt; leads(rt.alloc(), schedule) == Ok(true));
 }
@@ -267,6 +272,7 @@ fn write_skew_is_allowed(rt: HostRuntime) {
         history: &SKEWED,
         replies: (8, 0),
         keys: (true, true),
+        next: 1,
     };
     assert!(rt; leads(rt.alloc(), schedule) == Ok(true));
 }
@@ -336,50 +342,7 @@ fn a_failover_hands_the_lock_on(rt: HostRuntime) {
         ],
         replies: (5, 0),
         keys: (true, false),
-    };
-    assert!(rt; leads(rt.alloc(), schedule) == Ok(true));
-}
-
-/// Session 1 has committed key 1, and session 2 inserts it again as a serial insert.
-const INSERTED_AGAIN: [Line; 10] = [
-    Line::Begin(S1),
-    Line::Order(S1, Want::Insert(1)),
-    Line::Open(S1),
-    Line::Insert(S1, 1),
-    Line::Commit(S1),
-    Line::Order(S2, Want::SerialInsert(1)),
-    Line::Open(S2),
-    Line::Look(S2),
-    Line::Down(S2, Ask::Lock, Say::Locked),
-    Line::Down(S2, Ask::Insert(1), Say::Refused(DUPLICATE)),
-];
-
-#[test]
-fn a_refused_serial_insert_has_its_lock_and_its_run(rt: HostRuntime) {
-    let schedule = Schedule {
-        attached: 3,
-        start: &INSERTED_AGAIN,
-        rest: &[Line::Fail(S2, DUPLICATE, Status::Idle)],
-        wrong: &[
-            Line::Done(S2, Tag::Insert(1), Status::Idle),
-            Line::Error(S2, STALE, Status::Idle),
-        ],
-        history: &[
-            (1, SNAPSHOT),
-            (1, BEGAN),
-            (1, FIRST),
-            (1, ONE),
-            (1, COMMIT),
-            (1, DONE),
-            (2, SNAPSHOT),
-            (2, BEGAN),
-            (2, Did::Asked(Ask::Lock)),
-            (2, Did::Got(Say::Locked)),
-            (2, FIRST),
-            (2, Did::Died(Some(DUPLICATE))),
-        ],
-        replies: (4, 0),
-        keys: (true, false),
+        next: 1,
     };
     assert!(rt; leads(rt.alloc(), schedule) == Ok(true));
 }
@@ -402,6 +365,7 @@ fn a_refusal_for_want_of_backends_is_the_pools_own(rt: HostRuntime) {
         history: &[],
         replies: (0, 1),
         keys: (false, false),
+        next: 1,
     };
     assert!(rt; leads(rt.alloc(), schedule) == Ok(true));
 }
@@ -455,6 +419,7 @@ fn of_two_that_wait_for_one_another_one_is_refused(rt: HostRuntime) {
         history: &ONE_REFUSED,
         replies: (5, 0),
         keys: (false, false),
+        next: 1,
     };
     assert!(rt; leads(rt.alloc(), schedule) == Ok(true));
 }
@@ -498,6 +463,7 @@ fn the_other_of_the_two_goes_on(rt: HostRuntime) {
         history: &OTHER_GOES_ON,
         replies: (7, 0),
         keys: (true, true),
+        next: 1,
     };
     assert!(rt; leads(rt.alloc(), schedule) == Ok(true));
 }
@@ -541,6 +507,7 @@ fn a_commit_that_loses_its_backends_is_in_the_run(rt: HostRuntime) {
         ],
         replies: (2, 0),
         keys: (true, false),
+        next: 1,
     };
     assert!(rt; leads(rt.alloc(), schedule) == Ok(true));
 }

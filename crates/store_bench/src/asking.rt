@@ -20,10 +20,14 @@ fn is_grant(polled: &Polled) -> bool
 /// The session asks, and looks once: whether its request is granted.
 pub fn is_granted(store: &mut MemoryStore, s: SessionId, request: Request) -> bool {
     if !store.may_post(s, &request) {
+        drop(request);
         return false;
     }
     match store.post(s, request) {
-        Posted::NoMemory(_) => false,
+        Posted::NoMemory(request) => {
+            drop(request);
+            false
+        }
         Posted::Accepted => store.is_pending(s) && is_grant(&store.poll(s)),
     }
 }

@@ -1,12 +1,12 @@
 //! Whether what a store tells at a poll is what an honest and prompt one may tell.
-ghost use Rattle.std.specs.Prelude.{◌≡◌, ◌↔◌, IsTrue, codes};
-ghost use Rattle.backend_trait.specs.Acts.{IsOutOfMemory, IsDeadlock, IsPromptAnswer};
+ghost use Rattle.std.specs.Prelude.{◌≡◌, ◌↔◌, IfOk, IsTrue, codes};
+ghost use Rattle.backend_trait.specs.Acts.{IsOutOfMemory, IsDeadlock, IsPromptAnswer, IsPromptly};
 ghost use Rattle.plain_store.specs.Meaning.{store_of};
 ghost use Rattle.store_model.specs.Judging.{IsAnswer, IsWait, IsRight};
 
 use backend_trait::{Answer, Polled};
 use plain_store::{Database, is_held_up, is_in_cycle, may_act};
-use pool_base::{Code, SessionId};
+use pool_base::{Code, NoMemory, SessionId};
 
 fn is_deadlock_code(code: Code) -> bool
     ensures { IsTrue result ↔ (code.bytes ≡ codes "40P01") }
@@ -48,31 +48,45 @@ fn is_prompt_answer(answer: &Answer) -> bool
     }
 }
 
-/// Whether the answer is allowed: no want of memory, and a deadlock only of a cycle of waits.
-fn is_answer(store: &Database, s: SessionId, answer: &Answer) -> bool
-    ensures { IsTrue result ↔ IsAnswer (store_of store.now) s.number answer.now }
+/// Whether a prompt store gives the answer: not for want of memory, and a deadlock only of a cycle
+/// of waits.
+fn is_prompt(store: &Database, s: SessionId, answer: &Answer) -> Result<bool, NoMemory>
+    ensures { IfOk result (λ is. IsTrue is
+        ↔ IsPromptly (store_of store.now) s.number (Polled.Answered answer.now)) }
 {
-    may_act(store, s, answer)
-        && is_prompt_answer(answer)
-        && (!is_deadlock(answer) || is_in_cycle(store, s))
+    let cyclic = is_in_cycle(store, s)?;
+    Ok(is_prompt_answer(answer) && (!is_deadlock(answer) || cyclic))
+}
+
+/// Whether the answer is allowed, and a prompt store gives it.
+fn is_answer(store: &Database, s: SessionId, answer: &Answer) -> Result<bool, NoMemory>
+    ensures { IfOk result
+        (λ is. IsTrue is ↔ IsAnswer (store_of store.now) s.number answer.now) }
+{
+    let may = may_act(store, s, answer)?;
+    let prompt = is_prompt(store, s, answer)?;
+    Ok(may && prompt)
 }
 
 /// Whether the session's request has to wait, and closes no cycle of waits.
-fn is_wait(store: &Database, s: SessionId) -> bool
-    ensures { IsTrue result ↔ IsWait (store_of store.now) s.number }
+fn is_wait(store: &Database, s: SessionId) -> Result<bool, NoMemory>
+    ensures { IfOk result (λ is. IsTrue is ↔ IsWait (store_of store.now) s.number) }
 {
-    !store.is_lost && is_held_up(store, s) && !is_in_cycle(store, s)
+    let held_up = is_held_up(store, s)?;
+    let in_cycle = is_in_cycle(store, s)?;
+    Ok(!store.is_lost && held_up && !in_cycle)
 }
 
 /// Whether a store that means this may tell that: an answer that its table of answers allows, as a
 /// prompt one gives it; nothing yet where the request has to wait; and a loss where it is lost.
-pub fn is_right(store: &Database, s: SessionId, polled: &Polled) -> bool
-    ensures { IsTrue result ↔ IsRight (store_of store.now) s.number polled.now }
+pub fn is_right(store: &Database, s: SessionId, polled: &Polled) -> Result<bool, NoMemory>
+    ensures { IfOk result
+        (λ is. IsTrue is ↔ IsRight (store_of store.now) s.number polled.now) }
 {
     match polled {
         Polled::Answered(answer) => is_answer(store, s, answer),
         Polled::NotYet => is_wait(store, s),
-        Polled::Lost => store.is_lost,
-        Polled::NoMemory => false,
+        Polled::Lost => Ok(store.is_lost),
+        Polled::NoMemory => Ok(false),
     }
 }

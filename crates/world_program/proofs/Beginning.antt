@@ -8,7 +8,8 @@ use native.Mathlib.Bridge.{le_prop}
 use Rattle.pool_base.specs.declared.session_id.SessionId.{SessionId}
 use Rattle.pool_base.specs.declared.backend_set.BackendSet.{BackendSet}
 use Rattle.backend_trait.specs.declared.answer.Answer.{Answer}
-use Rattle.backend_trait.specs.Store.{blank}
+use Rattle.schema.specs.declared.catalogue.TableDef.{TableDef}
+use Rattle.backend_trait.specs.Store.{prepared}
 use Rattle.plain_store.specs.Blanks.{AllAre}
 use Rattle.session_machine.specs.declared.machine.ReadPolicy.{ReadPolicy}
 use Rattle.session_machine.specs.declared.machine.Machine.{Machine}
@@ -18,7 +19,7 @@ use Rattle.snapshot_gate.specs.Function.{first as first_gate}
 use Rattle.one_copy_model.specs.Numbers.{session_of}
 use Rattle.one_copy_model.specs.World.{first_world}
 use Rattle.world_program.specs.declared.data.Replica.{Replica}
-use Rattle.world_program.specs.First.{machines_below, IsBlank, AllBlank}
+use Rattle.world_program.specs.First.{machines_below, IsPrepared, ArePrepared}
 use Rattle.world_program.specs.Meaning.{machine_in, store_in, answer_at, mail_in, world_in}
 
 pub same_session : (a b : SessionId) → a.number ≡ b.number → a ≡ b
@@ -28,24 +29,24 @@ same_session a b e = λ i. record {
   up_to_64 = is_prop→PathP (λ j. e j ≤ 64) (λ j. le_prop) a.up_to_64 b.up_to_64 i;
 }
 
-pub blank_snoc : (rs : List Replica) (r : Replica) → AllBlank rs → IsBlank r → AllBlank (rs ++ r ∷ [])
-blank_snoc [] r all is = (is, tt)
-blank_snoc (x ∷ xs) r all is = (all.0, blank_snoc xs r all.1 is)
+pub prepared_snoc : (tables : List TableDef) (rs : List Replica) (r : Replica) → ArePrepared tables rs → IsPrepared tables r → ArePrepared tables (rs ++ r ∷ [])
+prepared_snoc tables [] r all is = (is, tt)
+prepared_snoc tables (x ∷ xs) r all is = (all.0, prepared_snoc tables xs r all.1 is)
 
 none_at : (xs : List (Option Answer)) (s : ℕ) → AllAre None xs → answer_at (slice_get xs s) ≡ None
 none_at [] s h = refl
 none_at (x ∷ xs) zero h = h.0
 none_at (x ∷ xs) (suc s) h = none_at xs s h.1
 
-store_at : (rs : List Replica) (b : ℕ) → AllBlank rs → store_in (slice_get rs b) ≡ blank
-store_at [] b h = refl
-store_at (r ∷ rs) zero h = h.0.store
-store_at (r ∷ rs) (suc b) h = store_at rs b h.1
+store_at : (tables : List TableDef) (rs : List Replica) (b : ℕ) → ArePrepared tables rs → store_in tables (slice_get rs b) ≡ prepared tables
+store_at tables [] b h = refl
+store_at tables (r ∷ rs) zero h = h.0.store
+store_at tables (r ∷ rs) (suc b) h = store_at tables rs b h.1
 
-mail_at : (rs : List Replica) (b s : ℕ) → AllBlank rs → mail_in (slice_get rs b) s ≡ None
-mail_at [] b s h = refl
-mail_at (r ∷ rs) zero s h = none_at r.mail.items s h.0.mail
-mail_at (r ∷ rs) (suc b) s h = mail_at rs b s h.1
+mail_at : (tables : List TableDef) (rs : List Replica) (b s : ℕ) → ArePrepared tables rs → mail_in (slice_get rs b) s ≡ None
+mail_at tables [] b s h = refl
+mail_at tables (r ∷ rs) zero s h = none_at r.mail.items s h.0.mail
+mail_at tables (r ∷ rs) (suc b) s h = mail_at tables rs b s h.1
 
 pub below_length : (policy : ReadPolicy) (n : ℕ) → length (machines_below policy n) ≡ n
 below_length policy zero = refl
@@ -79,12 +80,13 @@ machine_at policy n o = elim (leb_tells n o) [
   | inr q ↦ ap (machine_in policy o) (machine_below policy n o (let z : o < n = omega (arith, q.1) in z))
 ]
 
-pub first_is : (policy : ReadPolicy) (attached : BackendSet) (gate : GateState) (machines : List Machine) (backends : List Replica)
-    → gate ≡ first_gate attached → machines ≡ machines_below policy 65 → AllBlank backends
-    → world_in policy gate machines backends ≡ first_world policy attached
-first_is policy attached gate machines backends a b c = λ i. record {
+pub first_is : (tables : List TableDef) (policy : ReadPolicy) (attached : BackendSet) (gate : GateState) (machines : List Machine) (backends : List Replica)
+    → gate ≡ first_gate attached → machines ≡ machines_below policy 65 → ArePrepared tables backends
+    → world_in tables policy gate machines backends ≡ first_world tables policy attached
+first_is tables policy attached gate machines backends a b c = λ i. record {
+  tables = tables;
   gate = a i;
   machine = λ s. (ap (λ (ms : List Machine). machine_in policy s (slice_get ms s)) b ∙ machine_at policy 65 s) i;
-  store = λ k. store_at backends k c i;
-  mail = λ s k. mail_at backends k s c i;
+  store = λ k. store_at tables backends k c i;
+  mail = λ s k. mail_at tables backends k s c i;
 }

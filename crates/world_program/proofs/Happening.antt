@@ -1,12 +1,13 @@
 -- The tests of the program tell exactly which events may happen.
 use Rattle.std.proofs.Common.{◌≡◌, ◌<◌, ℕ, Bool, true, false, refl, sym, ap, ◌∙◌, subst, eqb-true, eq-eqb, ltb-true, lt-ltb}
-use Rattle.std.specs.Prelude.{◌&&◌, ◌==◌, nat_lt, not, is_some, Option, Some, None, slice_get}
+use Rattle.std.specs.Prelude.{◌&&◌, ◌==◌, nat_lt, not, is_some, List, Option, Some, None, slice_get}
 use Rattle.pool_base.specs.Sets.{has}
 use Rattle.pool_base.specs.declared.gate_call.View.{View}
 use Rattle.pool_base.specs.declared.gate_call.GateCall.{GateCall}
 use Rattle.pool_base.specs.declared.gate_call.GateCall.TheVariants as calls
 use Rattle.pool_base.specs.declared.gate_call.GateAnswer.{GateAnswer}
 use Rattle.pool_base.specs.declared.gate_call.GateAnswer.TheVariants.{Seen, Granted, Held, Spent}
+use Rattle.schema.specs.declared.catalogue.TableDef.{TableDef}
 use Rattle.backend_trait.specs.declared.request.Request.{Request}
 use Rattle.backend_trait.specs.declared.answer.Answer.{Answer}
 use Rattle.backend_trait.specs.Store.{Pending}
@@ -16,7 +17,7 @@ use Rattle.session_machine.specs.declared.action.SessionEvent.{SessionEvent}
 use Rattle.session_machine.specs.declared.action.SessionEvent.TheVariants as events
 use Rattle.session_machine.specs.declared.machine.Machine.{Machine}
 use Rattle.session_machine.specs.Allowed.{MayHappen as MachineMay}
-use Rattle.session_program.proofs.Same.{answer_told}
+use Rattle.session_machine.proofs.Same.{answer_told}
 use Rattle.session_program.proofs.Happening.{told}
 use Rattle.snapshot_gate.specs.declared.state.GateState.{GateState}
 use Rattle.snapshot_gate.specs.Function.{step, MayCall}
@@ -24,7 +25,7 @@ use Rattle.one_copy_model.specs.World.{GateGives, IsPending, Lets}
 use Rattle.world_program.specs.declared.data.Replica.{Replica}
 use Rattle.world_program.specs.declared.data.Replicas.{Replicas}
 use Rattle.world_program.specs.Meaning.{store_in, answer_at, mail_in, world_of}
-use Rattle.world_program.specs.Deciding.{may_call, same_view, same_gate, gate_gives, is_waiting, is_lost, is_answer, is_mailed, lets, machine_happens}
+use Rattle.world_program.specs.Deciding.{may_call, same_view, same_gate, gate_gives, is_waiting, is_lost, is_answer, is_mailed, lets, machine_happens, OrdersOf}
 
 -- The gate.
 
@@ -92,26 +93,27 @@ some_pending : (x : Option Request) (mark : Bool) → is_some (pending_of x mark
 some_pending None mark = refl
 some_pending (Some request) mark = refl
 
-waiting_is : (x : Option Replica) (s : ℕ) → is_some ((store_in x).pending s) ≡ is_waiting x s
-waiting_is None s = refl
-waiting_is (Some r) s = some_pending (request_at (slice_get r.store.requests.items s)) (mark_in (slice_get r.store.crossed.items s))
+waiting_is : (tables : List TableDef) (x : Option Replica) (s : ℕ) → is_some ((store_in tables x).pending s) ≡ is_waiting x s
+waiting_is tables None s = refl
+waiting_is tables (Some r) s = some_pending (request_at (slice_get r.store.requests.items s)) (mark_in (slice_get r.store.crossed.items s))
 
-waiting_told : (x : Option Replica) (s : ℕ) → Tells (is_waiting x s) (IsPending (store_in x) s)
-waiting_told x s = (λ e. waiting_is x s ∙ e, λ h. sym (waiting_is x s) ∙ h)
+waiting_told : (tables : List TableDef) (x : Option Replica) (s : ℕ) → Tells (is_waiting x s) (IsPending (store_in tables x) s)
+waiting_told tables x s = (λ e. waiting_is tables x s ∙ e, λ h. sym (waiting_is tables x s) ∙ h)
 
 none_or : (x : Option Pending) → Tells (not (is_some x)) (x ≡ None)
 none_or None = always _ refl
 none_or (Some p) = never _ (λ e. cc)
 
-idle_told : (x : Option Replica) (s : ℕ) → Tells (not (is_waiting x s)) ((store_in x).pending s ≡ None)
-idle_told x s = subst (λ (t : Bool). Tells (not t) ((store_in x).pending s ≡ None)) (waiting_is x s) (none_or ((store_in x).pending s))
+idle_told : (tables : List TableDef) (x : Option Replica) (s : ℕ) → Tells (not (is_waiting x s)) ((store_in tables x).pending s ≡ None)
+idle_told tables x s =
+    subst (λ (t : Bool). Tells (not t) ((store_in tables x).pending s ≡ None)) (waiting_is tables x s) (none_or ((store_in tables x).pending s))
 
-lost_is : (x : Option Replica) → (store_in x).lost ≡ is_lost x
-lost_is None = refl
-lost_is (Some r) = refl
+lost_is : (tables : List TableDef) (x : Option Replica) → (store_in tables x).lost ≡ is_lost x
+lost_is tables None = refl
+lost_is tables (Some r) = refl
 
-lost_told : (x : Option Replica) → Tells (is_lost x) ((store_in x).lost ≡ true)
-lost_told x = (λ e. lost_is x ∙ e, λ h. sym (lost_is x) ∙ h)
+lost_told : (tables : List TableDef) (x : Option Replica) → Tells (is_lost x) ((store_in tables x).lost ≡ true)
+lost_told tables x = (λ e. lost_is tables x ∙ e, λ h. sym (lost_is tables x) ∙ h)
 
 answers_told : (x : Option Answer) (answer : Answer) → Tells (is_answer x answer) (x ≡ Some answer)
 answers_told None answer = never _ (λ e. cc)
@@ -123,19 +125,33 @@ mailed_told (Some r) s answer = answers_told (answer_at (slice_get r.mail.items 
 
 -- An event of a session. A Swap is a recovery's, and none of a session's.
 
-pub session_told : (w : Replicas) (s : ℕ) (m : Machine) (event : SessionEvent) → Tells (machine_happens m event && lets w s event) (MachineMay m event × Lets (world_of w) s event)
-session_told w s m (events.Ordered order) = both_told _ _ _ _ (told m.session m.point (events.Ordered order)) (always _ tt)
-session_told w s m (events.Called call answer) =
-    both_told _ _ _ _ (told m.session m.point (events.Called call answer)) (gives_told w.gate.state call answer)
-session_told w s m (events.Posted b request) =
-    both_told _ _ _ _ (told m.session m.point (events.Posted b request)) (idle_told (slice_get w.backends.items b.number) s)
-session_told w s m (events.Taken b answer) =
-    both_told _ _ _ _ (told m.session m.point (events.Taken b answer)) (mailed_told (slice_get w.backends.items b.number) s answer)
-session_told w s m (events.Faulted b before more) =
-    both_told _ _ _ _ (told m.session m.point (events.Faulted b before more))
-    (both_told _ _ _ _ (lost_told (slice_get w.backends.items b.number)) (waiting_told (slice_get w.backends.items b.number) s))
-session_told w s m (events.Detached b cause answer) =
-    both_told _ _ _ _ (told m.session m.point (events.Detached b cause answer)) (gives_told w.gate.state (calls.Detach b) answer)
-session_told w s m (events.Swapped b) = never _ (λ h. h.0)
-session_told w s m (events.Replied outcome status) = both_told _ _ _ _ (told m.session m.point (events.Replied outcome status)) (always _ tt)
-session_told w s m events.Ended = both_told _ _ _ _ (told m.session m.point events.Ended) (always _ tt)
+with_unit : (t u : Bool) (P : Type 0) → Tells t (Unit {0}) → Tells u P → Tells (t && u) P
+with_unit t u P first second = told_as (t && u) (Unit {0} × P) P (both_told t u (Unit {0}) P first second) (λ h. h.1) (λ h. (tt, h))
+
+ordered_told : (t u : Bool) (P Q : Type 0) → Tells t P → Tells u Q → Tells (t && (u && true)) (Q × P)
+ordered_told t u P Q first second =
+    told_as (t && (u && true)) (P × (Q × Unit {0})) (Q × P) (both_told t (u && true) P (Q × Unit {0}) first (both_told u true Q (Unit {0}) second (always (Unit {0}) tt)))
+    (λ h. (h.1.0, h.0)) (λ h. (h.1, (h.0, tt)))
+
+pub session_told : (w : Replicas) (s : ℕ) (m : Machine) (event : SessionEvent) (orders : Bool) → Tells orders (OrdersOf w.catalogue event)
+    → Tells (orders && (machine_happens m event && lets w s event)) (MachineMay m event × Lets (world_of w) s event)
+session_told w s m (events.Ordered order) orders of = ordered_told orders _ _ _ of (told m.session m.point (events.Ordered order))
+session_told w s m (events.Called call answer) orders of =
+    with_unit orders _ _ of (both_told _ _ _ _ (told m.session m.point (events.Called call answer)) (gives_told w.gate.state call answer))
+session_told w s m (events.Posted b request) orders of =
+    with_unit orders _ _ of
+    (both_told _ _ _ _ (told m.session m.point (events.Posted b request)) (idle_told w.catalogue (slice_get w.backends.items b.number) s))
+session_told w s m (events.Taken b answer) orders of =
+    with_unit orders _ _ of
+    (both_told _ _ _ _ (told m.session m.point (events.Taken b answer)) (mailed_told (slice_get w.backends.items b.number) s answer))
+session_told w s m (events.Faulted b before more) orders of =
+    with_unit orders _ _ of
+    (both_told _ _ _ _ (told m.session m.point (events.Faulted b before more))
+    (both_told _ _ _ _ (lost_told w.catalogue (slice_get w.backends.items b.number)) (waiting_told w.catalogue (slice_get w.backends.items b.number) s)))
+session_told w s m (events.Detached b cause answer) orders of =
+    with_unit orders _ _ of
+    (both_told _ _ _ _ (told m.session m.point (events.Detached b cause answer)) (gives_told w.gate.state (calls.Detach b) answer))
+session_told w s m (events.Swapped b) orders of = with_unit orders _ _ of (never _ (λ h. h.0))
+session_told w s m (events.Replied outcome status) orders of =
+    with_unit orders _ _ of (both_told _ _ _ _ (told m.session m.point (events.Replied outcome status)) (always _ tt))
+session_told w s m events.Ended orders of = with_unit orders _ _ of (both_told _ _ _ _ (told m.session m.point events.Ended) (always _ tt))

@@ -1,11 +1,12 @@
 -- The tests by which the program decides whether an event may happen.
-use Rattle.std.specs.Prelude.{ℕ, Bool, true, false, not, ◌&&◌, ◌==◌, nat_lt, is_some, Option, Some, None, slice_get}
+use Rattle.std.specs.Prelude.{ℕ, Bool, true, false, not, ◌&&◌, ◌==◌, nat_lt, is_some, List, Option, Some, None, slice_get}
 use Rattle.pool_base.specs.Sets.{has}
 use Rattle.pool_base.specs.declared.gate_call.GateCall.{GateCall}
 use Rattle.pool_base.specs.declared.gate_call.GateCall.TheVariants as calls
 use Rattle.pool_base.specs.declared.gate_call.GateAnswer.{GateAnswer}
 use Rattle.pool_base.specs.declared.gate_call.GateAnswer.TheVariants.{Seen, Granted, Held, Spent}
 use Rattle.pool_base.specs.declared.gate_call.View.{View}
+use Rattle.schema.specs.declared.catalogue.TableDef.{TableDef}
 use Rattle.backend_trait.specs.declared.answer.Answer.{Answer}
 use Rattle.plain_store.specs.Meaning.{request_at}
 use Rattle.session_machine.specs.declared.action.SessionEvent.{SessionEvent}
@@ -15,6 +16,7 @@ use Rattle.session_machine.specs.Answers.{is_same}
 use Rattle.session_machine.specs.Deciding.{happens}
 use Rattle.snapshot_gate.specs.declared.state.GateState.{GateState}
 use Rattle.snapshot_gate.specs.Function.{step}
+use Rattle.one_copy_model.specs.World.{IsOrderable}
 use Rattle.world_program.specs.declared.data.Replica.{Replica}
 use Rattle.world_program.specs.declared.data.Replicas.{Replicas}
 use Rattle.world_program.specs.Meaning.{answer_at, machine_in}
@@ -75,6 +77,7 @@ abbrev pub is_mailed : Option Replica → ℕ → Answer → Bool
 is_mailed None s answer = false
 is_mailed (Some r) s answer = is_answer (answer_at (slice_get r.mail.items s)) answer
 
+-- what the gate and the backends say of an event of a session
 abbrev pub lets : Replicas → ℕ → SessionEvent → Bool
 lets w s (events.Ordered order) = true
 lets w s (events.Called call answer) = gate_gives w.gate.state call answer
@@ -89,6 +92,18 @@ lets w s events.Ended = true
 abbrev pub machine_happens : Machine → SessionEvent → Bool
 machine_happens m event = happens m.session m.point event
 
--- an event of a session
+-- what these and the machine of the session say
 abbrev pub at_session : Replicas → ℕ → SessionEvent → Bool
 at_session w s event = machine_happens (machine_in w.policy s (slice_get w.machines.items s)) event && lets w s event
+
+-- what is ordered, if anything is, is of the tables
+abbrev pub OrdersOf : List TableDef → SessionEvent → Type 0
+OrdersOf tables (events.Ordered order) = IsOrderable tables order.body
+OrdersOf tables (events.Called call answer) = Unit {0}
+OrdersOf tables (events.Posted b request) = Unit {0}
+OrdersOf tables (events.Taken b answer) = Unit {0}
+OrdersOf tables (events.Faulted b before more) = Unit {0}
+OrdersOf tables (events.Detached b cause answer) = Unit {0}
+OrdersOf tables (events.Swapped b) = Unit {0}
+OrdersOf tables (events.Replied outcome status) = Unit {0}
+OrdersOf tables events.Ended = Unit {0}

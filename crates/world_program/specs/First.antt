@@ -1,6 +1,7 @@
 -- The program's data before the first event.
 use Rattle.std.specs.Prelude.{◌≡◌, ℕ, zero, suc, List, [], ◌∷◌, ◌++◌, None}
-use Rattle.backend_trait.specs.Store.{blank}
+use Rattle.schema.specs.declared.catalogue.TableDef.{TableDef}
+use Rattle.backend_trait.specs.Store.{prepared}
 use Rattle.plain_store.specs.Blanks.{AllAre}
 use Rattle.plain_store.specs.Meaning.{store_of}
 use Rattle.session_machine.specs.declared.machine.ReadPolicy.{ReadPolicy}
@@ -15,10 +16,10 @@ machines_below policy zero = []
 machines_below policy (suc n) = machines_below policy n ++ new_machine (session_of n) policy ∷ []
 
 -- a backend that nobody has asked
-pub record IsBlank (r : Replica) : Type 0 where
-  pub store : store_of r.store ≡ blank
+pub record IsPrepared (tables : List TableDef) (r : Replica) : Type 0 where
+  pub store : store_of r.store ≡ prepared tables
   pub mail : AllAre None r.mail.items
 
-abbrev pub AllBlank : List Replica → Type 0
-AllBlank [] = Unit {0}
-AllBlank (r ∷ rs) = IsBlank r × AllBlank rs
+abbrev pub ArePrepared : List TableDef → List Replica → Type 0
+ArePrepared tables [] = Unit {0}
+ArePrepared tables (r ∷ rs) = IsPrepared tables r × ArePrepared tables rs

@@ -1,7 +1,8 @@
 -- The world that the program's data mean.
 use Rattle.std.specs.Prelude.{ℕ, List, Option, Some, None, slice_get}
+use Rattle.schema.specs.declared.catalogue.TableDef.{TableDef}
 use Rattle.backend_trait.specs.declared.answer.Answer.{Answer}
-use Rattle.backend_trait.specs.Store.{Store, blank}
+use Rattle.backend_trait.specs.Store.{Store, prepared}
 use Rattle.plain_store.specs.Meaning.{store_of}
 use Rattle.session_machine.specs.declared.machine.ReadPolicy.{ReadPolicy}
 use Rattle.session_machine.specs.declared.machine.Machine.{Machine}
@@ -16,9 +17,9 @@ abbrev pub machine_in : ReadPolicy → ℕ → Option Machine → Machine
 machine_in policy s None = new_machine (session_of s) policy
 machine_in policy s (Some m) = m
 
-abbrev pub store_in : Option Replica → Store
-store_in None = blank
-store_in (Some r) = store_of r.store
+abbrev pub store_in : List TableDef → Option Replica → Store
+store_in tables None = prepared tables
+store_in tables (Some r) = store_of r.store
 
 abbrev pub answer_at : Option (Option Answer) → Option Answer
 answer_at None = None
@@ -28,13 +29,14 @@ abbrev pub mail_in : Option Replica → ℕ → Option Answer
 mail_in None s = None
 mail_in (Some r) s = answer_at (slice_get r.mail.items s)
 
-abbrev pub world_in : ReadPolicy → GateState → List Machine → List Replica → World
-world_in policy gate machines backends = record {
+abbrev pub world_in : List TableDef → ReadPolicy → GateState → List Machine → List Replica → World
+world_in tables policy gate machines backends = record {
+  tables = tables;
   gate = gate;
   machine = λ s. machine_in policy s (slice_get machines s);
-  store = λ b. store_in (slice_get backends b);
+  store = λ b. store_in tables (slice_get backends b);
   mail = λ s b. mail_in (slice_get backends b) s;
 }
 
 abbrev pub world_of : Replicas → World
-world_of w = world_in w.policy w.gate.state w.machines.items w.backends.items
+world_of w = world_in w.catalogue w.policy w.gate.state w.machines.items w.backends.items

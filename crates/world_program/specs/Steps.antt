@@ -1,14 +1,17 @@
 -- What the functions of the program leave of the world.
-use Rattle.std.specs.Prelude.{ℕ, Option}
+use Rattle.std.specs.Prelude.{◌≡◌, ℕ, Option, None}
 use Rattle.pool_base.specs.declared.gate_call.GateCall.TheVariants as calls
 use Rattle.backend_trait.specs.declared.answer.Answer.{Answer}
 use Rattle.backend_trait.specs.Rows.{with_at}
-use Rattle.backend_trait.specs.Store.{Store}
+use Rattle.backend_trait.specs.declared.request.Request.{Request}
+use Rattle.backend_trait.specs.Store.{Store, MayPost}
 use Rattle.session_machine.specs.declared.action.SessionEvent.{SessionEvent}
 use Rattle.session_machine.specs.declared.action.SessionEvent.TheVariants as events
 use Rattle.session_machine.specs.declared.machine.Machine.{Machine}
 use Rattle.snapshot_gate.specs.declared.state.GateState.{GateState}
 use Rattle.snapshot_gate.specs.Function.{MayCall}
+use Rattle.one_copy_model.specs.declared.event.Event.{Event}
+use Rattle.one_copy_model.specs.declared.event.Event.TheVariants.{Of}
 use Rattle.one_copy_model.specs.World.{World, stores_after, mail_after, with_mail}
 
 abbrev pub with_gate : World → GateState → World
@@ -24,7 +27,7 @@ abbrev pub with_answer : World → ℕ → ℕ → Option Answer → World
 with_answer w s b answer = record w { mail = with_mail w.mail s b answer }
 
 abbrev pub with_backends : World → ℕ → SessionEvent → World
-with_backends w s event = record w { store = stores_after w.store s event; mail = mail_after w.mail s event }
+with_backends w s event = record w { store = stores_after w.tables w.store s event; mail = mail_after w.mail s event }
 
 -- a call that an event makes at the gate meets its condition
 abbrev pub MayMove : GateState → SessionEvent → Type 0
@@ -37,3 +40,24 @@ MayMove gate (events.Detached b cause answer) = MayCall gate (calls.Detach b)
 MayMove gate (events.Swapped b) = Unit {0}
 MayMove gate (events.Replied outcome status) = Unit {0}
 MayMove gate events.Ended = Unit {0}
+
+-- a Swap is a recovery's, and no event of a session's machine
+abbrev pub IsOfSession : SessionEvent → Type 0
+IsOfSession (events.Ordered order) = Unit {0}
+IsOfSession (events.Called call answer) = Unit {0}
+IsOfSession (events.Posted b request) = Unit {0}
+IsOfSession (events.Taken b answer) = Unit {0}
+IsOfSession (events.Faulted b before more) = Unit {0}
+IsOfSession (events.Detached b cause answer) = Unit {0}
+IsOfSession (events.Swapped b) = ⊥
+IsOfSession (events.Replied outcome status) = Unit {0}
+IsOfSession events.Ended = Unit {0}
+
+-- a post that a store admits
+abbrev pub IsAdmitted : Store → ℕ → Request → Type 0
+IsAdmitted st s request = (st.pending s ≡ None) × MayPost st s request
+
+-- a session posts what the store does not admit
+abbrev pub IsUnadmittedPost : World → Event → Type 0
+IsUnadmittedPost w (Of s (events.Posted b request)) = ¬ (IsAdmitted (w.store b.number) s.number request)
+IsUnadmittedPost w event = ⊥

@@ -1,7 +1,7 @@
 //! What the program keeps of the world.
 ghost use Rattle.std.specs.Prelude.{◌≡◌, length};
 
-use backend_trait::Answer;
+use backend_trait::{Answer, Catalogue};
 use plain_store::Database;
 use session_machine::{Machine, ReadPolicy};
 use snapshot_gate::Gate;
@@ -15,9 +15,11 @@ pub struct Replica {
     ghost mailed: { length mail.items ≡ 65 },
 }
 
-/// The world: the gate, the machine of each session by its number, and each backend by its number.
+/// The world: the tables, the gate, the machine of each session by its number, and each backend by
+/// its number.
 #[derive(Drop)]
 pub struct Replicas {
+    pub catalogue: Catalogue,
     pub policy: ReadPolicy,
     pub gate: Gate,
     pub machines: Vec<Machine>,

@@ -1,17 +1,20 @@
 //! The world before its first event.
 ghost use Rattle.std.specs.Prelude.{◌≡◌, ◌<◌, ◌-◌, suc, min, None, IfOk, length};
-ghost use Rattle.backend_trait.specs.Store.{blank};
+ghost use Rattle.backend_trait.specs.Store.{prepared};
+ghost use Rattle.schema_print.specs.Allowed.{AreAllowed};
+ghost use Rattle.schema_print.specs.Printed.{AreInRange};
 ghost use Rattle.plain_store.specs.Blanks.{AllAre};
 ghost use Rattle.plain_store.specs.Meaning.{store_of};
 ghost use Rattle.one_copy_model.specs.Numbers.{session_of};
-ghost use Rattle.world_program.specs.First.{AllBlank, machines_below};
+ghost use Rattle.world_program.specs.First.{ArePrepared, machines_below};
 
 use crate::data::{Replica, Replicas};
-use backend_trait::Answer;
+use backend_trait::{Answer, Catalogue};
 use plain_store::Database;
 use pool_base::{BackendSet, NoMemory, SessionId};
 use session_machine::{Machine, ReadPolicy};
 use snapshot_gate::Gate;
+use sql_copies::catalogue_copied;
 use std::alloc::Global;
 
 /// The number from 1 on that is nearest.
@@ -53,23 +56,27 @@ fn untaken(alloc: Global) -> Result<Vec<Option<Answer>>, NoMemory>
     Ok(all)
 }
 
-fn replica(alloc: Global) -> Result<Replica, NoMemory>
-    ensures store { IfOk result (λ r. store_of r.store ≡ blank) }
+fn replica(alloc: Global, tables: &Catalogue) -> Result<Replica, NoMemory>
+    requires in_range { AreInRange tables.now }
+    requires allowed { AreAllowed tables.now }
+    ensures store { IfOk result (λ r. store_of r.store ≡ prepared tables.now) }
     ensures mail { IfOk result (λ r. AllAre None r.mail.items) }
 {
     Ok(Replica {
-        store: Database::new(alloc)?,
+        store: Database::new(alloc, catalogue_copied(alloc, tables)?)?,
         mail: untaken(alloc)?,
     })
 }
 
-fn backends(alloc: Global) -> Result<Vec<Replica>, NoMemory>
+fn backends(alloc: Global, tables: &Catalogue) -> Result<Vec<Replica>, NoMemory>
+    requires in_range { AreInRange tables.now }
+    requires allowed { AreAllowed tables.now }
     ensures len { IfOk result (λ all. length all.items ≡ 8) }
-    ensures all { IfOk result (λ all. AllBlank all.items) }
+    ensures all { IfOk result (λ all. ArePrepared tables.now all.items) }
 {
     let mut all: Vec<Replica> = Vec::new(alloc);
     for _ in 0..8_usize {
-        all.push(replica(alloc)?)?;
+        all.push(replica(alloc, tables)?)?;
     }
     Ok(all)
 }
@@ -78,19 +85,24 @@ impl Replicas {
     ghost use Rattle.one_copy_model.specs.World.{first_world};
     ghost use Rattle.world_program.specs.Meaning.{world_of};
 
-    /// The world before its first event, where these backends are attached.
+    /// The world of these tables before its first event, where these backends are attached.
     pub fn new(
         alloc: Global,
+        catalogue: Catalogue,
         policy: ReadPolicy,
         attached: BackendSet,
     ) -> Result<Replicas, NoMemory>
-        ensures { IfOk result (λ w. world_of w ≡ first_world policy attached) }
+        requires in_range { AreInRange catalogue }
+        requires allowed { AreAllowed catalogue }
+        ensures { IfOk result (λ w. world_of w ≡ first_world catalogue policy attached) }
     {
+        let backends = backends(alloc, &catalogue)?;
         Ok(Replicas {
+            catalogue,
             policy,
             gate: Gate::new(attached),
             machines: machines(alloc, policy)?,
-            backends: backends(alloc)?,
+            backends,
         })
     }
 }

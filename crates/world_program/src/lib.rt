@@ -2,10 +2,12 @@
 #![tactic(auto)]
 
 mod data;
+mod fault;
 mod first;
 mod may;
 mod moving;
 
 pub use data::{Replica, Replicas};
+pub use fault::StepFault;
 pub use may::may_happen;
 pub use moving::step;

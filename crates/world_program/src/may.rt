@@ -1,17 +1,18 @@
 //! Which events may happen.
-ghost use Rattle.std.specs.Prelude.{◌≡◌, ◌↔◌, IsTrue, Some};
+ghost use Rattle.std.specs.Prelude.{◌≡◌, ◌↔◌, ◌&&◌, IfOk, IsTrue, Some};
 ghost use Rattle.snapshot_gate.specs.Function.{MayCall, step};
 ghost use Rattle.one_copy_model.specs.declared.event.Event.TheVariants as world_events;
-ghost use Rattle.one_copy_model.specs.World.{MayHappen};
+ghost use Rattle.one_copy_model.specs.World.{IsOfTables, IsOrderable, MayHappen};
 ghost use Rattle.world_program.specs.Meaning.{world_of};
-ghost use Rattle.world_program.specs.Deciding.{may_call, same_view, same_gate, gate_gives, is_waiting, is_lost, is_answer, is_mailed, lets, at_session};
+ghost use Rattle.world_program.specs.Deciding.{may_call, same_view, same_gate, gate_gives, is_waiting, is_lost, is_answer, is_mailed, lets, at_session, OrdersOf};
 
 use crate::data::{Replica, Replicas};
-use backend_trait::Answer;
+use backend_trait::{Answer, Catalogue, Checked, draws_few};
+use checked_sql::is_of;
 use one_copy_model::Event;
 use plain_store::may_act;
-use pool_base::{BackendId, GateAnswer, GateCall, SessionId, View};
-use session_machine::SessionEvent;
+use pool_base::{BackendId, GateAnswer, GateCall, NoMemory, SessionId, View};
+use session_machine::{Order, OrderBody, SessionEvent};
 use snapshot_gate::{Gate, GateState};
 
 fn meets(state: GateState, call: GateCall) -> bool
@@ -146,14 +147,62 @@ fn at_session(w: &Replicas, s: SessionId, event: &SessionEvent) -> bool
     machine && lets(w, s, event)
 }
 
+/// Whether a statement is of the tables, and can be run once it has its moment.
+fn is_of_tables(tables: &Catalogue, checked: &Checked) -> bool
+    ensures { IsTrue result ↔ IsOfTables tables.now checked.now }
+{
+    checked.kinds.is_empty() && draws_few(&checked.body) && is_of(tables, checked)
+}
+
+fn is_orderable(tables: &Catalogue, order: &Order) -> bool
+    ensures { IsTrue result ↔ IsOrderable tables.now order.now.body }
+{
+    match &order.body {
+        OrderBody::Statement(work) => is_of_tables(tables, &work.statement),
+        OrderBody::Begin
+        | OrderBody::Commit
+        | OrderBody::Rollback
+        | OrderBody::Settle
+        | OrderBody::ShowNodes
+        | OrderBody::Recover(_)
+        | OrderBody::Refuse { .. }
+        | OrderBody::Leave => true,
+    }
+}
+
+/// Whether what is ordered, if anything is, is of the tables.
+fn orders_of(tables: &Catalogue, event: &SessionEvent) -> bool
+    ensures { IsTrue result ↔ OrdersOf tables.now event.now }
+{
+    match event {
+        SessionEvent::Ordered(order) => is_orderable(tables, order),
+        SessionEvent::Called { .. }
+        | SessionEvent::Posted { .. }
+        | SessionEvent::Taken { .. }
+        | SessionEvent::Faulted { .. }
+        | SessionEvent::Detached { .. }
+        | SessionEvent::Swapped { .. }
+        | SessionEvent::Replied { .. }
+        | SessionEvent::Ended => true,
+    }
+}
+
+fn may_order(w: &Replicas, is_of: bool, s: SessionId, event: &SessionEvent) -> bool
+    ensures { result ≡ (is_of && at_session w.now s.number event.now) }
+{
+    is_of && at_session(w, s, event)
+}
+
 fn of_session(w: &Replicas, s: SessionId, event: &SessionEvent) -> bool
     ensures { IsTrue result ↔ MayHappen (world_of w.now) (world_events.Of s event.now) }
 {
-    at_session(w, s, event)
+    let is_of = orders_of(&w.catalogue, event);
+    may_order(w, is_of, s, event)
 }
 
-fn acts(w: &Replicas, s: SessionId, b: BackendId, answer: &Answer) -> bool
-    ensures { IsTrue result ↔ MayHappen (world_of w.now) (world_events.Act s b answer.now) }
+fn acts(w: &Replicas, s: SessionId, b: BackendId, answer: &Answer) -> Result<bool, NoMemory>
+    ensures { IfOk result (λ may. IsTrue may ↔ MayHappen (world_of w.now)
+        (world_events.Act s b answer.now)) }
 {
     may_act(&w.backends[b.number as usize].store, s, answer)
 }
@@ -165,12 +214,12 @@ fn loses(w: &Replicas, b: BackendId) -> bool
 }
 
 /// Whether an event may happen.
-pub fn may_happen(w: &Replicas, event: &Event) -> bool
-    ensures { IsTrue result ↔ MayHappen (world_of w.now) event.now }
+pub fn may_happen(w: &Replicas, event: &Event) -> Result<bool, NoMemory>
+    ensures { IfOk result (λ may. IsTrue may ↔ MayHappen (world_of w.now) event.now) }
 {
     match event {
-        Event::Of { s, event } => of_session(w, *s, event),
+        Event::Of { s, event } => Ok(of_session(w, *s, event)),
         Event::Act { s, b, answer } => acts(w, *s, *b, answer),
-        Event::Lost { b } => loses(w, *b),
+        Event::Lost { b } => Ok(loses(w, *b)),
     }
 }

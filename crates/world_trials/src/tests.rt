@@ -63,6 +63,43 @@ fn the_first_updater_wins(rt: HostRuntime) {
     assert!(rt; fails_by(rt.alloc(), parts, &others) == Ok(true));
 }
 
+/// A row is committed; session 1 has updated it at three backends, and session 2 waits at the first
+/// for the same.
+const TWO_UPDATERS: [Line; 16] = [
+    Line::Begin(S1),
+    Line::Order(S1, Deed::Insert(1)),
+    Line::Open(S1),
+    Line::Insert(S1, 1),
+    Line::Commit(S1),
+    Line::Begin(S1),
+    Line::Begin(S2),
+    Line::Order(S1, Deed::Update(1)),
+    Line::Open(S1),
+    Line::Look(S1),
+    Line::Down(S1, Ask::Update(1), Say::One),
+    Line::Done(S1, Tag::Update(1), Status::InBlock),
+    Line::Order(S2, Deed::Update(1)),
+    Line::Open(S2),
+    Line::Look(S2),
+    Line::Post(S2, B0, Ask::Update(1)),
+];
+
+/// Session 1 commits, and session 2 is refused.
+#[test]
+fn the_first_to_update_a_row_wins(rt: HostRuntime) {
+    let parts = Parts {
+        attached: 7,
+        start: &TWO_UPDATERS,
+        before: &[Line::Commit(S1)],
+        rest: &[
+            Line::Answer(S2, B0, Say::Refused(STALE)),
+            Line::Fail(S2, STALE, Status::Failed),
+        ],
+    };
+    let others = [Line::Act(S2, B0, Say::One)];
+    assert!(rt; fails_by(rt.alloc(), parts, &others) == Ok(true));
+}
+
 /// Session 2 has no answer before session 1 ends.
 #[test]
 fn the_second_updater_waits(rt: HostRuntime) {
@@ -374,18 +411,18 @@ fn a_failover_hands_the_lock_on(rt: HostRuntime) {
     assert!(rt; fails_by(rt.alloc(), parts, &others) == Ok(true));
 }
 
-/// Session 1 has committed key 1, and session 2 inserts it again by a serial insert.
+/// Session 1 has committed key 1, and session 2 draws it, the first number, for a serial insert.
 const INSERTED_AGAIN: [Line; 10] = [
     Line::Begin(S1),
     Line::Order(S1, Deed::Insert(1)),
     Line::Open(S1),
     Line::Insert(S1, 1),
     Line::Commit(S1),
-    Line::Order(S2, Deed::SerialInsert(1)),
+    Line::Order(S2, Deed::SerialInsert),
     Line::Open(S2),
     Line::Look(S2),
     Line::Down(S2, Ask::Lock, Say::Locked),
-    Line::Ask(S2, B0, Ask::Insert(1), Say::Refused(DUPLICATE)),
+    Line::Ask(S2, B0, Ask::SerialInsert, Say::Refused(DUPLICATE)),
 ];
 
 #[test]
@@ -395,12 +432,54 @@ fn a_refused_serial_insert_goes_to_every_backend(rt: HostRuntime) {
         start: &INSERTED_AGAIN,
         before: &[],
         rest: &[
-            Line::Ask(S2, B1, Ask::Insert(1), Say::Refused(DUPLICATE)),
-            Line::Ask(S2, B2, Ask::Insert(1), Say::Refused(DUPLICATE)),
+            Line::Ask(S2, B1, Ask::SerialInsert, Say::Refused(DUPLICATE)),
+            Line::Ask(S2, B2, Ask::SerialInsert, Say::Refused(DUPLICATE)),
             Line::Fail(S2, DUPLICATE, Status::Idle),
         ],
     };
     let others = [Line::Post(S2, B0, Ask::Rollback)];
+    assert!(rt; fails_by(rt.alloc(), parts, &others) == Ok(true));
+}
+
+/// Session 2 tries it again: it draws the number behind the one that was refused.
+const DRAWN_AGAIN: [Line; 19] = [
+    Line::Begin(S1),
+    Line::Order(S1, Deed::Insert(1)),
+    Line::Open(S1),
+    Line::Insert(S1, 1),
+    Line::Commit(S1),
+    Line::Order(S2, Deed::SerialInsert),
+    Line::Open(S2),
+    Line::Look(S2),
+    Line::Down(S2, Ask::Lock, Say::Locked),
+    Line::Ask(S2, B0, Ask::SerialInsert, Say::Refused(DUPLICATE)),
+    Line::Ask(S2, B1, Ask::SerialInsert, Say::Refused(DUPLICATE)),
+    Line::Ask(S2, B2, Ask::SerialInsert, Say::Refused(DUPLICATE)),
+    Line::Fail(S2, DUPLICATE, Status::Idle),
+    Line::Begin(S2),
+    Line::Order(S2, Deed::SerialInsert),
+    Line::Open(S2),
+    Line::Look(S2),
+    Line::Down(S2, Ask::Lock, Say::Locked),
+    Line::Post(S2, B0, Ask::SerialInsert),
+];
+
+#[test]
+fn a_refused_serial_insert_still_draws(rt: HostRuntime) {
+    let parts = Parts {
+        attached: 7,
+        start: &DRAWN_AGAIN,
+        before: &[],
+        rest: &[
+            Line::Answer(S2, B0, Say::One),
+            Line::Ask(S2, B1, Ask::SerialInsert, Say::One),
+            Line::Ask(S2, B2, Ask::SerialInsert, Say::One),
+        ],
+    };
+    let others = [
+        Line::Act(S2, B0, Say::Refused(DUPLICATE)),
+        Line::Act(S2, B0, Say::Refused(STALE)),
+    ];
     assert!(rt; fails_by(rt.alloc(), parts, &others) == Ok(true));
 }
 

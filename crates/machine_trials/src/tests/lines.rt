@@ -1,10 +1,9 @@
 //! The lines of lists: each is one event of a session, or a few that belong together.
-use backend_trait::{Answer, Checked, Request};
+use backend_trait::{Answer, Request};
 use pool_base::{BackendId, BackendSet, Code, GateAnswer, GateCall, List, NoMemory, Text, View};
-use session_machine::{
-    Cause, Class, Order, OrderBody, Outcome, SessionEvent, Status, Tag, Verb, Work,
-};
+use session_machine::{Cause, Order, OrderBody, Outcome, SessionEvent, Status, Tag, work_of};
 use std::alloc::Global;
+use trial_statements::{insert_of, select_of, serial_insert_of};
 
 pub(super) const B0: BackendId = BackendId { number: 0 };
 
@@ -30,6 +29,7 @@ pub(super) enum Ask {
     Snapshot,
     Lock,
     Insert,
+    SerialInsert,
     Select,
     Commit,
     Rollback,
@@ -75,22 +75,23 @@ pub(super) enum Line {
     Open(Deed),
 }
 
-fn request(ask: Ask) -> Request {
-    match ask {
+fn request(alloc: Global, ask: Ask) -> Result<Request, NoMemory> {
+    Ok(match ask {
         Ask::Snapshot => Request::TakeSnapshot,
         Ask::Lock => Request::Lock(0),
-        Ask::Insert => Request::Run(Checked::Insert { key: 1, value: 10 }),
-        Ask::Select => Request::Run(Checked::Select { key: 1 }),
+        Ask::Insert => Request::Run(insert_of(alloc, 1, 10)?),
+        Ask::SerialInsert => Request::Run(serial_insert_of(alloc, 10)?),
+        Ask::Select => Request::Run(select_of(alloc, 1, false)?),
         Ask::Commit => Request::Commit,
         Ask::Rollback => Request::Rollback,
-    }
+    })
 }
 
 fn usual(alloc: Global, ask: Ask) -> Answer {
     match ask {
         Ask::Snapshot => Answer::Began,
         Ask::Lock => Answer::Locked,
-        Ask::Insert => Answer::Count(1),
+        Ask::Insert | Ask::SerialInsert => Answer::Count(1),
         Ask::Select => Answer::Rows(List::new(alloc)),
         Ask::Commit | Ask::Rollback => Answer::Done,
     }
@@ -104,25 +105,16 @@ fn answer(alloc: Global, ask: Ask, say: Say) -> Answer {
     }
 }
 
-fn statement(statement: Checked, class: Class, tables: u64) -> OrderBody {
-    OrderBody::Statement(Work {
-        statement,
-        class,
-        tables,
-    })
-}
-
-fn body(deed: Deed) -> OrderBody {
-    let insert = Checked::Insert { key: 1, value: 10 };
-    match deed {
-        Deed::Insert => statement(insert, Class::Write(Verb::Insert), 1),
-        Deed::SerialInsert => statement(insert, Class::SerialInsert(0), 1),
-        Deed::Select => statement(Checked::Select { key: 1 }, Class::Read, 0),
+fn body(alloc: Global, deed: Deed) -> Result<OrderBody, NoMemory> {
+    Ok(match deed {
+        Deed::Insert => OrderBody::Statement(work_of(insert_of(alloc, 1, 10)?)),
+        Deed::SerialInsert => OrderBody::Statement(work_of(serial_insert_of(alloc, 10)?)),
+        Deed::Select => OrderBody::Statement(work_of(select_of(alloc, 1, false)?)),
         Deed::Begin => OrderBody::Begin,
         Deed::Commit => OrderBody::Commit,
         Deed::Settle => OrderBody::Settle,
         Deed::Leave => OrderBody::Leave,
-    }
+    })
 }
 
 fn view(bits: u8) -> View {
@@ -148,7 +140,7 @@ impl Listing {
     }
 
     fn order(&mut self, deed: Deed) -> Result<(), NoMemory> {
-        let body = body(deed);
+        let body = body(self.alloc, deed)?;
         self.add(SessionEvent::Ordered(Order { moment: 0, body }))
     }
 
@@ -164,7 +156,7 @@ impl Listing {
     }
 
     fn post(&mut self, b: BackendId, ask: Ask) -> Result<(), NoMemory> {
-        let request = request(ask);
+        let request = request(self.alloc, ask)?;
         self.add(SessionEvent::Posted { b, request })
     }
 

@@ -7,6 +7,7 @@ use pool_base::{Code, GateCall, NoMemory, SessionId};
 use session_machine::{Machine, ReadPolicy, SessionEvent, Status, Tag};
 use session_program::{after, may_happen, next_action};
 use std::alloc::Global;
+use std::mem;
 
 const CHANGED_MEANWHILE: Code = Code { bytes: *b"40001" };
 
@@ -28,6 +29,12 @@ const INSERTED: Line = Line::Done(Tag::Insert(1), None, Status::Idle);
 
 const COMMITTED: Line = Line::Done(Tag::Commit, None, Status::Idle);
 
+/// Tells what is due.
+fn tell_due(m: &Machine) -> Result<(), NoMemory> {
+    drop(next_action(m)?);
+    Ok(())
+}
+
 /// The number of the first event that may not happen. None: each of them may, and behind each of
 /// them it can be told what is due.
 fn refused(alloc: Global, list: Vec<SessionEvent>) -> Result<Option<usize>, NoMemory> {
@@ -39,11 +46,17 @@ fn refused(alloc: Global, list: Vec<SessionEvent>) -> Result<Option<usize>, NoMe
     let mut m = Machine::new(alloc, SessionId { number: 1 }, policy);
     for (at, event) in list.into_iter().enumerate() {
         if !may_happen(&m, &event) {
+            drop(event);
+            drop(m);
             return Ok(Some(at));
         }
         m = after(m, event)?;
-        next_action(&m)?;
+        if let Err(full) = tell_due(&m) {
+            drop(m);
+            return Err(full);
+        }
     }
+    drop(m);
     Ok(None)
 }
 
@@ -55,9 +68,11 @@ fn changed(
     other: Line,
 ) -> Result<Vec<SessionEvent>, NoMemory> {
     let mut list = events(alloc, lines)?;
-    let mut others = events(alloc, &[other])?;
-    if let (Some(slot), Some(event)) = (list.get_mut(at), others.pop()) {
-        *slot = event;
+    for event in events(alloc, &[other])? {
+        match list.get_mut(at) {
+            Some(slot) => drop(mem::replace(slot, event)),
+            None => drop(event),
+        }
     }
     Ok(list)
 }
@@ -231,9 +246,9 @@ fn a_lost_backend_is_detached_with_its_counts(rt: HostRuntime) {
 const SERIAL_REFUSED: [Line; 8] = [
     Line::Open(Deed::SerialInsert),
     Line::Chain(Ask::Lock),
-    Line::Asked(B0, Ask::Insert, Say::Refused(DUPLICATE_KEY), 7),
-    Line::Asked(B1, Ask::Insert, Say::Refused(DUPLICATE_KEY), 7),
-    Line::Asked(B2, Ask::Insert, Say::Refused(DUPLICATE_KEY), 7),
+    Line::Asked(B0, Ask::SerialInsert, Say::Refused(DUPLICATE_KEY), 7),
+    Line::Asked(B1, Ask::SerialInsert, Say::Refused(DUPLICATE_KEY), 7),
+    Line::Asked(B2, Ask::SerialInsert, Say::Refused(DUPLICATE_KEY), 7),
     Line::Down(Ask::Rollback),
     FINISH,
     Line::Fail(DUPLICATE_KEY, Status::Idle),
@@ -242,7 +257,7 @@ const SERIAL_REFUSED: [Line; 8] = [
 #[test]
 fn a_refused_serial_insert_still_draws_everywhere(rt: HostRuntime) {
     let others = [
-        (14, Line::Post(B0, Ask::Insert)),
+        (14, Line::Post(B0, Ask::SerialInsert)),
         (26, Line::Post(B0, Ask::Rollback)),
         (26, Line::Order(Deed::Leave)),
     ];
@@ -391,12 +406,12 @@ fn an_entered_commit_is_completed_behind_a_loss(rt: HostRuntime) {
 const LOST_IN_A_SERIAL_INSERT: [Line; 9] = [
     Line::Open(Deed::SerialInsert),
     Line::Chain(Ask::Lock),
-    Line::Post(B0, Ask::Insert),
+    Line::Post(B0, Ask::SerialInsert),
     Line::Fault(B0),
     Line::Lost(B0, 1, 6),
     Line::Look(6),
-    Line::Asked(B1, Ask::Insert, Say::Usual, 6),
-    Line::Asked(B2, Ask::Insert, Say::Usual, 6),
+    Line::Asked(B1, Ask::SerialInsert, Say::Usual, 6),
+    Line::Asked(B2, Ask::SerialInsert, Say::Usual, 6),
     INSERTED,
 ];
 

@@ -77,17 +77,29 @@ fn recovery(alloc: Global) -> Result<Recovery, NoMemory> {
     Ok(Recovery::new(SessionId { number: 1 }, layout))
 }
 
+/// Tells what is due.
+fn tell_due(r: &Recovery) -> Result<(), NoMemory> {
+    drop(next_action(r)?);
+    Ok(())
+}
+
 /// The number of the first event that may not happen. None: each of them may, and behind each of
 /// them it can be told what is due.
 fn refused(alloc: Global, list: Vec<RecoveryEvent>) -> Result<Option<usize>, NoMemory> {
     let mut r = recovery(alloc)?;
     for (at, event) in list.into_iter().enumerate() {
         if !may_happen(&r, &event) {
+            drop(event);
+            drop(r);
             return Ok(Some(at));
         }
         r = after(r, event);
-        next_action(&r)?;
+        if let Err(full) = tell_due(&r) {
+            drop(r);
+            return Err(full);
+        }
     }
+    drop(r);
     Ok(None)
 }
 

@@ -87,7 +87,7 @@ impl Listing {
     }
 
     fn order(&mut self, s: SessionId, deed: Want) -> Result<(), NoMemory> {
-        let body = body(deed);
+        let body = body(self.alloc, deed)?;
         self.at(s, SessionEvent::Ordered(Order { moment: 0, body }))
     }
 
@@ -123,7 +123,7 @@ impl Listing {
     }
 
     fn post(&mut self, s: SessionId, b: BackendId, ask: Ask) -> Result<(), NoMemory> {
-        let request = request(ask);
+        let request = request(self.alloc, ask)?;
         self.at(s, SessionEvent::Posted { b, request })
     }
 

@@ -1,13 +1,19 @@
 //! Schedules that are played: what each reply is, and what the run is then.
+ghost use Rattle.one_copy_model.specs.World.{MayHappen};
+ghost use Rattle.world_program.specs.Meaning.{world_of};
+
 use super::lines::{Line, Listing};
 use super::words::{Ask, Say, answer, request};
+use backend_trait::Row;
 use one_copy_model::{Deed, Entry, Event};
+use pg_values::Value;
 use plain_store::Database;
 use pool_base::{BackendId, BackendSet, Code, NoMemory, SessionId};
 use run_program::committed;
 use session_machine::{Outcome, ReadPolicy, SessionEvent};
-use single_program::{Track, after, given, has_done, is_reply};
+use single_program::{Track, TrackFault, after, given, has_done, is_reply};
 use std::alloc::Global;
+use trial_statements::trial_tables;
 use world_program::may_happen;
 
 /// A deed of the run.
@@ -20,7 +26,8 @@ pub(super) enum Did {
 
 /// A schedule, where these backends are attached, and what it leads to: replies that are not right
 /// in place of its last event; the entries of the run, the oldest first; how many replies are its
-/// answers, and how many the pool's own; and whether the keys 1 and 2 are committed.
+/// answers, and how many the pool's own; whether the keys 1 and 2 are committed; and the number
+/// that is drawn next.
 #[derive(Clone, Copy)]
 pub(super) struct Schedule<'a> {
     pub(super) attached: u8,
@@ -30,6 +37,7 @@ pub(super) struct Schedule<'a> {
     pub(super) history: &'a [(u8, Did)],
     pub(super) replies: (u32, u32),
     pub(super) keys: (bool, bool),
+    pub(super) next: i64,
 }
 
 /// What is behind a list of events: the track, how many replies were answers of the run, and how
@@ -63,33 +71,84 @@ fn kind_of_reply(track: &Track, s: SessionId, outcome: &Outcome) -> Result<Kind,
     })
 }
 
+/// Of an event of a session.
+fn kind_at(track: &Track, s: SessionId, event: &SessionEvent) -> Result<Kind, NoMemory> {
+    match event {
+        SessionEvent::Replied { outcome, .. } => kind_of_reply(track, s, outcome),
+        SessionEvent::Ordered(_)
+        | SessionEvent::Called { .. }
+        | SessionEvent::Posted { .. }
+        | SessionEvent::Taken { .. }
+        | SessionEvent::Faulted { .. }
+        | SessionEvent::Detached { .. }
+        | SessionEvent::Swapped { .. }
+        | SessionEvent::Ended => Ok(Kind::Other),
+    }
+}
+
 fn kind_of(track: &Track, event: &Event) -> Result<Kind, NoMemory> {
     match event {
-        Event::Of { s, event } => match event {
-            SessionEvent::Replied { outcome, .. } => kind_of_reply(track, *s, outcome),
-            _ => Ok(Kind::Other),
-        },
-        _ => Ok(Kind::Other),
+        Event::Of { s, event } => kind_at(track, *s, event),
+        Event::Act { .. } | Event::Lost { .. } => Ok(Kind::Other),
+    }
+}
+
+/// How many answers of the run, and how many replies of the pool's own, an event adds. None: the
+/// reply is wrong.
+fn counts_of(track: &Track, event: &Event) -> Result<Option<(u32, u32)>, NoMemory> {
+    Ok(match kind_of(track, event)? {
+        Kind::Other => Some((0, 0)),
+        Kind::Given => Some((1, 0)),
+        Kind::Own => Some((0, 1)),
+        Kind::Wrong => None,
+    })
+}
+
+/// One event more, which may happen. None: the reply is wrong.
+fn moved(played: Played, event: Event) -> Result<Option<Played>, NoMemory>
+    requires { MayHappen (world_of played.track.world) event }
+{
+    let (more, other) = match counts_of(&played.track, &event) {
+        Ok(Some(counts)) => counts,
+        Ok(None) => {
+            drop(played);
+            drop(event);
+            return Ok(None);
+        }
+        Err(full) => {
+            drop(played);
+            drop(event);
+            return Err(full);
+        }
+    };
+    let Played { track, given, own } = played;
+    match after(track, event) {
+        Ok(track) => Ok(Some(Played {
+            track,
+            given: given.wrapping_add(more),
+            own: own.wrapping_add(other),
+        })),
+        Err(TrackFault::NoMemory) => Err(NoMemory),
+        Err(TrackFault::PostNotAdmitted | TrackFault::RunNotAdmitted) => Ok(None),
     }
 }
 
 /// One event more. None: it may not happen, or the reply is wrong.
 fn next(played: Played, event: Event) -> Result<Option<Played>, NoMemory> {
-    if !may_happen(&played.track.world, &event) {
+    let may = match may_happen(&played.track.world, &event) {
+        Ok(may) => may,
+        Err(full) => {
+            drop(played);
+            drop(event);
+            return Err(full);
+        }
+    };
+    if !may {
+        drop(played);
+        drop(event);
         return Ok(None);
     }
-    let (more, other) = match kind_of(&played.track, &event)? {
-        Kind::Other => (0, 0),
-        Kind::Given => (1, 0),
-        Kind::Own => (0, 1),
-        Kind::Wrong => return Ok(None),
-    };
-    let Played { track, given, own } = played;
-    Ok(Some(Played {
-        track: after(track, event)?,
-        given: given.wrapping_add(more),
-        own: own.wrapping_add(other),
-    }))
+    moved(played, event)
 }
 
 const POLICY: ReadPolicy = ReadPolicy {
@@ -98,16 +157,20 @@ const POLICY: ReadPolicy = ReadPolicy {
     per_statement: false,
 };
 
-fn play(
-    alloc: Global,
-    attached: BackendSet,
-    events: Vec<Event>,
-) -> Result<Option<Played>, NoMemory> {
-    let mut played = Played {
-        track: Track::new(alloc, POLICY, attached)?,
+/// Nothing is played yet.
+fn begun(alloc: Global, attached: BackendSet) -> Result<Played, NoMemory> {
+    let tables = trial_tables(alloc)?;
+    let track = Track::new(alloc, tables, POLICY, attached)?;
+    Ok(Played {
+        track,
         given: 0,
         own: 0,
-    };
+    })
+}
+
+/// What is behind these events. None: one of them may not happen where it stands, or a reply is
+/// wrong.
+fn play(mut played: Played, events: Vec<Event>) -> Result<Option<Played>, NoMemory> {
     for event in events {
         match next(played, event)? {
             Some(more) => played = more,
@@ -119,7 +182,7 @@ fn play(
 
 fn deed(alloc: Global, did: Did) -> Result<Deed, NoMemory> {
     Ok(match did {
-        Did::Asked(ask) => Deed::Asks(request(ask)),
+        Did::Asked(ask) => Deed::Asks(request(alloc, ask)?),
         Did::Got(say) => Deed::Gets(answer(alloc, say)?),
         Did::Died(code) => Deed::Falls(code),
     })
@@ -141,36 +204,55 @@ fn is_history(alloc: Global, track: &Track, expected: &[(u8, Did)]) -> Result<bo
     Ok(true)
 }
 
-fn keys_in(store: &Database) -> (bool, bool) {
-    (
-        committed(store, 1) == Some(10),
-        committed(store, 2) == Some(10),
-    )
+/// Whether one of the rows has that key and the value 10.
+fn has_key(rows: &[Row], key: i32) -> bool {
+    for row in rows {
+        if let [Value::Int4(found), Value::Int8(10)] = row.cells.as_slice()
+            && *found == key
+        {
+            return true;
+        }
+    }
+    false
 }
 
-/// Whether each attached backend has the keys of the run.
-fn agrees(track: &Track) -> bool {
+fn keys_in(alloc: Global, store: &Database) -> Result<(bool, bool), NoMemory> {
+    let rows = committed(alloc, store, 0)?;
+    Ok((has_key(rows.as_slice(), 1), has_key(rows.as_slice(), 2)))
+}
+
+/// The number that is drawn next.
+fn next_in(store: &Database) -> Option<i64> {
+    store.numbers.at(0)
+}
+
+/// Whether each attached backend has the keys and the next number of the run.
+fn agrees(alloc: Global, track: &Track) -> Result<bool, NoMemory> {
+    let keys = keys_in(alloc, &track.run.store)?;
     let attached = track.world.gate.state.attached;
     for number in 0..3_u8 {
         let b = BackendId { number };
         let store = &track.world.backends[b.number as usize].store;
-        if attached.has(b) && keys_in(store) != keys_in(&track.run.store) {
-            return false;
+        let is_same = keys_in(alloc, store)? == keys && next_in(store) == next_in(&track.run.store);
+        if attached.has(b) && !is_same {
+            return Ok(false);
         }
     }
-    true
+    Ok(true)
 }
 
 /// Whether a line is a reply that is not right.
 fn is_wrong(track: &Track, list: &mut Listing, line: Line) -> Result<bool, NoMemory> {
     list.line(line)?;
     let events = list.taken();
-    Ok(match events.first() {
-        Some(event) => match kind_of(track, event)? {
-            Kind::Wrong => true,
-            Kind::Other | Kind::Given | Kind::Own => false,
-        },
-        None => false,
+    let kind = match events.first() {
+        Some(event) => kind_of(track, event),
+        None => Ok(Kind::Other),
+    };
+    drop(events);
+    Ok(match kind? {
+        Kind::Wrong => true,
+        Kind::Other | Kind::Given | Kind::Own => false,
     })
 }
 
@@ -183,6 +265,28 @@ fn are_wrong(track: &Track, list: &mut Listing, lines: &[Line]) -> Result<bool, 
     Ok(true)
 }
 
+/// What is behind the last event, where these lines are wrong in its place.
+fn ended(
+    played: Played,
+    last: Event,
+    list: &mut Listing,
+    wrong: &[Line],
+) -> Result<Option<Played>, NoMemory> {
+    match are_wrong(&played.track, list, wrong) {
+        Ok(true) => next(played, last),
+        Ok(false) => {
+            drop(played);
+            drop(last);
+            Ok(None)
+        }
+        Err(full) => {
+            drop(played);
+            drop(last);
+            Err(full)
+        }
+    }
+}
+
 /// What is behind a schedule, where the wrong replies are wrong.
 fn led(alloc: Global, schedule: Schedule<'_>) -> Result<Option<Played>, NoMemory> {
     let attached = BackendSet {
@@ -191,17 +295,34 @@ fn led(alloc: Global, schedule: Schedule<'_>) -> Result<Option<Played>, NoMemory
     let mut list = Listing::new(alloc, attached);
     list.lines(schedule.start)?;
     list.lines(schedule.rest)?;
+    let begun = begun(alloc, attached)?;
     let mut events = list.taken();
     let Some(last) = events.pop() else {
+        drop(begun);
+        drop(events);
         return Ok(None);
     };
-    let Some(played) = play(alloc, attached, events)? else {
-        return Ok(None);
-    };
-    if !are_wrong(&played.track, &mut list, schedule.wrong)? {
-        return Ok(None);
+    match play(begun, events) {
+        Ok(Some(played)) => ended(played, last, &mut list, schedule.wrong),
+        Ok(None) => {
+            drop(last);
+            Ok(None)
+        }
+        Err(full) => {
+            drop(last);
+            Err(full)
+        }
     }
-    next(played, last)
+}
+
+/// Whether what is played is what the schedule leads to.
+fn is_end(alloc: Global, played: &Played, schedule: Schedule<'_>) -> Result<bool, NoMemory> {
+    let track = &played.track;
+    let is_history = is_history(alloc, track, schedule.history)?;
+    let keys = keys_in(alloc, &track.run.store)?;
+    let is_so = (played.given, played.own) == schedule.replies && keys == schedule.keys;
+    let draws = next_in(&track.run.store) == Some(schedule.next);
+    Ok(is_history && is_so && draws && agrees(alloc, track)?)
 }
 
 /// Whether the schedule happens, and leads there.
@@ -209,10 +330,9 @@ pub(super) fn leads(alloc: Global, schedule: Schedule<'_>) -> Result<bool, NoMem
     let Some(played) = led(alloc, schedule)? else {
         return Ok(false);
     };
-    let Played { track, given, own } = played;
-    let is_history = is_history(alloc, &track, schedule.history)?;
-    let is_so = (given, own) == schedule.replies && keys_in(&track.run.store) == schedule.keys;
-    Ok(is_history && is_so && agrees(&track))
+    let holds = is_end(alloc, &played, schedule);
+    drop(played);
+    holds
 }
 
 /// Whether the backends 0 and 1 have done the commit of session 1 behind these lines. None: it is
@@ -226,11 +346,13 @@ pub(super) fn have_done(
     let mut list = Listing::new(alloc, attached);
     list.lines(start)?;
     list.lines(rest)?;
-    let Some(played) = play(alloc, attached, list.taken())? else {
+    let begun = begun(alloc, attached)?;
+    let Some(played) = play(begun, list.taken())? else {
         return Ok(None);
     };
     let s = SessionId { number: 1 };
     let first = has_done(&played.track, s, BackendId { number: 0 });
     let second = has_done(&played.track, s, BackendId { number: 1 });
+    drop(played);
     Ok(Some((first, second)))
 }

@@ -2,23 +2,32 @@
 use super::ask::{Ask, Told};
 use super::step::{Deed, Failure, Seen, Step};
 use crate::is_right;
-use backend_trait::{Answer, Backend, Checked, Polled, Posted, Request, Row};
+use backend_trait::{Answer, Backend, Polled, Posted, Request, Row};
 use model_store::MemoryStore;
 use pg_values::Value;
 use plain_store::{Database, may_post};
 use pool_base::{Code, List, NoMemory, SessionId};
 use std::alloc::Global;
+use trial_statements::{
+    delete_of, insert_of, select_of, serial_insert_of, trial_tables, update_of,
+};
 
 /// The request of a store.
-pub fn request_of(ask: Ask) -> Request {
-    match ask {
+pub fn request_of(alloc: Global, ask: Ask) -> Result<Request, NoMemory> {
+    Ok(match ask {
         Ask::Begin => Request::TakeSnapshot,
-        Ask::Insert(key, value) => Request::Run(Checked::Insert { key, value }),
-        Ask::Select(key) => Request::Run(Checked::Select { key }),
+        Ask::Insert(key, value) => Request::Run(insert_of(alloc, key, value)?),
+        Ask::Draw(value) => Request::Run(serial_insert_of(alloc, value)?),
+        Ask::Update(key, value) => Request::Run(update_of(alloc, key, value)?),
+        Ask::Delete(key) => Request::Run(delete_of(alloc, key)?),
+        Ask::Select(key) => Request::Run(select_of(alloc, key, false)?),
+        Ask::Hold(key) => Request::Run(select_of(alloc, key, true)?),
         Ask::Lock(table) => Request::Lock(table),
+        Ask::Number => Request::ReadSerial(0),
+        Ask::SetNumber(next) => Request::SetSerial(0, next),
         Ask::Commit => Request::Commit,
         Ask::Rollback => Request::Rollback,
-    }
+    })
 }
 
 fn entry_of(row: &Row) -> Option<(i32, i64)> {
@@ -57,7 +66,9 @@ fn told_by(polled: &Polled) -> Told {
         Polled::Answered(Answer::Began) => Told::Began,
         Polled::Answered(Answer::Rows(rows)) => told_by_rows(rows),
         Polled::Answered(Answer::Count(1)) => Told::Inserted,
+        Polled::Answered(Answer::Count(0)) => Told::NoneWritten,
         Polled::Answered(Answer::Locked) => Told::Locked,
+        Polled::Answered(Answer::Serial(next)) => Told::Next(*next),
         Polled::Answered(Answer::Done) => Told::Done,
         Polled::Answered(Answer::Refused(code)) => told_by_code(*code),
         Polled::Answered(_) | Polled::NoMemory => Told::Strange,
@@ -69,23 +80,29 @@ fn told_by(polled: &Polled) -> Told {
 /// Both stores.
 #[derive(Drop)]
 pub struct Both {
+    alloc: Global,
     memory: MemoryStore,
     plain: Database,
 }
 
 impl Both {
-    /// Two stores without rows.
+    /// Two stores of the table for trials, without rows.
     pub fn new(alloc: Global) -> Result<Both, NoMemory> {
+        let tables = trial_tables(alloc)?;
+        let mut memory = MemoryStore::new(alloc)?;
+        memory.prepare(&tables)?;
         Ok(Both {
-            memory: MemoryStore::new(alloc)?,
-            plain: Database::new(alloc)?,
+            alloc,
+            memory,
+            plain: Database::new(alloc, tables)?,
         })
     }
 
     /// The session asks. Whether the store in memory lets it, and whether both agree on that.
     fn post(&mut self, s: SessionId, ask: Ask) -> Result<(bool, bool), NoMemory> {
-        let request = request_of(ask);
-        let plain_may = may_post(&self.plain, s, &request);
+        let request = request_of(self.alloc, ask)?;
+        let same = request_of(self.alloc, ask)?;
+        let plain_may = may_post(&self.plain, s, &same);
         if !self.memory.may_post(s, &request) {
             return Ok((false, !plain_may));
         }
@@ -93,27 +110,49 @@ impl Both {
             Posted::Accepted => (),
             Posted::NoMemory(_) => return Err(NoMemory),
         }
-        self.plain.post(s, request_of(ask));
+        if plain_may {
+            self.plain.post(s, same);
+        }
         Ok((true, plain_may))
     }
 
-    /// What the store in memory tells the session, and whether that is right.
+    /// What the store in memory tells the session, and whether that is right; also, whether both
+    /// draw the same number next.
     fn poll(self, s: SessionId) -> Result<(Both, Seen), NoMemory> {
-        let Both { mut memory, plain } = self;
+        let Both {
+            alloc,
+            mut memory,
+            plain,
+        } = self;
         if !memory.is_pending(s) {
             let idle = Seen {
                 told: Told::Idle,
                 is_right: true,
             };
-            return Ok((Both { memory, plain }, idle));
+            return Ok((
+                Both {
+                    alloc,
+                    memory,
+                    plain,
+                },
+                idle,
+            ));
         }
         let polled = memory.poll(s);
+        let may = is_right(&plain, s, &polled)?;
+        let plain = acted(plain, s, &polled)?;
         let seen = Seen {
             told: told_by(&polled),
-            is_right: is_right(&plain, s, &polled),
+            is_right: may && memory.serial_of(0) == plain.numbers.at(0),
         };
-        let plain = acted(plain, s, &polled)?;
-        Ok((Both { memory, plain }, seen))
+        Ok((
+            Both {
+                alloc,
+                memory,
+                plain,
+            },
+            seen,
+        ))
     }
 
     /// Both are lost.

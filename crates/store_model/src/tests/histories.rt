@@ -1,8 +1,8 @@
 //! Histories of three to six sessions, worked out by hand from the rules of a store.
-use super::ask::Ask::{Begin, Commit, Insert, Lock, Rollback, Select};
+use super::ask::Ask::{Begin, Commit, Draw, Insert, Lock, Number, Rollback, Select, SetNumber};
 use super::ask::Told::{
-    Began, ChangedMeanwhile, Deadlock, Done, DuplicateKey, Inserted, Locked, Lost, MayNot, NoRow,
-    Row, Waits,
+    Began, ChangedMeanwhile, Deadlock, Done, DuplicateKey, Inserted, Locked, Lost, MayNot, Next,
+    NoRow, Row, Waits,
 };
 use super::both::failure;
 use super::step::{Failure, Step, asks, is_lost, leaves, looks};
@@ -292,6 +292,52 @@ fn refused_does_not_wait(alloc: Global) -> Result<Option<Failure>, NoMemory> {
     failure(alloc, "a refused request does not wait", &steps)
 }
 
+/// A key is drawn that has a row: the number stays drawn, and the next one is drawn then.
+fn refused_still_draws(alloc: Global) -> Result<Option<Failure>, NoMemory> {
+    let steps = [
+        asks(1, Begin, Began),
+        asks(1, Insert(1, 10), Inserted),
+        asks(1, Commit, Done),
+        asks(2, Begin, Began),
+        asks(2, Draw(20), MayNot),
+        asks(2, Lock(0), Locked),
+        asks(2, Number, Next(1)),
+        asks(2, Draw(20), DuplicateKey),
+        asks(2, Rollback, Done),
+        asks(1, Begin, Began),
+        asks(1, Number, Next(2)),
+        asks(1, Lock(0), Locked),
+        asks(1, Draw(30), Inserted),
+        asks(1, Number, Next(3)),
+        asks(1, Commit, Done),
+        asks(2, Begin, Began),
+        asks(2, Select(2), Row(30)),
+    ];
+    failure(alloc, "a refused insert still draws", &steps)
+}
+
+/// A number is set by who has the table's lock, to 1 at least; a rollback takes back no number.
+fn number_is_set(alloc: Global) -> Result<Option<Failure>, NoMemory> {
+    let steps = [
+        asks(1, SetNumber(9), MayNot),
+        asks(1, Begin, Began),
+        asks(2, Begin, Began),
+        asks(1, SetNumber(9), MayNot),
+        asks(1, Lock(0), Locked),
+        asks(2, SetNumber(9), MayNot),
+        asks(1, SetNumber(0), MayNot),
+        asks(1, SetNumber(9), Done),
+        asks(1, Draw(10), Inserted),
+        asks(2, Number, Next(10)),
+        asks(1, Rollback, Done),
+        asks(2, Lock(0), Locked),
+        asks(2, Draw(20), Inserted),
+        asks(2, Select(10), Row(20)),
+        asks(2, Select(9), NoRow),
+    ];
+    failure(alloc, "a number is set", &steps)
+}
+
 /// The first history that fails.
 fn first_failure(alloc: Global) -> Result<Option<Failure>, NoMemory> {
     let found = [
@@ -308,6 +354,8 @@ fn first_failure(alloc: Global) -> Result<Option<Failure>, NoMemory> {
         cycle_of_six(alloc)?,
         beside_a_cycle(alloc)?,
         refused_does_not_wait(alloc)?,
+        refused_still_draws(alloc)?,
+        number_is_set(alloc)?,
     ];
     for failure in found {
         if failure.is_some() {

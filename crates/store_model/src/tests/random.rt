@@ -28,18 +28,21 @@ impl Draws {
     }
 }
 
-/// A request: insertions more than all others.
+/// A request: insertions more than any other.
 fn ask(draws: &mut Draws, keys: u8) -> Ask
     requires { 1 ≤ keys }
 {
     let key = i32::from(draws.next() % keys);
     let value = i64::from(draws.next());
     match draws.next() % 16 {
-        0..=6 => Ask::Insert(key, value),
-        7..=9 => Ask::Select(key),
-        10 | 11 => Ask::Commit,
-        12 => Ask::Rollback,
-        13 => Ask::Lock(draws.next() % 2),
+        0..=5 => Ask::Insert(key, value),
+        6 | 7 => Ask::Update(key, value),
+        8 => Ask::Delete(key),
+        9 => Ask::Hold(key),
+        10 => Ask::Select(key),
+        11 | 12 => Ask::Commit,
+        13 => Ask::Rollback,
+        14 => Ask::Lock(draws.next() % 2),
         _ => Ask::Begin,
     }
 }

@@ -4,7 +4,8 @@ use one_copy_model::Event;
 use pool_base::{BackendSet, NoMemory};
 use session_machine::ReadPolicy;
 use std::alloc::Global;
-use world_program::{Replicas, may_happen, step};
+use trial_statements::trial_tables;
+use world_program::{Replicas, StepFault, may_happen, step};
 
 const POLICY: ReadPolicy = ReadPolicy {
     weights: [1, 1, 1, 0, 0, 0, 0, 0],
@@ -12,13 +13,35 @@ const POLICY: ReadPolicy = ReadPolicy {
     per_statement: false,
 };
 
+/// The world behind an event. None: it may not come there.
+fn moved(w: Replicas, event: Event) -> Result<Option<Replicas>, NoMemory> {
+    let may = match may_happen(&w, &event) {
+        Ok(may) => may,
+        Err(full) => {
+            drop(w);
+            drop(event);
+            return Err(full);
+        }
+    };
+    if !may {
+        drop(w);
+        drop(event);
+        return Ok(None);
+    }
+    match step(w, event) {
+        Ok(next) => Ok(Some(next)),
+        Err(StepFault::NoMemory) => Err(NoMemory),
+        Err(StepFault::NotAdmitted) => Ok(None),
+    }
+}
+
 /// The world behind these events. None: one of them may not come where it stands.
 fn played(mut w: Replicas, events: Vec<Event>) -> Result<Option<Replicas>, NoMemory> {
     for event in events {
-        if !may_happen(&w, &event) {
-            return Ok(None);
+        match moved(w, event)? {
+            Some(next) => w = next,
+            None => return Ok(None),
         }
-        w = step(w, event)?;
     }
     Ok(Some(w))
 }
@@ -26,10 +49,12 @@ fn played(mut w: Replicas, events: Vec<Event>) -> Result<Option<Replicas>, NoMem
 /// Whether an event, in place of the next of the list, may not come.
 fn is_refused(w: &Replicas, list: &mut Listing, other: Line) -> Result<bool, NoMemory> {
     let events = list.tried(other)?;
-    Ok(match events.first() {
-        Some(event) => !may_happen(w, event),
-        None => false,
-    })
+    let may = match events.first() {
+        Some(event) => may_happen(w, event),
+        None => Ok(true),
+    };
+    drop(events);
+    Ok(!may?)
 }
 
 fn are_refused(w: &Replicas, list: &mut Listing, others: &[Line]) -> Result<bool, NoMemory> {
@@ -61,7 +86,22 @@ fn begun(
     let attached = BackendSet {
         bits: parts.attached,
     };
-    played(Replicas::new(alloc, POLICY, attached)?, list.taken())
+    let tables = trial_tables(alloc)?;
+    played(
+        Replicas::new(alloc, tables, POLICY, attached)?,
+        list.taken(),
+    )
+}
+
+/// Whether these events come one after another.
+fn come(w: Replicas, events: Vec<Event>) -> Result<bool, NoMemory> {
+    match played(w, events)? {
+        Some(end) => {
+            drop(end);
+            Ok(true)
+        }
+        None => Ok(false),
+    }
 }
 
 /// Whether the list is a schedule, and is none where one of the other events stands in place of the
@@ -74,9 +114,18 @@ pub(super) fn fails_by(alloc: Global, parts: Parts<'_>, others: &[Line]) -> Resu
     let Some(w) = begun(alloc, &mut list, parts)? else {
         return Ok(false);
     };
-    if !are_refused(&w, &mut list, others)? {
-        return Ok(false);
+    match are_refused(&w, &mut list, others) {
+        Ok(true) => {
+            list.lines(parts.rest)?;
+            come(w, list.taken())
+        }
+        Ok(false) => {
+            drop(w);
+            Ok(false)
+        }
+        Err(full) => {
+            drop(w);
+            Err(full)
+        }
     }
-    list.lines(parts.rest)?;
-    Ok(played(w, list.taken())?.is_some())
 }

@@ -1,66 +1,61 @@
 //! The words of schedules: what is ordered, what is asked of a backend, what it answers.
-use backend_trait::{Answer, Checked, Request, Row};
+use backend_trait::{Answer, Request, Row};
 use pg_values::Value;
 use pool_base::{Code, List, NoMemory};
-use session_machine::{Class, OrderBody, Verb, Work};
+use session_machine::{OrderBody, work_of};
 use std::alloc::Global;
+use trial_statements::{insert_of, select_of, serial_insert_of, update_of};
 
-/// What is ordered: a row under a key, plain or by a serial insert, the row of a key, a block or
-/// its end.
+/// What is ordered: a row under a key, a row whose key is drawn, another value in the row of a key,
+/// that row, a block or its end.
 #[derive(Clone, Copy)]
 pub(super) enum Deed {
     Begin,
     Insert(i32),
-    SerialInsert(i32),
+    SerialInsert,
+    Update(i32),
     Select(i32),
     Commit,
     Rollback,
 }
 
-fn statement(statement: Checked, class: Class, tables: u64) -> OrderBody {
-    OrderBody::Statement(Work {
-        statement,
-        class,
-        tables,
+pub(super) fn body(alloc: Global, deed: Deed) -> Result<OrderBody, NoMemory> {
+    Ok(match deed {
+        Deed::Begin => OrderBody::Begin,
+        Deed::Insert(key) => OrderBody::Statement(work_of(insert_of(alloc, key, 10)?)),
+        Deed::SerialInsert => OrderBody::Statement(work_of(serial_insert_of(alloc, 10)?)),
+        Deed::Update(key) => OrderBody::Statement(work_of(update_of(alloc, key, 20)?)),
+        Deed::Select(key) => OrderBody::Statement(work_of(select_of(alloc, key, false)?)),
+        Deed::Commit => OrderBody::Commit,
+        Deed::Rollback => OrderBody::Rollback,
     })
 }
 
-fn insert(key: i32) -> Checked {
-    Checked::Insert { key, value: 10 }
-}
-
-pub(super) fn body(deed: Deed) -> OrderBody {
-    match deed {
-        Deed::Begin => OrderBody::Begin,
-        Deed::Insert(key) => statement(insert(key), Class::Write(Verb::Insert), 1),
-        Deed::SerialInsert(key) => statement(insert(key), Class::SerialInsert(0), 1),
-        Deed::Select(key) => statement(Checked::Select { key }, Class::Read, 0),
-        Deed::Commit => OrderBody::Commit,
-        Deed::Rollback => OrderBody::Rollback,
-    }
-}
-
-/// What is asked of a backend: a snapshot, the lock of table 0, a row under a key, the row of a
-/// key, an end.
+/// What is asked of a backend: a snapshot, the lock of table 0, a row under a key, a row whose key
+/// is drawn, another value in the row of a key, that row, an end.
 #[derive(Clone, Copy)]
 pub(super) enum Ask {
     Snapshot,
     Lock,
     Insert(i32),
+    SerialInsert,
+    Update(i32),
     Select(i32),
     Commit,
     Rollback,
 }
 
-pub(super) fn request(ask: Ask) -> Request {
-    match ask {
+pub(super) fn request(alloc: Global, ask: Ask) -> Result<Request, NoMemory> {
+    Ok(match ask {
         Ask::Snapshot => Request::TakeSnapshot,
         Ask::Lock => Request::Lock(0),
-        Ask::Insert(key) => Request::Run(insert(key)),
-        Ask::Select(key) => Request::Run(Checked::Select { key }),
+        Ask::Insert(key) => Request::Run(insert_of(alloc, key, 10)?),
+        Ask::SerialInsert => Request::Run(serial_insert_of(alloc, 10)?),
+        Ask::Update(key) => Request::Run(update_of(alloc, key, 20)?),
+        Ask::Select(key) => Request::Run(select_of(alloc, key, false)?),
         Ask::Commit => Request::Commit,
         Ask::Rollback => Request::Rollback,
-    }
+    })
 }
 
 /// What a backend answers.

@@ -1,4 +1,4 @@
-use Rattle.std.proofs.Common.{◌≡◌, sym, subst, ap, ◌∙◌}
+use Rattle.std.proofs.Common.{sym, subst, ap, ◌∙◌}
 use Rattle.backend_trait.specs.Effect.{Wants, Conflicts}
 use Rattle.model_store.specs.declared.seat.Seat.{Seat}
 use Rattle.model_store.specs.Phases.{held_by_phase}

@@ -1,10 +1,11 @@
-use Rattle.std.proofs.Common.{◌≡◌, Bool, subst, sym}
-use Rattle.plain_store.specs.Acting.{IsCrossedNow}
-use Rattle.plain_store.specs.Meaning.{store_of}
-use Rattle.plain_store.proofs.Telling.{Tells}
-use Rattle.plain_store.proofs.CrossLaws.{crossed_told}
+use Rattle.std.proofs.Common.{subst, sym}
+use Rattle.plain_store.specs.Giving.{AreGiven}
+use Rattle.plain_store.specs.States.{states_of}
+use Rattle.plain_store.proofs.CrossLaws.{crossed_as}
 use Rattle.plain_store.proofs.crossing.is_crossed.Goals as goal
 
+pub of-all-requires : goal.of-all-requires
+of-all-requires c = subst (AreGiven c.args.store.now) (sym c.as_slice.ensures.value) c.in_ok-given.ensures
+
 pub returns : goal.returns
-returns c =
-    subst (λ (t : Bool). Tells t (IsCrossedNow (store_of c.args.store.now) c.args.s.number)) (sym c.is_crossed_at.ensures) (crossed_told c.args.store.now c.args.s.number)
+returns c = crossed_as c.args.store.now c.args.s.number (states_of c.of-all.result) c.crosses_waiting.result c.of-all.ensures.states c.crosses_waiting.ensures

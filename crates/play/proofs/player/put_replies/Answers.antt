@@ -1,4 +1,4 @@
-use Rattle.std.proofs.Common.{◌≡◌, ◌≤◌, [], List, ℕ, sym, subst, arith}
+use Rattle.std.proofs.Common.{◌≤◌, List, ℕ, sym, subst, arith}
 use Rattle.play.proofs.Asking.{whatever}
 use Rattle.play.proofs.ScriptLemmas.{some_item, none_left}
 use Rattle.play.proofs.Replying.{Shows, shows_on, all_shown, never_none, front_shown}

@@ -1,4 +1,4 @@
-use Rattle.std.proofs.Common.{List, ℕ, subst, sym, ap, ◌∙◌, ◌++◌}
+use Rattle.std.proofs.Common.{List, ℕ, subst, ap, ◌∙◌, ◌++◌}
 use Rattle.pg_messages.specs.declared.client.ClientMessage.TheVariants.{Query}
 use Rattle.pg_messages.specs.Client.{spelling}
 use Rattle.play.specs.Opening.{HoldsClient}
@@ -7,5 +7,5 @@ use Rattle.play.proofs.player.query_bytes.Goals as goal
 
 pub returns : goal.returns
 returns c =
-    let P : List ℕ → Type 0 = λ text. HoldsClient c.write_client.new.onto (Query text) in
-    subst P c.in_ok-text.ensures (holds_one c.write_client.new.onto (Query c.in_ok-text.text) (c.in_ok-write_client.ensures.spelled ∙ ap (λ old. old ++ spelling (Query c.in_ok-text.text)) c.new-input.ensures) c.in_ok-write_client.ensures.again)
+    let P : List ℕ → Type 0 = λ text. HoldsClient c.write_client-written.new.onto (Query text) in
+    subst P c.in_ok-text.ensures (holds_one c.write_client-written.new.onto (Query c.in_ok-text.text) (c.in_ok-written.ensures.spelled ∙ ap (λ old. old ++ spelling (Query c.in_ok-text.text)) c.new-input.ensures) c.in_ok-written.ensures.again)

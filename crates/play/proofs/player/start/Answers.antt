@@ -1,4 +1,4 @@
-use Rattle.std.proofs.Common.{◌≡◌, List, ℕ, Bool, sym, subst}
+use Rattle.std.proofs.Common.{Bool, sym, subst}
 use Rattle.pool_base.specs.Outside.{Appends, AppendsFront}
 use Rattle.play.specs.Replies.{start_up}
 use Rattle.play.specs.Transcript.{shown_connect}

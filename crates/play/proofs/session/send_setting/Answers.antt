@@ -1,4 +1,4 @@
-use Rattle.std.proofs.Common.{List, ◌∷◌, [], sym, subst}
+use Rattle.std.proofs.Common.{◌∷◌, [], sym, subst}
 use Rattle.pg_messages.specs.declared.server.ServerMessage.{ServerMessage}
 use Rattle.pg_messages.specs.Server.{Fits}
 use Rattle.play.specs.Replies.{Sent}

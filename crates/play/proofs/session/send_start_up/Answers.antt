@@ -1,5 +1,5 @@
 use Rattle.std.proofs.Common.{◌∷◌, [], pos}
-use Rattle.pg_messages.specs.declared.server.ServerMessage.TheVariants.{AuthOk, BackendKey, Ready}
+use Rattle.pg_messages.specs.declared.server.ServerMessage.TheVariants.{BackendKey, Ready}
 use Rattle.play.specs.Replies.{Sent, settings, start_up}
 use Rattle.play.proofs.SendingLemmas.{sent_then, sent_on}
 use Rattle.play.proofs.session.send_start_up.Goals as goal

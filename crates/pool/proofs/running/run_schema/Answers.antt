@@ -1,6 +1,5 @@
-use Rattle.std.proofs.Common.{List, map, refl, subst}
-use Rattle.schema.specs.declared.catalogue.TableDef.{TableDef}
-use Rattle.pool.specs.Ends.{ScriptStageEnds, schema_stands, outside}
+use Rattle.std.proofs.Common.{map, refl}
+use Rattle.pool.specs.Ends.{schema_stands, outside}
 use Rattle.pool.proofs.Ending.{schema_stop}
 use Rattle.pool.proofs.running.run_schema.Goals as goal
 
@@ -10,13 +9,7 @@ returns-in-Err g c =
     let count = g.O.Sink.fault_count in
     let stores = map g.B.Backend.meaning c.args.shelf.now.items in
     schema_stop c.in-Err.stop (g.F.Files.contents c.args.files.now) (g.F.Files.fault_count c.args.files.now) c.args.command.now c.args.config.now c.args.schema.now c.refuse_schema.result
-    (outside (count c.args.out.now) (count c.refuse_schema.new.out) (taken c.args.out.now) (taken c.refuse_schema.new.out) stores stores) c.in-Err.ensures refl (c.refuse_schema.ensures stores)
+    (outside (count c.args.out.now) (count c.refuse_schema.new.out) (taken c.args.out.now) (taken c.refuse_schema.new.out) stores stores) c.in-Err.ensures.answer refl (c.refuse_schema.ensures stores)
 
 pub returns-in-Ok : goal.returns-in-Ok
-returns-in-Ok g c =
-    let taken = g.O.Sink.taken in
-    let count = g.O.Sink.fault_count in
-    let meaning = g.B.Backend.meaning in
-    let ends : List TableDef → Type 0 = λ tables. ScriptStageEnds (g.F.Files.contents c.args.files.now) (g.F.Files.fault_count c.args.files.now) (g.F.Files.fault_count c.run_tables.new.files) c.args.command.now c.args.config.now tables c.run_tables.result
-    (outside (count c.args.out.now) (count c.run_tables.new.out) (taken c.args.out.now) (taken c.run_tables.new.out) (map meaning c.args.shelf.now.items) (map meaning c.run_tables.new.shelf.items)) in
-    schema_stands c.in-Ok.catalogue c.in-Ok.ensures (subst ends c.tables.ensures c.run_tables.ensures)
+returns-in-Ok g c = schema_stands c.in-Ok.catalogue c.in-Ok.ensures.answer c.run_tables.ensures

@@ -26,5 +26,5 @@ returns-in-Ok-None g c =
     let command = c.args.command.now in
     let script = c.args.script.now in
     let has_none = none_at command script c.in-Ok-None.field-0 c.in-Ok-None.field-0-is c.in-Ok-None.ensures in
-    unbuilt (without has_none) (none_without command c.args.config.now c.args.tables.now script has_none)
+    unbuilt (without has_none) (none_without command c.args.config.now script has_none) refl
     (said_unbuilt c.say-in-Ok-None.result (taken c.args.out.now) (taken c.say-in-Ok-None.new.out) (count c.args.out.now) (count c.say-in-Ok-None.new.out) stores stores c.say-in-Ok-None.ensures)

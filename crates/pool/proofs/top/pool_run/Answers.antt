@@ -1,5 +1,6 @@
 use Rattle.pool.proofs.Numbers.{played, no_command_is, no_command_always, refused_is, refused_text, refuses, schema_refuses, files_rose, sink_rose}
 use Rattle.pool.proofs.ScriptNumbers.{script_refused_is, script_refused_text, script_refuses}
+use Rattle.pool.proofs.Touching.{untouched}
 use Rattle.pool.proofs.top.pool_run.Goals as goal
 
 pub run-requires-clause-fresh : goal.run-requires-clause-fresh
@@ -25,6 +26,9 @@ returns-clause-refuses g c = refuses _ _ _ _ _ _ c.run.ensures
 
 pub returns-clause-schema_refuses : goal.returns-clause-schema_refuses
 returns-clause-schema_refuses g c = schema_refuses _ _ _ _ _ _ c.run.ensures
+
+pub returns-clause-untouched : goal.returns-clause-untouched
+returns-clause-untouched g c = untouched _ _ _ _ _ _ c.run.ensures
 
 pub returns-clause-files : goal.returns-clause-files
 returns-clause-files g c = files_rose _ _ _ _ _ _ c.run.ensures

@@ -1,6 +1,6 @@
 use Rattle.std.proofs.Common.{◌≡◌, Bool, subst, sym}
 use Rattle.online_recovery.specs.Allowed.{MayHappen}
-use Rattle.recovery_program.proofs.Same.{Tells}
+use Rattle.session_machine.proofs.Trees.{Tells}
 use Rattle.recovery_program.proofs.Happening.{told}
 use Rattle.recovery_program.proofs.may.may_happen.Goals as goal
 

@@ -1,6 +1,12 @@
+use Rattle.std.proofs.Common.{◌≡◌, subst}
+use Rattle.std.specs.Prelude.{IfOk}
+use Rattle.backend_trait.specs.Store.{Store}
+use Rattle.plain_store.specs.declared.data.Database.{Database}
 use Rattle.plain_store.specs.Meaning.{store_of}
-use Rattle.run_program.proofs.Stepping.{acted_is}
+use Rattle.one_copy_model.specs.Marks.{marked}
 use Rattle.run_program.proofs.running.answered.Goals as goal
 
 pub returns : goal.returns
-returns c = acted_is (store_of c.args.store) c.args.s.number c.args.answer.now c.in_ok-new.new (store_of c.mark.new.self) c.in_ok-new.ensures c.mark.ensures
+returns c =
+    subst (λ (st : Store). IfOk c.marked.result (λ (new : Database). store_of new ≡ marked st)) c.in_ok-acted.ensures
+    c.marked.ensures

@@ -1,7 +1,11 @@
+use Rattle.std.proofs.Common.{◌≡◌, subst}
+use Rattle.std.specs.Prelude.{IfOk}
+use Rattle.backend_trait.specs.Store.{Store}
+use Rattle.plain_store.specs.declared.data.Database.{Database}
 use Rattle.plain_store.specs.Meaning.{store_of}
-use Rattle.run_program.proofs.Stepping.{died_is}
+use Rattle.one_copy_model.specs.Marks.{marked}
 use Rattle.run_program.proofs.running.died.Goals as goal
 
 pub returns : goal.returns
 returns c =
-    died_is (store_of c.args.store) c.args.s.number c.post.new.self c.in_ok-new.new (store_of c.mark.new.self) c.post.ensures c.in_ok-new.ensures c.mark.ensures
+    subst (λ (st : Store). IfOk c.marked.result (λ (new : Database). store_of new ≡ marked st)) c.fall.ensures c.marked.ensures

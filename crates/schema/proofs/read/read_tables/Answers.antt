@@ -1,4 +1,4 @@
-use Rattle.std.proofs.Common.{List, Err, true, subst, sym}
+use Rattle.std.proofs.Common.{List, Err, subst, sym}
 use Rattle.sql_tokens.specs.declared.token.Placed.{Placed}
 use Rattle.schema.specs.declared.catalogue.TableDef.{TableDef}
 use Rattle.schema.specs.declared.fault.Stop.{Stop}
@@ -16,14 +16,14 @@ pub returns-in-Err-Refused-clause-only : goal.returns-in-Err-Refused-clause-only
 returns-in-Err-Refused-clause-only c = λ tables r.
     none_through c.args.tokens.now _ c.placed-item.result (c.loop-left.tables, c.loop-left.place) tables
     (subst (λ (x : List Placed). Going c.args.tokens.now x (c.loop-left.tables, c.loop-left.place)) (first_and_rest c.loop-left.left.now c.placed-item.result c.in-len1-up.len_at_least c.placed-item.is) c.loop-left.invariant)
-    (subst (λ (e : Stop). (to : State) → Steps true (c.loop-left.tables, c.loop-left.place) c.placed-item.result.token to → IsStep to (with_tables c.advance.new.tables (Err e))) c.in-Err-Refused.field-0-is c.in-Err-Refused.ensures.only)
+    (subst (λ (e : Stop). (to : State) → Steps (c.loop-left.tables, c.loop-left.place) c.placed-item.result.token to → IsStep to (with_tables c.advance.new.tables (Err e))) c.in-Err-Refused.field-0-is c.in-Err-Refused.ensures.only)
     r
 
 pub returns-in-Err-Refused-clause-refused : goal.returns-in-Err-Refused-clause-refused
 returns-in-Err-Refused-clause-refused c =
     stops c.args.tokens.now _ c.placed-item.result (c.loop-left.tables, c.loop-left.place)
     (subst (λ (x : List Placed). Going c.args.tokens.now x (c.loop-left.tables, c.loop-left.place)) (first_and_rest c.loop-left.left.now c.placed-item.result c.in-len1-up.len_at_least c.placed-item.is) c.loop-left.invariant)
-    (subst (λ (e : Stop). (to : State) → Steps true (c.loop-left.tables, c.loop-left.place) c.placed-item.result.token to → IsStep to (with_tables c.advance.new.tables (Err e))) c.in-Err-Refused.field-0-is c.in-Err-Refused.ensures.only)
+    (subst (λ (e : Stop). (to : State) → Steps (c.loop-left.tables, c.loop-left.place) c.placed-item.result.token to → IsStep to (with_tables c.advance.new.tables (Err e))) c.in-Err-Refused.field-0-is c.in-Err-Refused.ensures.only)
 
 pub loop-left-preserved : goal.loop-left-preserved
 loop-left-preserved c =

@@ -1,7 +1,11 @@
-use Rattle.std.proofs.Common.{refl, arith, ap, ◌∙◌, subst, map}
+use Rattle.std.proofs.Common.{◌≡◌, refl, sym, arith, ap, ◌∙◌, subst, map}
+use Rattle.std.specs.Prelude.{Some, slice_get}
 use Rattle.backend_trait.specs.declared.request.Request.{Request}
+use Rattle.backend_trait.specs.Store.{Store, MayPost}
+use Rattle.write_path.specs.Chains.{answer_of, has_refused}
+use Rattle.session_core.specs.Standing.{IsAlone}
 use Rattle.session_core.specs.Chains.{AskedAt}
-use Rattle.session_core.proofs.Going.{more, closed_more, unasked, no_answer}
+use Rattle.session_core.proofs.Going.{more, closed_more, unasked, no_answer, may_next}
 use Rattle.session_core.proofs.ask.go_down.Goals as goal
 
 pub loop-init : goal.loop-init
@@ -15,6 +19,16 @@ loop-init g c = record {
   steady = c.requires.steady;
 }
 
+pub ask_at-requires-clause-may : goal.ask_at-requires-clause-may
+ask_at-requires-clause-may g c =
+    let olds = map g.B.Backend.meaning c.args.shelf.now in
+    let mids = map g.B.Backend.meaning c.loop.shelf in
+    let s = c.args.s.number in
+    let b = c.in-Some.b.number in
+    let none = (no_answer c.loop.chain c.args.attached.bits b c.in-Some.ensures.next.0).0 in
+    subst (λ (r : Request). (st : Store) → slice_get mids b ≡ Some st → IsAlone s st × MayPost st s r) (sym c.in_ok-request.ensures)
+    (may_next s _ (answer_of c.loop.chain) (has_refused c.loop.chain) olds mids b c.requires.may c.loop.invariant.asked none)
+
 pub loop-preserved : goal.loop-preserved
 loop-preserved g c =
     let olds = map g.B.Backend.meaning c.args.shelf.now in
@@ -23,7 +37,7 @@ loop-preserved g c =
     let b = c.in-Some.b.number in
     let answer = c.in_ok-answer.answer in
     let none = (no_answer c.loop.chain c.args.attached.bits b c.in-Some.ensures.next.0).0 in
-    let at = subst (λ (r : Request). AskedAt c.args.s.number r b answer mids news) c.request.ensures c.in_ok-answer.ensures.asked in
+    let at = subst (λ (r : Request). AskedAt c.args.s.number r b answer mids news) c.in_ok-request.ensures c.in_ok-answer.ensures.asked in
     record {
       asked = more c.args.s.number _ olds mids news c.loop.chain c.take_answer.new.self b answer c.is_refusal-refused.result
           c.loop.invariant.asked none at c.is_refusal-refused.ensures c.take_answer.ensures;

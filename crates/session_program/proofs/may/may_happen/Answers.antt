@@ -1,6 +1,6 @@
 use Rattle.std.proofs.Common.{◌≡◌, Bool, subst, sym}
 use Rattle.session_machine.specs.Allowed.{MayHappen}
-use Rattle.session_program.proofs.Same.{Tells}
+use Rattle.session_machine.proofs.Trees.{Tells}
 use Rattle.session_program.proofs.Happening.{told}
 use Rattle.session_program.proofs.may.may_happen.Goals as goal
 

@@ -20,8 +20,9 @@ returns-clause-orders c =
     let below : s < length orders = omega (arith, c.requires, c.args.s.up_to_64) in
     let within : s < length (slice_set orders s mid) = omega (arith, below, length-set orders s mid) in
     let there = slice_get_read orders (length orders) s c.index_mut.result.now refl below c.index_mut.ensures.value in
-    orders_is orders s mid c.in_ok-new.new (told_after session c.args.entries c.args.event.now (orders_in orders s)) below within
-    (c.in_ok-new.ensures
+    orders_is orders s mid c.replace.new.dest (told_after session c.args.entries c.args.event.now (orders_in orders s)) below within
+    (ap told_in c.replace.ensures.after
+    ∙ c.in_ok-new.ensures
     ∙ ap (λ (m : Machine). told_after m.session c.args.entries c.args.event.now (told_in c.replace-old.result)) c.machine.ensures
     ∙ ap (λ (k : Option Told). told_after session c.args.entries c.args.event.now (told_in k)) c.replace-old.ensures.value
     ∙ ap (λ (x : Option (Option Told)). told_after session c.args.entries c.args.event.now (told_in (kept_at x))) (sym there))

@@ -21,6 +21,9 @@ returns c =
     ∙ ap (λ (x : Option Outcome). is_given x outcome || c.in_ok-own.own) c.in_ok-given.ensures
     ∙ ap (λ (own : Bool). is_given (given t s told) outcome || own)
     (c.in_ok-own.ensures
-    ∙ ap (λ (m : Machine). is_own nobody m.session.view.attached told c.has_live-live.result outcome) c.machine.ensures
-    ∙ ap (λ (live : Bool). is_own nobody (t.world.machine s).session.view.attached told live outcome) c.has_live-live.ensures) in
+    ∙ ap (λ (m : Machine). is_own nobody m.session.view.attached told c.lives-live.result outcome) c.machine.ensures
+    ∙ ap (λ (live : Bool). is_own nobody (t.world.machine s).session.view.attached told live outcome) c.lives-live.ensures) in
     subst (λ (right : Bool). Tells right (IsRight t s told outcome)) (sym judged) (right_told t s told nobody outcome c.is_nobody-nobody.ensures)
+
+pub lives-live-requires : goal.lives-live-requires
+lives-live-requires c = c.args.t.now.alike

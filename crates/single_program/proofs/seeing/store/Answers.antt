@@ -8,4 +8,4 @@ returns c =
     let w = c.args.w.now in
     let below : c.args.b.number < length w.backends.items = omega (arith, w.numbered, c.args.b.below_8) in
     let there = slice_get_read w.backends.items (length w.backends.items) c.args.b.number c.index.result.now refl below c.index.ensures in
-    sym (ap store_in there)
+    sym (ap (store_in w.catalogue) there)

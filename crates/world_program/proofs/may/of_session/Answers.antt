@@ -9,5 +9,7 @@ use Rattle.world_program.proofs.may.of_session.Goals as goal
 
 pub returns : goal.returns
 returns c =
-    subst (λ (t : Bool). Tells t (MayHappen (world_of c.args.w.now) (Of c.args.s c.args.event.now))) (sym c.at_session.ensures)
-    (session_told c.args.w.now c.args.s.number (machine_in c.args.w.now.policy c.args.s.number (slice_get c.args.w.now.machines.items c.args.s.number)) c.args.event.now)
+    let w = c.args.w.now in
+    let s = c.args.s.number in
+    subst (λ (t : Bool). Tells t (MayHappen (world_of w) (Of c.args.s c.args.event.now))) (sym c.may_order.ensures)
+    (session_told w s (machine_in w.policy s (slice_get w.machines.items s)) c.args.event.now c.orders_of-is_of.result c.orders_of-is_of.ensures)

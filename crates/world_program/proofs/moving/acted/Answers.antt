@@ -11,5 +11,5 @@ returns c =
     let w = c.args.w in
     let below : c.args.b.number < length w.backends.items = omega (arith, w.numbered, c.args.b.below_8) in
     let there = slice_get_read w.backends.items (length w.backends.items) c.args.b.number c.index_mut.result.now refl below c.index_mut.ensures.value in
-    stored_is w.policy w.gate.state w.machines.items w.backends.items c.args.b.number c.index_mut.result.now _ _ below there
-    (c.in_ok-store_acted.ensures ∙ ap (λ x. marked (after_answer (store_in x) c.args.s.number c.args.answer.now)) (sym there)) refl
+    stored_is w.catalogue w.policy w.gate.state w.machines.items w.backends.items c.args.b.number c.index_mut.result.now _ _ below there
+    (c.in_ok-store_acted.ensures ∙ ap (λ x. marked (after_answer (store_in w.catalogue x) c.args.s.number c.args.answer.now)) (sym there)) refl

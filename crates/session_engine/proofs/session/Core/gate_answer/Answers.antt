@@ -4,7 +4,7 @@ use Rattle.session_machine.specs.declared.machine.Machine.{Machine}
 use Rattle.session_machine.specs.Rules.{next_action}
 use Rattle.session_engine.specs.Meaning.{machine_of}
 use Rattle.session_engine.specs.Handing.{handed}
-use Rattle.session_engine.specs.Sound.{splits_select}
+use Rattle.session_engine.specs.Sound.{wants_memory}
 use Rattle.session_engine.proofs.Calls.{gate_event_sound, led, handed_or_kept, wanted}
 use Rattle.session_engine.proofs.Classes.{gate_event_keeps, carried, own_or_kept}
 use Rattle.session_engine.proofs.Giving.{want_may_leave}
@@ -38,13 +38,13 @@ returns-clause-taken c =
 pub returns-clause-want : goal.returns-clause-want
 returns-clause-want c =
     let m = machine_of c.args.self.now.standing in
-    subst (λ (n : Machine). IfErr c.hand_out-action.result (λ _. splits_select n.point ≡ true)) c.gate_answered.ensures
-    (wanted c.hand_out-action.result (machine_of c.gate_answered.new.self) (∥∥₁_map c.args.self.now.sound (λ sound. led _ _ c.gate_answered.ensures (gate_event_sound m (next_action m) c.args.answer sound))) c.hand_out-action.ensures.split c.hand_out-action.ensures.want)
+    subst (λ (n : Machine). IfErr c.hand_out-action.result (λ _. wants_memory n.point ≡ true)) c.gate_answered.ensures
+    (wanted c.hand_out-action.result (machine_of c.gate_answered.new.self) (∥∥₁_map c.args.self.now.sound (λ sound. led _ _ c.gate_answered.ensures (gate_event_sound m (next_action m) c.args.answer sound))) c.hand_out-action.ensures.want)
 
 pub returns-clause-leaves : goal.returns-clause-leaves
 returns-clause-leaves c =
     let m = machine_of c.args.self.now.standing in
     want_may_leave c.hand_out-action.result (machine_of c.gate_answered.new.self) (machine_of c.hand_out-action.new.self)
     (carried _ _ c.gate_answered.ensures (gate_event_keeps m (next_action m) c.args.answer c.args.self.now.classed))
-    (wanted c.hand_out-action.result (machine_of c.gate_answered.new.self) (∥∥₁_map c.args.self.now.sound (λ sound. led _ _ c.gate_answered.ensures (gate_event_sound m (next_action m) c.args.answer sound))) c.hand_out-action.ensures.split c.hand_out-action.ensures.want)
+    (wanted c.hand_out-action.result (machine_of c.gate_answered.new.self) (∥∥₁_map c.args.self.now.sound (λ sound. led _ _ c.gate_answered.ensures (gate_event_sound m (next_action m) c.args.answer sound))) c.hand_out-action.ensures.want)
     c.hand_out-action.ensures.err

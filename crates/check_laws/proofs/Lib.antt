@@ -1,0 +1,4 @@
+mod Singles
+mod Exprs
+mod Bodies
+mod Checks

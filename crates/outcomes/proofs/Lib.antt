@@ -1,0 +1,10 @@
+pub mod Entries
+pub mod Laid
+pub mod Ordered
+pub mod Numbers
+pub mod StoredRows
+pub mod Giving
+pub mod Among
+pub mod Shaped
+pub mod LogLaws
+pub mod NextLaws

@@ -1,0 +1,10 @@
+pub mod Spread
+pub mod Spots
+pub mod Log
+pub mod Gathered
+pub mod Sights
+pub mod Seeing
+pub mod Stored
+pub mod Given
+pub mod Positive
+pub mod Next

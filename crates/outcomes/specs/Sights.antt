@@ -1,0 +1,38 @@
+-- The rows that a transaction sees, as they stand in a row.
+use Rattle.std.specs.Prelude.{◌==◌, not, ℕ, nat_lt, Bool, List, [], ◌∷◌, map, Option, Some, None, if◌then◌else◌}
+use Rattle.std.specs.FinMap.{from_sorted}
+use Rattle.std.specs.Ordering.{is_gt}
+use Rattle.sql_eval.specs.declared.row.Row.{Row}
+use Rattle.sql_eval.specs.declared.effect.Change.{Change}
+use Rattle.backend_trait.specs.Keys.{Place, place, place_order}
+use Rattle.backend_trait.specs.Rows.{Rows, changed_at}
+use Rattle.backend_trait.specs.Effect.{place_changed}
+use Rattle.outcomes.specs.declared.sight.Seen.{Seen}
+
+-- a row at its place
+abbrev pub stood : Seen → Place × Row
+stood seen = (place seen.table seen.key.now, seen.row.now)
+
+abbrev pub all_stood : List Seen → List (Place × Row)
+all_stood rows = map stood rows
+
+-- the rows that stand so, each at its place
+abbrev pub rows_at : List Seen → Rows
+rows_at rows = from_sorted (all_stood rows)
+
+-- changes laid over rows, one after another
+abbrev pub all_laid : Rows → List Change → Rows
+all_laid rows [] = rows
+all_laid rows (c ∷ cs) = all_laid (changed_at rows (place_changed c) c.row) cs
+
+-- the row of an entry, if it is of the table
+abbrev pub row_in : ℕ → Option (Place × Row) → Option Row
+row_in table None = None
+row_in table (Some e) = if e.0.table == table then Some e.1 else None
+
+-- an entry of a table before that one, and one that does not stand behind a place
+abbrev pub is_before : ℕ → Place × Row → Bool
+is_before table e = nat_lt e.0.table table
+
+abbrev pub is_up_to : Place → Place × Row → Bool
+is_up_to p e = not (is_gt (place_order e.0 p))

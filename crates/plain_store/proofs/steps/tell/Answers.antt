@@ -1,0 +1,23 @@
+use Rattle.std.proofs.Common.{◌<◌, length, arith, ◌∙◌, sym, ap, subst}
+use Rattle.std.specs.Prelude.{Option, slice_set}
+use Rattle.std.proofs.lemmas.List.{length-set}
+use Rattle.outcomes.specs.Next.{next_of}
+use Rattle.backend_trait.specs.declared.request.Request.{Request}
+use Rattle.plain_store.specs.Meaning.{store_in}
+use Rattle.plain_store.specs.Kept.{IsKept}
+use Rattle.plain_store.proofs.StepLaws.{unasked_is}
+use Rattle.plain_store.proofs.KeptLaws.{kept_set}
+use Rattle.plain_store.proofs.steps.tell.Goals as goal
+
+pub invariant_of-store-clause-requested : goal.invariant_of-store-clause-requested
+invariant_of-store-clause-requested c = let d = c.args.store.now in length-set d.requests.items c.args.s c.replace.new.dest ∙ d.requested
+
+pub invariant_of-store-clause-kept : goal.invariant_of-store-clause-kept
+invariant_of-store-clause-kept c = let d = c.args.store.now in kept_set d.catalogue d.requests.items c.args.s c.replace.new.dest d.kept (subst (IsKept d.catalogue) (sym c.replace.ensures.after) tt)
+
+pub returns : goal.returns
+returns c =
+    let d = c.args.store.now in
+    let below : c.args.s < length d.requests.items = omega (arith, c.requires, d.requested) in
+    ap (λ (x : Option Request). store_in (next_of d.numbers) d.catalogue d.log.items d.phases.items (slice_set d.requests.items c.args.s x) d.crossed.items d.is_lost) c.replace.ensures.after
+    ∙ unasked_is (next_of d.numbers) d.catalogue d.log.items d.phases.items d.requests.items d.crossed.items d.is_lost c.args.s below

@@ -1,5 +1,0 @@
-use Rattle.std.proofs.Common.{length}
-use Rattle.session_program.proofs.form.+have_columns.Given as goal
-
-abbrev pub decreases-have_columns : goal.decreases-have_columns
-decreases-have_columns l = length l.rows.now
