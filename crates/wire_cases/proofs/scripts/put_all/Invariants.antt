@@ -2,7 +2,7 @@ use Rattle.std.proofs.Common.{length, map}
 use Rattle.std.specs.List.{AllByRecursion}
 use Rattle.pgproto.specs.Line.{line_of}
 use Rattle.pgproto.specs.Spelling.{IsOfGrammar}
-use Rattle.wire_trials.proofs.tests.scripts.show_all.Given as goal
+use Rattle.wire_cases.proofs.scripts.put_all.Given as goal
 
 abbrev pub invariant-loop-rest : goal.invariant-loop-rest
 invariant-loop-rest l = AllByRecursion IsOfGrammar (map line_of l.rest)
