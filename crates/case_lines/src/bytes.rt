@@ -42,8 +42,8 @@ fn first_of(text: &[u8]) -> Option<(u8, &[u8])> {
     }
 }
 
-/// The bytes that a text spells: `\n`, `\t`, `\r`, `\xNN`, a backslash before a byte that stands for itself,
-/// and every other byte itself. It ends before an `\x` without two digits.
+/// The bytes that a text spells: `\n`, `\t`, `\r`, `\xNN`, a backslash before a byte that stands
+/// for itself, and every other byte itself. It ends before an `\x` without two digits.
 pub fn bytes_of(alloc: Global, text: &str) -> Result<List<u8>, NoMemory> {
     let mut bytes = List::new(alloc);
     let mut rest = text.as_bytes();

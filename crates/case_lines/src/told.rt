@@ -2,7 +2,8 @@
 use std::alloc::Global;
 use std::fmt::{Display, Write};
 
-/// A text that grows, piece by piece. Its calls return nothing, so that what puts many pieces stays short.
+/// A text that grows, piece by piece. Its calls return nothing, so that what puts many pieces stays
+/// short.
 #[derive(Drop)]
 pub struct Told {
     text: String,
@@ -69,7 +70,8 @@ impl Told {
         }
     }
 
-    /// Puts bytes in one line: those of ASCII that have a form as they are, LF as `\n`, others as `\xNN`.
+    /// Puts bytes in one line: those of ASCII that have a form as they are, LF as `\n`, others as
+    /// `\xNN`.
     pub fn put_escaped(&mut self, bytes: &[u8]) {
         for byte in bytes {
             self.put_byte(*byte);

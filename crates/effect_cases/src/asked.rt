@@ -52,7 +52,8 @@ fn checked_of(
     check(alloc, tables, statement, kinds)
 }
 
-/// What the one statement of a text is over the tables, with these types of parameters; without them none stands.
+/// What the one statement of a text is over the tables, with these types of parameters; without
+/// them none stands.
 pub(crate) fn checked_with(
     alloc: Global,
     tables: &Catalogue,

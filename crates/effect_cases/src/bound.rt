@@ -82,8 +82,8 @@ fn put_asked(alloc: Global, tables: &Catalogue, others: &Catalogue, asked: &str,
     }
 }
 
-/// `TEXT ; VALUES ; OTHER`: of which tables the statement of the text is, of which it is with the values, and whether
-/// it is then the statement of the other text.
+/// `TEXT ; VALUES ; OTHER`: of which tables the statement of the text is, of which it is with the
+/// values, and whether it is then the statement of the other text.
 pub(crate) fn put_bound(alloc: Global, around: &Around, asked: &str, told: &mut Told) {
     let tables = tables_of(alloc, around, "schema");
     let others = tables_of(alloc, around, "other");

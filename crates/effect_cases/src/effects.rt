@@ -96,7 +96,8 @@ fn put_on(alloc: Global, tables: &Catalogue, around: &Around, text: &str, told: 
     }
 }
 
-/// What the statement of a text does on the rows of the lines `@ row`, where `@ next` is the next serial number.
+/// What the statement of a text does on the rows of the lines `@ row`, where `@ next` is the next
+/// serial number.
 pub(crate) fn put_effect(alloc: Global, around: &Around, text: &str, told: &mut Told) {
     match tables_of(alloc, around, "schema") {
         Some(tables) => put_on(alloc, &tables, around, text, told),

@@ -73,7 +73,8 @@ fn put_over(alloc: Global, tables: &Catalogue, text: &str, is_again: bool, told:
     put_made(alloc, tables, &made, is_again, told);
 }
 
-/// The text of what a statement is checked as, or the text of what that is read and checked as again.
+/// The text of what a statement is checked as, or the text of what that is read and checked as
+/// again.
 pub(crate) fn put_printed(
     alloc: Global,
     around: &Around,

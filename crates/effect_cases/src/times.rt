@@ -41,7 +41,8 @@ fn put_over(alloc: Global, tables: &Catalogue, moment: i64, asked: &str, told: &
     }
 }
 
-/// `TEXT ; OTHER`: whether the statement of the text, at the moment of the line `@ moment`, is that of the other.
+/// `TEXT ; OTHER`: whether the statement of the text, at the moment of the line `@ moment`, is that
+/// of the other.
 pub(crate) fn put_time(alloc: Global, around: &Around, asked: &str, told: &mut Told) {
     let moment = number_of(alloc, around, "moment");
     match tables_of(alloc, around, "schema") {

@@ -11,7 +11,8 @@ fn put_number(mark: &str, number: u32, told: &mut Told) {
     told.put_number(u64::from(number));
 }
 
-/// A value, `#` and the number of a column, `$` and that of a parameter, or two dots for any other expression.
+/// A value, `#` and the number of a column, `$` and that of a parameter, or two dots for any other
+/// expression.
 fn put_expr(expr: &TypedExpr, told: &mut Told) {
     match &expr.form {
         TypedForm::Literal(value) => {

@@ -1,5 +1,5 @@
-//! Cases of SQL: `sql_cases TABLE..` reads tables that lie where it runs, and prints for each how many cases it
-//! has and which are answered otherwise.
+//! Cases of SQL: `sql_cases TABLE..` reads tables that lie where it runs, and prints for each how
+//! many cases it has and which are answered otherwise.
 #![tactic(auto)]
 
 mod bodies;

@@ -52,7 +52,8 @@ fn put_between(front: &str, text: &str, back: &str, told: &mut Told) {
     told.put(back);
 }
 
-/// A word in angle brackets, a mark, a name, a string, a number or a parameter as it is written, a fault behind `!`.
+/// A word in angle brackets, a mark, a name, a string, a number or a parameter as it is written, a
+/// fault behind `!`.
 fn put_token(token: &Token, told: &mut Told) {
     match token {
         Token::Word(word) => put_between("<", word.spelling(), ">", told),

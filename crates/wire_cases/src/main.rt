@@ -1,5 +1,6 @@
-//! Cases of the words that every crate speaks and of what goes over a wire: `wire_cases TABLE..` reads tables
-//! that lie where it runs, and prints for each how many cases it has and which are answered otherwise.
+//! Cases of the words that every crate speaks and of what goes over a wire: `wire_cases TABLE..`
+//! reads tables that lie where it runs, and prints for each how many cases it has and which are
+//! answered otherwise.
 #![tactic(auto)]
 
 mod commands;

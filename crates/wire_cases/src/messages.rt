@@ -85,8 +85,8 @@ fn put_line(alloc: Global, bytes: &[u8], told: &mut Told) {
     }
 }
 
-/// `SIDE BYTES`: what stands at the front of what a client, a server or a client that connects sends; `line`: what
-/// a transcript has of a server's message.
+/// `SIDE BYTES`: what stands at the front of what a client, a server or a client that connects
+/// sends; `line`: what a transcript has of a server's message.
 pub(crate) fn put_message(alloc: Global, asked: &str, told: &mut Told) {
     let (side, text) = asked.split_once(' ').unwrap_or((asked, ""));
     match (side, bytes_of(alloc, text)) {

@@ -58,7 +58,8 @@ fn put_copied(alloc: Global, is_server: bool, bytes: &[u8], told: &mut Told) {
     }
 }
 
-/// `SIDE BYTES`: the types of the messages that a client or a server sends, where they are written as the same bytes.
+/// `SIDE BYTES`: the types of the messages that a client or a server sends, where they are written
+/// as the same bytes.
 pub(crate) fn put_stream(alloc: Global, asked: &str, told: &mut Told) {
     let (side, text) = asked.split_once(' ').unwrap_or((asked, ""));
     match bytes_of(alloc, text) {

@@ -1,4 +1,5 @@
-//! The adapters of the system: a file, a slice that is read, a slice that is written, and the clock.
+//! The adapters of the system: a file, a slice that is read, a slice that is written, and the
+//! clock.
 use case_lines::Told;
 use pool_base::{
     Clock, Files, Got, ReaderSource, Sink, Source, SystemClock, SystemFiles, WriterSink,
@@ -61,7 +62,8 @@ fn put_clock(clock: &mut impl Clock, told: &mut Told) {
     });
 }
 
-/// Prints what the adapters of the system gave: `adapters` reads the file of that name that lies where it runs.
+/// Prints what the adapters of the system gave: `adapters` reads the file of that name that lies
+/// where it runs.
 pub(crate) fn print_adapters(rt: &HostRuntime) -> io::Result<()> {
     let mut told = Told::new(rt.alloc());
     let mut files = SystemFiles::new(rt);
