@@ -7,6 +7,7 @@ use crate::printed::put_checked;
 use case_lines::{Around, Told};
 use catalogue::{Catalogue, CheckFault, Checked};
 use checked_sql::{bind, is_of};
+use pg_values::Value;
 use std::alloc::Global;
 
 /// `same` where a statement has the text of what another text is checked as, and else its text.
@@ -22,9 +23,11 @@ pub(crate) fn put_same(
     let mut text = Told::new(alloc);
     put_checked(alloc, tables, made, &mut text);
     let mut wanted = Told::new(alloc);
-    if let Ok(checked) = checked_with(alloc, tables, other, Some(&[])) {
-        put_checked(alloc, tables, &checked, &mut wanted);
+    let other = checked_with(alloc, tables, other, Some(&[]));
+    if let Ok(checked) = &other {
+        put_checked(alloc, tables, checked, &mut wanted);
     }
+    drop(other);
     told.put(if text.is(wanted.as_str()) {
         "same"
     } else {
@@ -66,20 +69,46 @@ fn put_answer(
     }
 }
 
+/// What is told of a statement, and of it with values.
+fn put_both(
+    alloc: Global,
+    tables: &Catalogue,
+    others: &Catalogue,
+    checked: &Checked,
+    values: &[Value],
+    other: &str,
+    told: &mut Told,
+)
+    requires within { IsWithin tables.now }
+{
+    put_tables(tables, others, checked, told);
+    let answer = bind(checked, values);
+    put_answer(alloc, tables, others, &answer, other, told);
+    drop(answer);
+}
+
 fn put_asked(alloc: Global, tables: &Catalogue, others: &Catalogue, asked: &str, told: &mut Told)
     requires within { IsWithin tables.now }
 {
     let (text, rest) = asked.split_once(" ; ").unwrap_or((asked, ""));
     let (words, other) = rest.split_once(" ; ").unwrap_or((rest, ""));
     let values = values_of(alloc, words, told);
-    match checked_with(alloc, tables, text, Some(&[])) {
+    let made = checked_with(alloc, tables, text, Some(&[]));
+    match &made {
         Ok(checked) => {
-            put_tables(tables, others, &checked, told);
-            let answer = bind(&checked, values.as_slice());
-            put_answer(alloc, tables, others, &answer, other, told);
+            put_both(
+                alloc,
+                tables,
+                others,
+                checked,
+                values.as_slice(),
+                other,
+                told,
+            );
         }
         Err(_) => told.put("no statement"),
     }
+    drop(made);
 }
 
 /// `TEXT ; VALUES ; OTHER`: of which tables the statement of the text is, of which it is with the

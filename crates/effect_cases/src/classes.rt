@@ -49,10 +49,12 @@ fn put_needs(checked: &Checked, told: &mut Told) {
 fn put_over(alloc: Global, tables: &Catalogue, text: &str, told: &mut Told)
     requires within { IsWithin tables.now }
 {
-    match checked_with(alloc, tables, text, None) {
-        Ok(checked) => put_needs(&checked, told),
+    let made = checked_with(alloc, tables, text, None);
+    match &made {
+        Ok(checked) => put_needs(checked, told),
         Err(_) => told.put("no statement"),
     }
+    drop(made);
 }
 
 /// The class of a statement, the table whose lock it takes first, and the mask of the tables that

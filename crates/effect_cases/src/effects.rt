@@ -54,10 +54,14 @@ fn put_done(
     }
     match &checked.body {
         CheckedBody::Read(_) => {
-            put_read_or_fault(&eval_read(alloc, tables, checked, shelf), told);
+            let answer = eval_read(alloc, tables, checked, shelf);
+            put_read_or_fault(&answer, told);
+            drop(answer);
         }
         CheckedBody::Insert(_) | CheckedBody::Change(_) | CheckedBody::Remove(_) => {
-            put_write_or_fault(&eval_write(alloc, tables, checked, shelf, next), told);
+            let answer = eval_write(alloc, tables, checked, shelf, next);
+            put_write_or_fault(&answer, told);
+            drop(answer);
         }
     }
 }
@@ -91,6 +95,7 @@ fn put_on(alloc: Global, tables: &Catalogue, around: &Around, text: &str, told: 
         Some(shelf) => {
             let answer = checked_with(alloc, tables, text, None);
             put_answer(alloc, tables, &answer, &shelf, next, told);
+            drop(answer);
         }
         None => told.put("no rows"),
     }

@@ -42,7 +42,9 @@ fn put_made(
 {
     match made {
         Ok(checked) if is_again => {
-            put_answer(alloc, tables, &checked_again(alloc, tables, checked), told);
+            let again = checked_again(alloc, tables, checked);
+            put_answer(alloc, tables, &again, told);
+            drop(again);
         }
         Ok(checked) => put_checked(alloc, tables, checked, told),
         Err(_) => told.put("no statement"),
@@ -60,17 +62,31 @@ fn numbers_of(alloc: Global, words: &str) -> List<u32> {
     numbers
 }
 
+fn put_with(
+    alloc: Global,
+    tables: &Catalogue,
+    kinds: Option<&[u32]>,
+    text: &str,
+    is_again: bool,
+    told: &mut Told,
+)
+    requires within { IsWithin tables.now }
+{
+    let made = checked_with(alloc, tables, text, kinds);
+    put_made(alloc, tables, &made, is_again, told);
+    drop(made);
+}
+
 fn put_over(alloc: Global, tables: &Catalogue, text: &str, is_again: bool, told: &mut Told)
     requires within { IsWithin tables.now }
 {
-    let made = match text.split_once("] ") {
+    match text.split_once("] ") {
         Some((list, text)) => {
             let kinds = numbers_of(alloc, list.trim_start_matches('['));
-            checked_with(alloc, tables, text, Some(kinds.as_slice()))
+            put_with(alloc, tables, Some(kinds.as_slice()), text, is_again, told);
         }
-        None => checked_with(alloc, tables, text, None),
-    };
-    put_made(alloc, tables, &made, is_again, told);
+        None => put_with(alloc, tables, None, text, is_again, told),
+    }
 }
 
 /// The text of what a statement is checked as, or the text of what that is read and checked as

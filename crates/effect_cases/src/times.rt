@@ -31,14 +31,31 @@ fn put_at(
     }
 }
 
+fn put_made(
+    alloc: Global,
+    tables: &Catalogue,
+    checked: &Checked,
+    moment: i64,
+    other: &str,
+    told: &mut Told,
+)
+    requires within { IsWithin tables.now }
+{
+    let answer = rewrite(checked, moment);
+    put_at(alloc, tables, &answer, other, told);
+    drop(answer);
+}
+
 fn put_over(alloc: Global, tables: &Catalogue, moment: i64, asked: &str, told: &mut Told)
     requires within { IsWithin tables.now }
 {
     let (text, other) = asked.split_once(" ; ").unwrap_or((asked, asked));
-    match checked_with(alloc, tables, text, Some(&[])) {
-        Ok(checked) => put_at(alloc, tables, &rewrite(&checked, moment), other, told),
+    let made = checked_with(alloc, tables, text, Some(&[]));
+    match &made {
+        Ok(checked) => put_made(alloc, tables, checked, moment, other, told),
         Err(_) => told.put("no statement"),
     }
+    drop(made);
 }
 
 /// `TEXT ; OTHER`: whether the statement of the text, at the moment of the line `@ moment`, is that

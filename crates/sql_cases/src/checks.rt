@@ -8,18 +8,9 @@ use crate::words::word_of;
 use case_lines::{Around, Told};
 use catalogue::{Catalogue, CheckFault, Checked, ColumnDesc, check, is_checked, read_schema};
 use pg_values::ColType;
-use pool_base::List;
+use pool_base::{Code, List, Text};
 use sql_profile::Statement;
 use std::alloc::Global;
-
-/// What a case asks: the types of the parameters, if there is a list of them, and a text.
-#[derive(Drop)]
-struct Asked<'a> {
-    list: Option<&'a str>,
-    text: &'a str,
-    /// Whether the checked statement is told too.
-    has_body: bool,
-}
 
 /// The columns of a result, each by its name and its type.
 fn put_columns(columns: &[ColumnDesc], told: &mut Told) {
@@ -40,26 +31,33 @@ fn put_kinds(kinds: &[ColType], told: &mut Told) {
     }
 }
 
-fn put_checked(checked: &Checked, asked: &Asked<'_>, told: &mut Told) {
+fn put_checked(checked: &Checked, has_list: bool, has_body: bool, told: &mut Told) {
     put_columns(checked.columns.as_slice(), told);
-    if asked.list.is_some() {
+    if has_list {
         put_kinds(checked.kinds.as_slice(), told);
     }
-    if asked.has_body {
+    if has_body {
         told.put_word(":");
         put_body(&checked.body, told);
     }
 }
 
-fn put_answer(answer: &Result<Checked, CheckFault>, asked: &Asked<'_>, told: &mut Told) {
+fn put_fault(code: &Code, name: &Text, told: &mut Told) {
+    told.put_escaped(code.bytes.as_slice());
+    if !name.is_empty() {
+        told.put_word(name.as_str());
+    }
+}
+
+fn put_answer(
+    answer: &Result<Checked, CheckFault>,
+    has_list: bool,
+    has_body: bool,
+    told: &mut Told,
+) {
     match answer {
-        Ok(checked) => put_checked(checked, asked, told),
-        Err(CheckFault::Refused { code, name }) => {
-            told.put_escaped(code.bytes.as_slice());
-            if !name.is_empty() {
-                told.put_word(name.as_str());
-            }
-        }
+        Ok(checked) => put_checked(checked, has_list, has_body, told),
+        Err(CheckFault::Refused { code, name }) => put_fault(code, name, told),
         Err(CheckFault::NoMemory) => told.put("no memory"),
     }
 }
@@ -79,7 +77,8 @@ fn put_of(
     alloc: Global,
     tables: &Catalogue,
     statement: &Statement,
-    asked: &Asked<'_>,
+    kinds: Option<&[u32]>,
+    has_body: bool,
     told: &mut Told,
 )
     requires within { IsWithin tables.now }
@@ -87,26 +86,38 @@ fn put_of(
     if !is_checked(statement) {
         return told.put("not checked");
     }
-    match asked.list {
-        Some(list) => {
-            let kinds = numbers_of(alloc, list);
-            put_answer(
-                &check(alloc, tables, statement, Some(kinds.as_slice())),
-                asked,
-                told,
-            );
-        }
-        None => put_answer(&check(alloc, tables, statement, None), asked, told),
-    }
+    let answer = check(alloc, tables, statement, kinds);
+    put_answer(&answer, kinds.is_some(), has_body, told);
+    drop(answer);
 }
 
-fn put_one(alloc: Global, tables: &Catalogue, asked: &Asked<'_>, told: &mut Told)
+fn put_one(
+    alloc: Global,
+    tables: &Catalogue,
+    kinds: Option<&[u32]>,
+    text: &str,
+    has_body: bool,
+    told: &mut Told,
+)
     requires within { IsWithin tables.now }
 {
     let mut read = List::new(alloc);
-    match one_of(alloc, asked.text, &mut read) {
-        Some(statement) => put_of(alloc, tables, statement, asked, told),
+    match one_of(alloc, text, &mut read) {
+        Some(statement) => put_of(alloc, tables, statement, kinds, has_body, told),
         None => told.put("not one statement"),
+    }
+}
+
+/// What is told of a text, behind a list of types or without one.
+fn put_asked(alloc: Global, tables: &Catalogue, asked: &str, has_body: bool, told: &mut Told)
+    requires within { IsWithin tables.now }
+{
+    match asked.split_once("] ") {
+        Some((list, text)) => {
+            let kinds = numbers_of(alloc, list.trim_start_matches('['));
+            put_one(alloc, tables, Some(kinds.as_slice()), text, has_body, told);
+        }
+        None => put_one(alloc, tables, None, asked, has_body, told),
     }
 }
 
@@ -130,20 +141,8 @@ pub(crate) fn put_check(
 ) {
     let mut schema = Told::new(alloc);
     around.put_texts("schema", &mut schema);
-    let asked = match asked.split_once("] ") {
-        Some((list, text)) => Asked {
-            list: Some(list.trim_start_matches('[')),
-            text,
-            has_body,
-        },
-        None => Asked {
-            list: None,
-            text: asked,
-            has_body,
-        },
-    };
     match tables_of(alloc, schema.as_str()) {
-        Some(tables) => put_one(alloc, &tables, &asked, told),
+        Some(tables) => put_asked(alloc, &tables, asked, has_body, told),
         None => told.put("the schema is not read"),
     }
 }
