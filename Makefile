@@ -4,13 +4,15 @@ CRATES := $(shell sed -n 's/^\([a-z][a-z0-9_]*\).*:.*/\1/p' crates.txt)
 # stops where no crate is named
 crate = $(or $(C),$(error name a crate: make $@ C=pool_base))
 
-.PHONY: help check try fmt edits gate test index lint bench hooks clean
+.PHONY: help check try cases fmt edits gate test index lint bench hooks clean
 help:            ## this list
 	@grep -hE '^[a-z]+:.*## ' $(MAKEFILE_LIST) | sed 's/:.*## /\t/'
 check:           ## prove one crate: make check C=pool_base
 	cd crates/$(crate) && rt check
 try:             ## run one crate's tests, with no proof: make try C=pool_base
 	cd crates/$(crate) && rt try --test
+cases:           ## run one crate's tables of cases, with no proof: make cases C=wire_cases
+	@cd crates/$(crate) && rt try --seconds 300 $$(for f in data/*; do echo --data $${f#data/}=$$f; done) -- $$(cat args)
 fmt:             ## lay out every crate
 	@for c in $(CRATES); do (cd crates/$$c && rt fmt) || exit 1; done
 edits:           ## the must-fail edits: make edits C=pool_base

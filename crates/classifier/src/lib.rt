@@ -5,6 +5,3 @@
 mod class;
 
 pub use class::{Class, class_of, lock_of, tables_mask};
-
-#[cfg(test)]
-mod tests;

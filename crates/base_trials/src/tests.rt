@@ -1,4 +1,0 @@
-mod base;
-mod command_line;
-mod configuration;
-mod outside;

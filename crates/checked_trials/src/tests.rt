@@ -1,4 +1,0 @@
-mod binding;
-mod numbers;
-mod printing;
-mod texts;

@@ -1,5 +1,0 @@
-use Rattle.std.proofs.Common.{length}
-use Rattle.effect_trials.proofs.tests.allowed.+row_draws.Given as goal
-
-abbrev pub decreases-row_draws : goal.decreases-row_draws
-decreases-row_draws l = length l.cells.now

@@ -1,5 +1,0 @@
-use Rattle.std.proofs.Common.{length}
-use Rattle.effect_trials.proofs.tests.shelf.+have_keys.Given as goal
-
-abbrev pub decreases-have_keys : goal.decreases-have_keys
-decreases-have_keys l = length l.rows.now

@@ -1,9 +1,0 @@
-mod allowed;
-mod changes;
-mod inserts;
-mod reads;
-mod shelf;
-mod sizes;
-mod texts;
-mod told;
-mod values;

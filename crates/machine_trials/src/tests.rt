@@ -1,4 +1,0 @@
-mod boxes;
-mod chain;
-mod lines;
-mod lists;

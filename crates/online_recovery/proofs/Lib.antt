@@ -1,5 +1,0 @@
-pub mod Fitting
-pub mod Proceeding
-pub mod Calling
-pub mod Keeping
-pub mod Naming

@@ -1,5 +1,0 @@
-pub mod Codes
-pub mod State
-pub mod Rules
-pub mod Allowed
-pub mod Runs

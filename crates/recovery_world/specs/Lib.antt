@@ -1,5 +1,0 @@
-pub mod Copying
-pub mod Pool
-pub mod Holding
-pub mod Phases
-pub mod Sample

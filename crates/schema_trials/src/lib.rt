@@ -1,5 +1,0 @@
-//! Schemas, types and values: tests alone, over the public calls of the crates that they try.
-#![tactic(auto)]
-
-#[cfg(test)]
-mod tests;

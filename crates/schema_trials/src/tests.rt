@@ -1,5 +1,0 @@
-mod printing;
-mod reading;
-mod typing;
-mod values;
-mod writing;

@@ -1,5 +1,0 @@
-pub mod Setting
-pub mod Following
-pub mod Rightness
-pub mod Counting
-pub mod Refusing

@@ -1,5 +1,0 @@
-pub mod Meaning
-pub mod Steps
-pub mod Answers
-pub mod Judging
-pub mod Faults

@@ -1,7 +1,0 @@
-mod expr;
-mod grammar;
-mod made;
-mod refusal;
-mod texts;
-mod tokens;
-mod tree;

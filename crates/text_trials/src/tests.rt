@@ -1,9 +1,0 @@
-mod again;
-mod made;
-mod print;
-mod profile;
-mod reader;
-mod round;
-mod statement;
-mod text;
-mod texts;

@@ -1,3 +1,0 @@
-mod literals;
-mod statements;
-mod texts;

@@ -1,3 +1,0 @@
-mod messages;
-mod scripts;
-mod values;

@@ -1,3 +1,0 @@
-pub mod Happening
-pub mod Stepping
-pub mod Beginning

@@ -1,6 +1,0 @@
-use Rattle.std.proofs.Common.{ap}
-use Rattle.snapshot_gate.specs.Function.{Turn}
-use Rattle.world_program.proofs.may.answer_of.Goals as goal
-
-pub returns : goal.returns
-returns c = ap (λ (turn : Turn). turn.1) c.step.ensures

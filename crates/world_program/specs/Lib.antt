@@ -1,4 +1,0 @@
-pub mod Meaning
-pub mod First
-pub mod Deciding
-pub mod Steps
