@@ -3,7 +3,7 @@ use Rattle.std.specs.Prelude.{◌≡◌, ◌*◌, ℕ, List, [], ◌∷◌, leng
 use Rattle.pg_messages.specs.declared.client.ClientMessage.{ClientMessage}
 use Rattle.pg_messages.specs.Client.{IsClientForm, Fits, spelling}
 use Rattle.pg_messages.specs.Frame.{BeginsWith}
-use Rattle.bench.specs.declared.reading.Tally.{Tally}
+use Rattle.bench.specs.declared.messages.reading.Tally.{Tally}
 
 -- a message of a client that takes n bytes stands at the front
 abbrev pub StartsWith : ℕ → List ℕ → Type 0

@@ -120,4 +120,6 @@ pub(crate) fn put_bound(alloc: Global, around: &Around, asked: &str, told: &mut 
         (Some(tables), Some(others)) => put_asked(alloc, tables, others, asked, told),
         _ => told.put("the schema is not read"),
     }
+    drop(tables);
+    drop(others);
 }

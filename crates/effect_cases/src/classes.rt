@@ -60,8 +60,10 @@ fn put_over(alloc: Global, tables: &Catalogue, text: &str, told: &mut Told)
 /// The class of a statement, the table whose lock it takes first, and the mask of the tables that
 /// it changes.
 pub(crate) fn put_class(alloc: Global, around: &Around, text: &str, told: &mut Told) {
-    match tables_of(alloc, around, "schema") {
-        Some(tables) => put_over(alloc, &tables, text, told),
+    let tables = tables_of(alloc, around, "schema");
+    match &tables {
+        Some(tables) => put_over(alloc, tables, text, told),
         None => told.put("the schema is not read"),
     }
+    drop(tables);
 }

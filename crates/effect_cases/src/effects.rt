@@ -84,6 +84,22 @@ fn put_answer(
     }
 }
 
+/// What the statement of a text does on rows.
+fn put_over(
+    alloc: Global,
+    tables: &Catalogue,
+    shelf: &Shelf,
+    next: i64,
+    text: &str,
+    told: &mut Told,
+)
+    requires within { IsWithin tables.now }
+{
+    let answer = checked_with(alloc, tables, text, None);
+    put_answer(alloc, tables, &answer, shelf, next, told);
+    drop(answer);
+}
+
 fn put_on(alloc: Global, tables: &Catalogue, around: &Around, text: &str, told: &mut Told)
     requires within { IsWithin tables.now }
 {
@@ -91,21 +107,21 @@ fn put_on(alloc: Global, tables: &Catalogue, around: &Around, text: &str, told: 
         return told.put("no table");
     };
     let next = number_of(alloc, around, "next");
-    match shelf_of(rows_of(alloc, around, table)) {
-        Some(shelf) => {
-            let answer = checked_with(alloc, tables, text, None);
-            put_answer(alloc, tables, &answer, &shelf, next, told);
-            drop(answer);
-        }
+    let shelf = shelf_of(rows_of(alloc, around, table));
+    match &shelf {
+        Some(shelf) => put_over(alloc, tables, shelf, next, text, told),
         None => told.put("no rows"),
     }
+    drop(shelf);
 }
 
 /// What the statement of a text does on the rows of the lines `@ row`, where `@ next` is the next
 /// serial number.
 pub(crate) fn put_effect(alloc: Global, around: &Around, text: &str, told: &mut Told) {
-    match tables_of(alloc, around, "schema") {
-        Some(tables) => put_on(alloc, &tables, around, text, told),
+    let tables = tables_of(alloc, around, "schema");
+    match &tables {
+        Some(tables) => put_on(alloc, tables, around, text, told),
         None => told.put("the schema is not read"),
     }
+    drop(tables);
 }

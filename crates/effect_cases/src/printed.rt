@@ -98,8 +98,10 @@ pub(crate) fn put_printed(
     is_again: bool,
     told: &mut Told,
 ) {
-    match tables_of(alloc, around, "schema") {
-        Some(tables) => put_over(alloc, &tables, text, is_again, told),
+    let tables = tables_of(alloc, around, "schema");
+    match &tables {
+        Some(tables) => put_over(alloc, tables, text, is_again, told),
         None => told.put("the schema is not read"),
     }
+    drop(tables);
 }

@@ -62,10 +62,12 @@ fn put_over(alloc: Global, tables: &Catalogue, moment: i64, asked: &str, told: &
 /// of the other.
 pub(crate) fn put_time(alloc: Global, around: &Around, asked: &str, told: &mut Told) {
     let moment = number_of(alloc, around, "moment");
-    match tables_of(alloc, around, "schema") {
-        Some(tables) => put_over(alloc, &tables, moment, asked, told),
+    let tables = tables_of(alloc, around, "schema");
+    match &tables {
+        Some(tables) => put_over(alloc, tables, moment, asked, told),
         None => told.put("the schema is not read"),
     }
+    drop(tables);
 }
 
 /// The literal of a moment in microseconds.

@@ -1,0 +1,6 @@
+//! Names of tables and columns: finding them.
+mod looking;
+mod timing;
+mod words;
+
+pub use timing::run;

@@ -1,0 +1,6 @@
+//! Texts of SQL: reading them.
+mod reading;
+mod samples;
+mod timing;
+
+pub use timing::run;
