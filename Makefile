@@ -21,6 +21,8 @@ gate:            ## prove one crate and those below it for the gate: make gate C
 	rt ci $(crate)
 test:            ## everything that the merge runs
 	./test
+differential:    ## the player beside PostgreSQL 15
+	@scripts/differential
 index:           ## public items with file and line: make index | grep -i sink
 	@scripts/index
 lint:            ## house rules that the gate does not know
