@@ -4,7 +4,7 @@ CRATES := $(shell sed -n 's/^\([a-z][a-z0-9_]*\).*:.*/\1/p' crates.txt)
 # stops where no crate is named
 crate = $(or $(C),$(error name a crate: make $@ C=pool_base))
 
-.PHONY: help check try cases fmt edits gate test index lint bench hooks clean
+.PHONY: help check try cases fmt edits gate test differential index lint bench hooks clean
 help:            ## this list
 	@grep -hE '^[a-z]+:.*## ' $(MAKEFILE_LIST) | sed 's/:.*## /\t/'
 check:           ## prove one crate: make check C=pool_base
@@ -21,6 +21,8 @@ gate:            ## prove one crate and those below it for the gate: make gate C
 	rt ci $(crate)
 test:            ## everything that the merge runs
 	./test
+differential:    ## the player beside PostgreSQL 15
+	@scripts/differential
 index:           ## public items with file and line: make index | grep -i sink
 	@scripts/index
 lint:            ## house rules that the gate does not know
