@@ -4,8 +4,9 @@ CRATES := $(shell sed -n 's/^\([a-z][a-z0-9_]*\).*:.*/\1/p' crates.txt)
 # stops where no crate is named
 crate = $(or $(C),$(error name a crate: make $@ C=pool_base))
 
-.PHONY: help check try cases fmt edits gate test differential index lint bench hooks clean
-help:            ## this list
+.DEFAULT_GOAL := help
+.PHONY: help check try cases fmt edits gate test release differential index lint bench hooks clean
+help:            ## this list; make alone prints it too
 	@grep -hE '^[a-z]+:.*## ' $(MAKEFILE_LIST) | sed 's/:.*## /\t/'
 check:           ## prove one crate: make check C=pool_base
 	cd crates/$(crate) && rt check
@@ -21,6 +22,8 @@ gate:            ## prove one crate and those below it for the gate: make gate C
 	rt ci $(crate)
 test:            ## everything that the merge runs
 	./test
+release:         ## renew the program in release/: it is proved and built first where a source has changed
+	@scripts/release
 differential:    ## the player beside PostgreSQL 15
 	@scripts/differential
 index:           ## public items with file and line: make index | grep -i sink
