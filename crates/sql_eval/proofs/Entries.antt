@@ -1,6 +1,6 @@
 -- A walk over the rows of a table is one over its entries.
-use Rattle.std.proofs.Common.{◌≡◌, ℕ, List, [], ◌∷◌, map, refl, ap, sym, ◌∙◌}
-use Rattle.std.specs.Prelude.{Option, slice_get, Some}
+use Rattle.std.proofs.Common.{◌≡◌, ℕ, List, [], ◌∷◌, map, refl, ap, ◌∙◌}
+use Rattle.std.specs.Prelude.{Option}
 use Rattle.std.specs.List.{AllByRecursion}
 use Rattle.std.proofs.lemmas.List.Elements.{recursion_from_All}
 use Rattle.sql_values.specs.Outcome.{or_null}
@@ -26,8 +26,3 @@ pub rows_are_entries : {X : Type 0} (now : X → Row) (rows : List X) (view : Vi
 rows_are_entries now rows view table key keyed are =
     map_twice (entry_of key) now rows ∙ (ap (map (entry_of key)) are
     ∙ entries_by key (entries_in view table) (recursion_from_All (IsUnderItsKey key) (entries_in view table) keyed))
-
-pub walk_of_entries : {X C : Type 0} (f : Entry → Coded (Option C)) (now : X → Row) (rows : List X) (view : View) (table key : ℕ) → IsKeyedBy view table key
-    → map now rows ≡ map (λ (e : Entry). e.row) (entries_in view table) → walked (λ (r : X). f (entry_of key (now r))) rows ≡ walked f (entries_in view table)
-walk_of_entries f now rows view table key keyed are =
-    walked_mapped f (λ r. entry_of key (now r)) rows ∙ ap (walked f) (rows_are_entries now rows view table key keyed are)

@@ -79,10 +79,10 @@ same_table p q same less =
 abbrev pub Stood : Type 0
 Stood = Place × Row
 
-abbrev to_entry : Stood → Entry
+abbrev pub to_entry : Stood → Entry
 to_entry e = entry e.0.key e.1
 
-abbrev stands_in : ℕ → Stood → Truth
+abbrev pub stands_in : ℕ → Stood → Truth
 stands_in table e = e.0.table == table
 
 behind_all : (p : Place) (table : ℕ) (es : List Stood) → p.table ≡ table → T (below_all place_order p es)

@@ -1,3 +1,4 @@
+mod Asking
 mod Changing
 mod Counting
 mod Drawing
@@ -5,8 +6,10 @@ mod Entries
 mod Finding
 mod Inserting
 mod Ordering
+mod Ranks
 mod Reading
 mod Refusing
 mod Setting
+mod Sifting
 mod Sorting
 mod Walking

@@ -6,11 +6,13 @@ use Rattle.pg_values.specs.declared.value.Value.{Value}
 use Rattle.catalogue.specs.declared.checked.CheckedRead.{CheckedRead}
 use Rattle.sql_eval.specs.declared.row.Row.{Row}
 use Rattle.sql_eval.specs.declared.effect.ReadEffect.{ReadEffect}
-use Rattle.sql_eval.specs.Views.{View, Entry, entry_of, entries_in, cell_at, IsKeyedBy}
+use Rattle.sql_eval.specs.Views.{View, Entry, entry_of, cell_at}
 use Rattle.sql_eval.specs.Walks.{Coded, behind, made, all_of, walked}
 use Rattle.sql_eval.specs.Ordered.{ordered}
 use Rattle.sql_eval.specs.Reads.{alone, counted, cut, kept, keys_wanted, limit_in, listed, no_row, read_in, reading, result_row, shown, entries_read}
-use Rattle.sql_eval.proofs.Entries.{map_twice, walked_mapped, rows_are_entries}
+use Rattle.sql_eval.specs.Seeking.{AreRowsBut, IsKeptOut}
+use Rattle.sql_eval.proofs.Entries.{map_twice, walked_mapped}
+use Rattle.sql_eval.proofs.Sifting.{walk_of_rows}
 
 pub cut_mapped : {A B : Type 0} (f : A → B) (limit : Option ℕ) (xs : List A) → map f (cut limit xs) ≡ cut limit (map f xs)
 cut_mapped f None xs = refl
@@ -52,13 +54,13 @@ module _ {X : Type 0} (now : X → Row) (key : ℕ) (rows : List X) where
       → shown alone read es ≡ behind (walked (kept alone read.filter) entries) (shown alone read)
   read_shows read es gives = sym (ap (λ (o : Coded (List Entry)). behind o (shown alone read)) (sym (walk_is read) ∙ gives))
 
-  -- the rows of a table
-  pub table_read : (view : View) (read : CheckedRead) (table : ℕ) → read.table ≡ Some table → IsKeyedBy view table key
-      → map now rows ≡ map (λ (e : Entry). e.row) (entries_in view table)
+  -- the rows of a table that the filter is asked at
+  pub table_read : (view : View) (read : CheckedRead) (table : ℕ) → read.table ≡ Some table → AreRowsBut (IsKeptOut read.filter) view table key (map now rows)
       → behind (walked (kept alone read.filter) entries) (shown alone read) ≡ read_in alone view read
-  table_read view read table is keyed are =
-      ap (λ (es : List Entry). behind (walked (kept alone read.filter) es) (shown alone read))
-      (rows_are_entries now rows view table key keyed are ∙ ap (entries_read view) (sym is))
+  table_read view read table is but =
+      ap (λ (o : Coded (List Entry)). behind o (shown alone read))
+      (sym (walk_is read) ∙ walk_of_rows (kept alone read.filter) (IsKeptOut read.filter) (λ e out. out) now rows view table key but)
+      ∙ ap (λ (t : Option ℕ). behind (walked (kept alone read.filter) (entries_read view t)) (shown alone read)) (sym is)
 
 -- one row of no cells, where there is no table
 pub alone_read : {X : Type 0} (now : X → Row) (rows : List X) (view : View) (read : CheckedRead) → read.table ≡ None → map now rows ≡ no_row ∷ []

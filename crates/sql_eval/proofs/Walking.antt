@@ -73,7 +73,7 @@ module _ {X A : Type 0} (f : X → Coded A) (xs : List X) (i : ℕ) (x : X) (fro
       ∙ one_before front a (all_of (map f (drop (i + 1) xs)))))
 
 -- the first of a walk, and the others
-walked_first : {X A : Type 0} (f : X → Coded (Option A)) (x : X) (xs : List X)
+pub walked_first : {X A : Type 0} (f : X → Coded (Option A)) (x : X) (xs : List X)
     → walked f (x ∷ xs) ≡ behind (f x) (λ a. made (with_some a) (walked f xs))
 walked_first f x xs = first (f x) (all_of (map f xs))
   where
@@ -87,7 +87,7 @@ walked_first f x xs = first (f x) (all_of (map f xs))
     first (Ok a) told = others a told
     first (Err code) told = refl
 
-none_before : {A : Type 0} (told : Coded (List A)) → made (with_some None) told ≡ told
+pub none_before : {A : Type 0} (told : Coded (List A)) → made (with_some None) told ≡ told
 none_before (Ok back) = refl
 none_before (Err code) = refl
 

@@ -2,6 +2,7 @@
 //! those of the definition, which filters and orders the whole table.
 #![tactic(auto)]
 
+mod candidates;
 mod change;
 mod codes;
 mod effect;
@@ -11,6 +12,7 @@ mod read;
 mod row;
 mod rows;
 mod size;
+mod sought;
 mod stored;
 mod view;
 mod write;

@@ -5,10 +5,11 @@ ghost use Rattle.sql_eval.specs.Walks.{Coded, GivesAs, all_of, behind, made, wal
 ghost use Rattle.sql_eval.specs.Reads.{alone, counted, cut, kept, keys_wanted, listed, read_in, result_row, shown};
 ghost use Rattle.sql_eval.specs.Effects.{Reads, effect_of, IsRead, IsReadBody, IsKeyedAt, table_in};
 
+use crate::candidates::candidates;
 use crate::effect::{EvalFault, ReadEffect, with_draws};
 use crate::order::{limit_in, put_in_order};
 use crate::row::Row;
-use crate::rows::{kept_rows, key_of, rows_of, value_at};
+use crate::rows::{kept_rows, key_of, value_at};
 use crate::size::fitting;
 use crate::view::TableView;
 use catalogue::{Catalogue, Checked, CheckedBody, CheckedRead};
@@ -190,7 +191,7 @@ fn read_table<V: TableView>(
     ensures { GivesAs (λ effect. effect) result (read_in alone (V.rows view.now) read.now) }
 {
     let key = key_column(catalogue, table);
-    let rows = rows_of(alloc, view, table, key)?;
+    let rows = candidates(alloc, view, table, key, &read.filter)?;
     read_rows(alloc, read, key, rows.as_slice())
 }
 

@@ -9,10 +9,10 @@ ghost use Rattle.sql_eval.specs.Stored.{change_in, remove_in};
 ghost use Rattle.sql_eval.specs.Inserts.{all_draws, insert_draws, insert_in};
 ghost use Rattle.sql_eval.specs.Effects.{Effect, Writes, effect_of, IsWrite, IsWriteBody, IsKeyedAt, DrawsFew, HasTable, table_in};
 
+use crate::candidates::candidates;
 use crate::change::{changes, removals};
 use crate::effect::{Change, EvalFault, WriteEffect, with_draws};
 use crate::insert::inserted;
-use crate::rows::rows_of;
 use crate::view::TableView;
 use catalogue::{Catalogue, Checked, CheckedBody, CheckedChange, CheckedInsert, CheckedRemove};
 use pool_base::List;
@@ -86,7 +86,7 @@ fn change<V: TableView>(
     }) }
 {
     let table = table_of(catalogue, change.table);
-    let rows = rows_of(alloc, view, change.table, table.key)?;
+    let rows = candidates(alloc, view, change.table, table.key, &change.filter)?;
     let columns = table.columns.as_slice();
     written(
         0,
@@ -109,7 +109,7 @@ fn remove<V: TableView>(
     }) }
 {
     let table = table_of(catalogue, remove.table);
-    let rows = rows_of(alloc, view, remove.table, table.key)?;
+    let rows = candidates(alloc, view, remove.table, table.key, &remove.filter)?;
     written(0, removals(alloc, table.key, remove, rows.as_slice()))
 }
 
