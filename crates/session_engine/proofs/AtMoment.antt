@@ -1,5 +1,5 @@
 -- A statement at a moment is of the same class, and of the same tables.
-use Rattle.std.proofs.Common.{◌≡◌, ◌∙◌, ℕ, ℤ, Bool, true, false, ◌==◌, List, [], ◌∷◌, map, refl, ap}
+use Rattle.std.proofs.Common.{◌≡◌, ◌∙◌, ℕ, ℤ, Bool, true, ◌==◌, List, [], ◌∷◌, map, refl, ap}
 use Rattle.std.specs.Prelude.{◌&&◌, ◌||◌, if◌then◌else◌}
 use Rattle.std.specs.List.{list_any}
 use Rattle.catalogue.specs.declared.checked.CheckedBody.{CheckedBody}

@@ -1,5 +1,5 @@
 -- What the calls of a core need: where each event leads is sound, and what was due is what the event answers.
-use Rattle.std.proofs.Common.{◌≡◌, ◌<◌, ℕ, ℤ, true, false, List, Result, Ok, Err, IfOk, IfErr, OnOk, OnErr, length, refl, sym, ◌∙◌, ap, subst}
+use Rattle.std.proofs.Common.{◌≡◌, ◌<◌, ℕ, ℤ, true, Result, Ok, Err, IfErr, OnOk, OnErr, length, refl, sym, subst}
 use Rattle.std.proofs.Math.Logic.{∥∥₁_elim}
 use Rattle.std.specs.Coded.{le_prop}
 use mathlib.Core.Bool.{Bool-set}
@@ -14,8 +14,7 @@ use Rattle.session_machine.specs.declared.action.Action.TheVariants as actions
 use Rattle.session_machine.specs.declared.action.SessionEvent.TheVariants as events
 use Rattle.session_machine.specs.declared.machine.Session.{Session}
 use Rattle.session_machine.specs.declared.machine.Machine.{Machine}
-use Rattle.session_machine.specs.Allowed.{HasForm}
-use Rattle.session_machine.specs.Rules.{due, action_at, next_action, left, ordered, posted, taken, faulted, after, after_at}
+use Rattle.session_machine.specs.Rules.{due, action_at, left, ordered, posted, taken, faulted, after, after_at}
 use Rattle.session_engine.specs.declared.due.Due.{Due}
 use Rattle.session_engine.specs.declared.due.Due.TheVariants.{Resting, EnterDue, LookDue, PostDue, Waiting, LostDue, SplitDue, ChooseDue, ShowDue, LeaveSnapshotDue, UnwindDue, EnterCommitDue, LeaveCommitDue, FinishDue, ReplyDue, RowsDue, EndDue}
 use Rattle.session_engine.specs.Dues.{point_of, IsPosting, IsWaiting}

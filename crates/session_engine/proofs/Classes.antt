@@ -8,7 +8,7 @@ use Rattle.pool_base.specs.declared.gate_call.GateAnswer.{GateAnswer}
 use Rattle.pool_base.specs.declared.gate_call.GateAnswer.TheVariants.{Seen, Granted, Held, Spent}
 use Rattle.catalogue.specs.declared.checked.CheckedBody.{CheckedBody}
 use Rattle.catalogue.specs.declared.checked.CheckedBody.TheVariants as body
-use Rattle.classifier.specs.Classes.{has_serial, tables_mask}
+use Rattle.classifier.specs.Classes.{tables_mask}
 use Rattle.backend_trait.specs.declared.request.Request.TheVariants as requests
 use Rattle.backend_trait.specs.declared.answer.Answer.{Answer}
 use Rattle.backend_trait.specs.declared.answer.Answer.TheVariants as answers
@@ -40,7 +40,7 @@ use Rattle.session_machine.specs.Codes.{moment_out_of_range, counts_spent, no_ba
 use Rattle.session_machine.specs.Answers.{next_of, kept, first_other, goes_on, counts, reader}
 use Rattle.session_machine.specs.Classes.{class_in, same_class, is_classed}
 use Rattle.session_machine.specs.Allowed.{is_resting, fits_at_rest, may_order}
-use Rattle.session_machine.specs.Rules.{due, primary, ended, released, begun, begun_at, begun_behind, failing, refused_at, refused, stranded, stranded_in, started_as, is_moment, work_at, rewritten, entering, stated, stated_at, moment_at, block_begun, idle, committing, block_committed, rolled_back, block_rolled_back, settled, leaving, left_in, left_lost, left, ordered, error_of, done_with, refusal_of, ran, opened, locked, closed, decided, split, judged, asked, reading_at, chosen, read, looked, looked_at, ticket_of, counted_read, first_chosen, shown, snapshot_entered, snapshot_left, commit_entered, in_phase, with_view, granted, called, stage_posted, posted, taken, faulted, lost_one, parted, parted_at, detached, after, after_at}
+use Rattle.session_machine.specs.Rules.{primary, ended, released, begun_at, begun_behind, failing, refused_at, refused, stranded, stranded_in, started_as, is_moment, work_at, entering, stated, stated_at, moment_at, block_begun, committing, block_committed, rolled_back, block_rolled_back, settled, leaving, left_in, left_lost, left, ordered, error_of, done_with, refusal_of, ran, opened, locked, closed, decided, split, judged, asked, reading_at, chosen, read, looked, looked_at, ticket_of, counted_read, first_chosen, shown, snapshot_entered, snapshot_left, commit_entered, in_phase, with_view, granted, called, stage_posted, posted, taken, faulted, lost_one, parted, parted_at, detached, after, after_at}
 use Rattle.session_engine.specs.Handing.{handed_at, handed, gate_event}
 use Rattle.session_engine.specs.Sound.{is_read, is_select, is_classed_at, is_classed_in}
 use Rattle.session_engine.proofs.AtMoment.{classed_at}

@@ -1,7 +1,6 @@
 -- Each event leads from a sound state to a sound one.
-use Rattle.std.proofs.Common.{◌≡◌, ℕ, Bool, true, false, List, ◌∷◌, [], ◌++◌, Some, None, refl, subst, inl, inr}
+use Rattle.std.proofs.Common.{◌≡◌, ℕ, Bool, true, false, List, refl, subst, inl, inr}
 use Rattle.pool_base.specs.declared.backend_id.BackendId.{BackendId}
-use Rattle.pool_base.specs.declared.gate_call.GateAnswer.{GateAnswer}
 use Rattle.backend_trait.specs.Acts.{IsOf}
 use Rattle.catalogue.specs.declared.checked.CheckedBody.{CheckedBody}
 use Rattle.catalogue.specs.declared.checked.CheckedBody.TheVariants as body
@@ -11,7 +10,6 @@ use Rattle.backend_trait.specs.declared.request.Request.{Request}
 use Rattle.backend_trait.specs.declared.request.Request.TheVariants as requests
 use Rattle.backend_trait.specs.declared.answer.Answer.{Answer}
 use Rattle.backend_trait.specs.declared.answer.Answer.TheVariants as answers
-use Rattle.session_machine.specs.declared.action.Action.{Action}
 use Rattle.session_machine.specs.declared.action.Action.TheVariants as actions
 use Rattle.session_machine.specs.declared.machine.Heard.{Heard}
 use Rattle.session_machine.specs.declared.machine.Stage.{Stage}
@@ -24,7 +22,7 @@ use Rattle.session_machine.specs.Allowed.{HasForm}
 use Rattle.session_machine.specs.Answers.{has_answered}
 use Rattle.session_machine.specs.Rules.{due, action_at, request_of, stage_posted, posted, taken, faulted}
 use Rattle.session_engine.specs.Handing.{handed_at, handed}
-use Rattle.session_engine.specs.Sound.{AreOne, is_plain, are_plain, is_read, is_select, ArePlain, IsSound, wants_memory, WantsCopies}
+use Rattle.session_engine.specs.Sound.{is_plain, are_plain, is_read, is_select, ArePlain, IsSound, wants_memory, WantsCopies}
 use Rattle.session_engine.proofs.Ones.{one_more, plain_more}
 
 -- only a SELECT is answered by rows

@@ -1,8 +1,8 @@
 -- Backends that have answered once each are fewer than eight while one has not answered.
-use Rattle.std.proofs.Common.{◌≡◌, ◌<◌, ◌≤◌, ◌+◌, ℕ, zero, suc, Some, Bool, true, false, ◌||◌, ◌==◌, List, [], ◌∷◌, ◌++◌, length, refl, sym, ◌∙◌, ap, subst, arith}
+use Rattle.std.proofs.Common.{◌≡◌, ◌<◌, ◌≤◌, ℕ, zero, suc, Some, Bool, true, false, ◌||◌, ◌==◌, List, [], ◌∷◌, ◌++◌, length, refl, sym, ap, subst, arith}
 use Rattle.std.specs.Prelude.{◌&&◌, if◌then◌else◌}
 use Rattle.std.specs.List.{AllByRecursion, IsDistinct, list_any, slice_get}
-use Rattle.std.proofs.lemmas.Bool.{eqb-true, eq-eqb, eqb-false, false_from_ne_true}
+use Rattle.std.proofs.lemmas.Bool.{eqb-true, eqb-false, false_from_ne_true}
 use Rattle.std.proofs.lemmas.Map.Steps.{length-le_from_distinct_below}
 use Rattle.pool_base.specs.declared.backend_id.BackendId.{BackendId}
 use Rattle.backend_trait.specs.declared.answer.Answer.TheVariants as answers

@@ -1,5 +1,5 @@
 -- Every event that may happen leads from a sound state to a sound one.
-use Rattle.std.proofs.Common.{◌≡◌, ◌+◌, ℕ, ℤ, Bool, true, false, List, [], ◌∷◌, ◌++◌, Some, None, refl, sym, ◌∙◌, ap, subst}
+use Rattle.std.proofs.Common.{◌≡◌, ◌+◌, ℕ, ℤ, Bool, true, false, List, [], ◌∷◌, Some, None, refl}
 use Rattle.std.specs.Prelude.{Option, not, ◌&&◌, if◌then◌else◌}
 use Rattle.pool_base.specs.Sets.{has}
 use Rattle.pool_base.specs.declared.code.Code.{Code}
@@ -7,9 +7,6 @@ use Rattle.pool_base.specs.declared.backend_id.BackendId.{BackendId}
 use Rattle.pool_base.specs.declared.backend_set.BackendSet.{BackendSet}
 use Rattle.pool_base.specs.declared.gate_call.GateAnswer.{GateAnswer}
 use Rattle.pool_base.specs.declared.gate_call.GateAnswer.TheVariants.{Seen, Granted, Held, Spent}
-use Rattle.backend_trait.specs.Acts.{IsOf}
-use Rattle.backend_trait.specs.declared.request.Request.{Request}
-use Rattle.backend_trait.specs.declared.request.Request.TheVariants as requests
 use Rattle.backend_trait.specs.declared.answer.Answer.{Answer}
 use Rattle.backend_trait.specs.declared.answer.Answer.TheVariants as answers
 use Rattle.write_path.specs.declared.kind.ChainKind.{ChainKind}
@@ -34,13 +31,11 @@ use Rattle.session_machine.specs.declared.machine.Stage.TheVariants.{Opening, Re
 use Rattle.session_machine.specs.declared.machine.Point.{Point}
 use Rattle.session_machine.specs.declared.machine.Point.TheVariants.{Resting, EnterDue, LookDue, PostDue, Waiting, LostDue, SplitDue, ChooseDue, ShowDue, LeaveSnapshotDue, UnwindDue, EnterCommitDue, LeaveCommitDue, FinishDue, ReplyDue, EndDue}
 use Rattle.session_machine.specs.declared.machine.Session.{Session}
-use Rattle.session_machine.specs.declared.machine.Machine.{Machine}
 use Rattle.session_machine.specs.Codes.{moment_out_of_range, counts_spent, no_backend}
 use Rattle.session_machine.specs.Answers.{has_answered, is_open, first_open, is_stopped, next_of, all_backends, lowest, kept, first_other, goes_on, counts, reader}
-use Rattle.session_machine.specs.Rules.{due, primary, request_of, ended, released, begun, begun_at, begun_behind, failing, refused_at, refused, stranded, stranded_in, started_as, started, rewritten, entering, stated, stated_at, moment_at, block_begun, idle, committing, block_committed, rolled_back, block_rolled_back, settled, leaving, left_in, left_lost, left, ordered, error_of, done_with, refusal_of, ran, opened, locked, closed, decided, split, judged, asked, reading_at, chosen, read, looked, looked_at, ticket_of, counted_read, first_chosen, shown, snapshot_entered, snapshot_left, commit_entered, in_phase, with_view, granted, called, stage_posted, posted, heard_more, taken, faulted, lost_one, parted, parted_at, detached}
+use Rattle.session_machine.specs.Rules.{due, primary, ended, released, begun, begun_at, begun_behind, failing, refused_at, refused, stranded, stranded_in, started_as, rewritten, entering, stated, stated_at, moment_at, block_begun, idle, committing, block_committed, rolled_back, block_rolled_back, settled, leaving, left_in, left_lost, left, ordered, error_of, done_with, refusal_of, ran, opened, locked, closed, decided, split, judged, asked, reading_at, chosen, read, looked, looked_at, ticket_of, counted_read, first_chosen, shown, snapshot_entered, snapshot_left, commit_entered, in_phase, with_view, granted, called, lost_one, parted, parted_at, detached}
 use Rattle.session_machine.proofs.Backends.{found_passes}
-use Rattle.session_engine.specs.Sound.{AreOne, is_plain, are_plain, is_select, ArePlain, IsSound}
-use Rattle.session_engine.proofs.Ones.{one_more, plain_more}
+use Rattle.session_engine.specs.Sound.{AreOne, ArePlain, IsSound}
 
 -- How orders end, and how chains begin.
 

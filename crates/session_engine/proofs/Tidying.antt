@@ -26,10 +26,10 @@ use Rattle.session_machine.specs.declared.machine.Point.{Point}
 use Rattle.session_machine.specs.declared.machine.Point.TheVariants.{Resting, EnterDue, LookDue, PostDue, Waiting, LostDue, SplitDue, ChooseDue, ShowDue, LeaveSnapshotDue, UnwindDue, EnterCommitDue, LeaveCommitDue, FinishDue, ReplyDue, EndDue}
 use Rattle.session_machine.specs.declared.machine.Session.{Session}
 use Rattle.session_machine.specs.declared.machine.Machine.{Machine}
-use Rattle.session_machine.specs.Allowed.{MayHappen, may_order, HasForm}
+use Rattle.session_machine.specs.Allowed.{MayHappen, may_order}
 use Rattle.session_machine.specs.Codes.{moment_out_of_range, counts_spent, no_backend}
 use Rattle.session_machine.specs.Answers.{reader}
-use Rattle.session_machine.specs.Rules.{due, new_machine, primary, action_at, next_action, posted, taken, faulted, ended, released, failing, refused_at, stranded, started_as, rewritten, entering, stated, stated_at, moment_at, block_begun, idle, committing, block_committed, rolled_back, block_rolled_back, settled, leaving, left, ordered, error_of, done_with, reading_at, chosen, first_chosen, ticket_of, counted_read, shown, snapshot_entered, snapshot_left, commit_entered, with_view, in_phase, granted, called, parted_at, detached, after, after_at}
+use Rattle.session_machine.specs.Rules.{due, new_machine, primary, action_at, next_action, posted, taken, faulted, ended, released, failing, refused_at, stranded, started_as, rewritten, entering, stated, stated_at, moment_at, block_begun, committing, block_committed, rolled_back, block_rolled_back, settled, leaving, left, ordered, error_of, done_with, reading_at, chosen, first_chosen, ticket_of, counted_read, shown, snapshot_entered, snapshot_left, commit_entered, with_view, in_phase, granted, called, parted_at, detached, after, after_at}
 use Rattle.session_engine.specs.Handing.{handed}
 use Rattle.session_engine.specs.Tidying.{bare, tidied_at, tidied, after_all}
 

@@ -1,5 +1,5 @@
 -- No order leads to answers that differ: what is due behind it wants no memory.
-use Rattle.std.proofs.Common.{◌≡◌, ℕ, ℤ, Bool, true, false, Some, None, refl}
+use Rattle.std.proofs.Common.{ℕ, ℤ, true, false, Some, None}
 use Rattle.std.specs.Prelude.{Option}
 use Rattle.pool_base.specs.declared.backend_id.BackendId.{BackendId}
 use Rattle.session_machine.specs.declared.order.Class.{Class}
@@ -14,7 +14,6 @@ use Rattle.session_machine.specs.declared.status.Status.{Status}
 use Rattle.session_machine.specs.declared.status.Status.TheVariants.{Idle, InBlock, Failed}
 use Rattle.session_machine.specs.declared.machine.GatePhase.{GatePhase}
 use Rattle.session_machine.specs.declared.machine.GatePhase.TheVariants.{Out, InSnapshot, Live, InCommit}
-use Rattle.session_machine.specs.declared.machine.Ending.TheVariants.{Replies, Leaves}
 use Rattle.session_machine.specs.declared.machine.Stage.{Stage}
 use Rattle.session_machine.specs.declared.machine.Stage.TheVariants.{Opening, Reading, Running, Locking, Inserting, Committing, Closing, RollingBack}
 use Rattle.session_machine.specs.declared.machine.Point.{Point}
@@ -22,7 +21,7 @@ use Rattle.session_machine.specs.declared.machine.Point.TheVariants.{Resting, En
 use Rattle.session_machine.specs.declared.machine.Session.{Session}
 use Rattle.session_machine.specs.declared.machine.Machine.{Machine}
 use Rattle.session_machine.specs.Codes.{moment_out_of_range}
-use Rattle.session_machine.specs.Rules.{due, refused_at, started_as, rewritten, entering, stated, stated_at, moment_at, block_begun, committing, block_committed, rolled_back, block_rolled_back, settled, leaving, left_in, left_lost, left, ordered, error_of, done_with}
+use Rattle.session_machine.specs.Rules.{refused_at, started_as, rewritten, entering, stated, stated_at, moment_at, block_begun, committing, block_committed, rolled_back, block_rolled_back, settled, leaving, left_in, left_lost, left, ordered, error_of, done_with}
 use Rattle.session_engine.specs.Sound.{WantsCopies}
 
 -- no statement is due to be posted, and nobody to be detached for an answer

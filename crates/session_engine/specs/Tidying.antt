@@ -2,7 +2,6 @@
 -- nothing reads any more.
 use Rattle.std.specs.Prelude.{List, [], ◌∷◌}
 use Rattle.session_machine.specs.declared.action.SessionEvent.{SessionEvent}
-use Rattle.session_machine.specs.declared.machine.Heard.{Heard}
 use Rattle.session_machine.specs.declared.machine.Point.{Point}
 use Rattle.session_machine.specs.declared.machine.Point.TheVariants.{Resting, EnterDue, LookDue, PostDue, Waiting, LostDue, SplitDue, ChooseDue, ShowDue, LeaveSnapshotDue, UnwindDue, EnterCommitDue, LeaveCommitDue, FinishDue, ReplyDue, EndDue}
 use Rattle.session_machine.specs.declared.machine.Session.{Session}

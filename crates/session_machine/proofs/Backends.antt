@@ -1,5 +1,5 @@
 -- A backend is its number, and the first of the eight that passes a test.
-use Rattle.std.proofs.Common.{◌≡◌, ◌<◌, ℕ, Bool, true, false, List, [], ◌∷◌, Some, None, zero, suc, refl, sym, ap, subst, arith}
+use Rattle.std.proofs.Common.{◌≡◌, ◌<◌, ℕ, Bool, true, false, List, [], ◌∷◌, Some, zero, suc, refl, sym, ap, subst, arith}
 use Rattle.std.specs.Prelude.{Option, find, if◌then◌else◌}
 use mathlib.Core.HLevel.{is_prop→PathP}
 use native.Mathlib.Bridge.{le_prop}

@@ -1,5 +1,5 @@
 -- The bit of a table from 64 on is no number of 64 bits.
-use Rattle.std.proofs.Common.{◌≡◌, ◌<◌, ◌≤◌, ◌^◌, ℕ, Bool, true, false, ◌==◌, sym, subst, arith}
+use Rattle.std.proofs.Common.{◌≡◌, ◌<◌, ◌≤◌, ◌^◌, ℕ, false, ◌==◌, sym, subst, arith}
 use Rattle.std.proofs.Math.Pow.{pow_mono}
 use Rattle.std.proofs.lemmas.Bool.{ne_eqb}
 use Rattle.catalogue.specs.declared.checked.CheckedBody.{CheckedBody}

@@ -1,6 +1,5 @@
 -- The derived tests for equal values tell just that.
-use Rattle.std.proofs.Common.{◌≡◌, ℕ, ℤ, Bool, true, false, ◌==◌, List, Some, None, refl, ap, subst, eqb-true, eq-eqb}
-use Rattle.std.specs.Prelude.{Option, ◌&&◌}
+use Rattle.std.proofs.Common.{◌≡◌, true, false, Some, None, refl, ap, subst, eqb-true, eq-eqb}
 use Rattle.std.specs.Cmp.{signed_Decides}
 use Rattle.std.specs.Cmp.Lexicographic.{pointwise_decides, bytes_decides}
 use Rattle.pool_base.specs.declared.code.Code.{Code}

@@ -1,10 +1,9 @@
 -- The derived test for equal statements tells just that.
-use Rattle.std.proofs.Common.{◌≡◌, ℕ, Bool as Truth, true, false, List, Some, None, refl, ap, subst, eqb-true, eq-eqb}
+use Rattle.std.proofs.Common.{◌≡◌, Bool as Truth, true, Some, None, refl, ap, subst, eqb-true, eq-eqb}
 use Rattle.std.specs.Prelude.{Option}
 use Rattle.std.specs.Option.{option_eq}
 use Rattle.std.specs.Cmp.{booleans_Decides, unsigned_Decides}
-use Rattle.std.specs.Cmp.Lexicographic.{pointwise, pointwise_decides, bytes_decides}
-use Rattle.typed_sql.specs.declared.typed.TypedExpr.{TypedExpr}
+use Rattle.std.specs.Cmp.Lexicographic.{pointwise_decides, bytes_decides}
 use Rattle.catalogue.specs.declared.checked.Checked.{Checked}
 use Rattle.catalogue.specs.contracts.checked.CheckedPartialEq.TheImpl as checked_eq
 use Rattle.catalogue.specs.declared.checked.CheckedBody.{CheckedBody}

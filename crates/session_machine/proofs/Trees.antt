@@ -1,5 +1,5 @@
 -- The derived test for equal expressions tells just that, down the tree.
-use Rattle.std.proofs.Common.{◌≡◌, ◌∙◌, ℕ, Bool as Truth, true, false, ◌==◌, List, [], ◌∷◌, map, refl, sym, ap, subst, eqb-true, true≢false}
+use Rattle.std.proofs.Common.{◌≡◌, ◌∙◌, ℕ, Bool as Truth, true, false, List, [], ◌∷◌, map, refl, sym, ap, subst, eqb-true, true≢false}
 use Rattle.std.specs.Prelude.{◌&&◌}
 use Rattle.std.specs.Cmp.{signed_Decides, booleans_Decides}
 use Rattle.std.specs.Cmp.Lexicographic.{pointwise, pointwise_decides, bytes_decides}

@@ -1,9 +1,9 @@
 -- The backend that `pick` answers is the one whose turn it is.
-use Rattle.std.proofs.Common.{◌≡◌, ◌<◌, ◌≤◌, ◌+◌, ◌%◌, ℕ, zero, suc, Bool, true, false, ◌&&◌, List, Some, refl, sym, ◌∙◌, ap, arith, lt-ltb, le-ltb}
+use Rattle.std.proofs.Common.{◌≡◌, ◌<◌, ◌≤◌, ◌+◌, ◌%◌, ℕ, zero, suc, Bool, true, false, ◌&&◌, List, Some, refl, sym, ◌∙◌, arith, lt-ltb, le-ltb}
 use Rattle.std.specs.Prelude.{nat_lt, find}
 use Rattle.pool_base.specs.Sets.{has, IsLowest, IsEmptySet}
 use Rattle.pool_base.specs.declared.backend_id.BackendId.{BackendId}
-use Rattle.read_balance.specs.Picking.{IsFirstOver, weight_at, weight_below, weight_of_all}
+use Rattle.read_balance.specs.Picking.{IsFirstOver, weight_at, weight_below}
 use Rattle.session_machine.specs.Answers.{all_backends, is_attached, lowest, is_turn, turn_of}
 use Rattle.session_machine.proofs.Backends.{find_first, found_passes}
 

@@ -1,10 +1,9 @@
 -- Which class and tables a statement is ordered with: an INSERT that draws serial numbers is a serial insert of its table, another a
 -- write; a SELECT with FOR UPDATE is a locking read, another a read. A write and a serial insert change their statement's table.
-use Rattle.std.specs.Prelude.{ℕ, Bool, true, false, if◌then◌else◌, ◌&&◌, ◌==◌}
+use Rattle.std.specs.Prelude.{Bool, if◌then◌else◌, ◌&&◌, ◌==◌}
 use Rattle.catalogue.specs.declared.checked.CheckedBody.{CheckedBody}
 use Rattle.catalogue.specs.declared.checked.CheckedBody.TheVariants as body
 use Rattle.classifier.specs.Classes.{has_serial, tables_mask}
-use Rattle.session_machine.specs.declared.order.Verb.{Verb}
 use Rattle.session_machine.specs.declared.order.Verb.TheVariants as verbs
 use Rattle.session_machine.specs.declared.order.Class.{Class}
 use Rattle.session_machine.specs.declared.order.Class.TheVariants as classes

@@ -1,8 +1,8 @@
 -- The codes of the pool's own refusals and warnings.
-use Rattle.std.specs.Prelude.{ℕ, ◌≤◌, ◌⊎◌, codes}
+use Rattle.std.specs.Prelude.{codes}
 use Rattle.std.proofs.Common.{inl, inr, lit≤}
 use Rattle.std.proofs.lemmas.List.Elements.{All-from_recursion}
-use Rattle.pool_base.specs.Codes.{IsCodeByte, IsCode}
+use Rattle.pool_base.specs.Codes.{IsCodeByte}
 use Rattle.pool_base.specs.declared.code.Code.{Code}
 
 -- a warning: BEGIN in a block

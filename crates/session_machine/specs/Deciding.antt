@@ -1,5 +1,5 @@
 -- The tests by which the program decides whether an event may happen.
-use Rattle.std.specs.Prelude.{ℕ, Bool, true, false, ◌&&◌, ◌||◌, ◌==◌, nat_lt, nat_le, List, [], ◌∷◌, Option, Some, None}
+use Rattle.std.specs.Prelude.{ℕ, Bool, true, false, ◌&&◌, ◌||◌, ◌==◌, nat_lt, nat_le, Option, Some, None}
 use Rattle.pool_base.specs.declared.backend_id.BackendId.{BackendId}
 use Rattle.pool_base.specs.declared.gate_call.GateCall.{GateCall}
 use Rattle.pool_base.specs.declared.gate_call.GateCall.TheVariants as calls
@@ -20,9 +20,8 @@ use Rattle.session_machine.specs.declared.action.SessionEvent.TheVariants as eve
 use Rattle.session_machine.specs.declared.machine.Stage.{Stage}
 use Rattle.session_machine.specs.declared.machine.Stage.TheVariants.{Opening, Reading, Running, Locking, Inserting, Committing, Closing, RollingBack}
 use Rattle.session_machine.specs.declared.machine.Point.{Point}
-use Rattle.session_machine.specs.declared.machine.Point.TheVariants.{Resting, EnterDue, LookDue, PostDue, Waiting, LostDue, SplitDue, ChooseDue, ShowDue, LeaveSnapshotDue, UnwindDue, EnterCommitDue, LeaveCommitDue, FinishDue, ReplyDue, EndDue}
+use Rattle.session_machine.specs.declared.machine.Point.TheVariants.{EnterDue, LookDue, PostDue, Waiting, LostDue, SplitDue, ChooseDue, ShowDue, LeaveSnapshotDue, UnwindDue, EnterCommitDue, LeaveCommitDue, FinishDue, ReplyDue, EndDue}
 use Rattle.session_machine.specs.declared.machine.Session.{Session}
-use Rattle.session_machine.specs.declared.machine.Machine.{Machine}
 use Rattle.session_machine.specs.Answers.{is_same}
 use Rattle.session_machine.specs.Rules.{request_of, tables_of}
 use Rattle.session_machine.specs.Allowed.{may_order, answers_call, is_seen_or_granted}

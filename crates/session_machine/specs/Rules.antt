@@ -5,7 +5,6 @@ use Rattle.pool_base.specs.declared.backend_id.BackendId.{BackendId}
 use Rattle.pool_base.specs.declared.backend_set.BackendSet.{BackendSet}
 use Rattle.pool_base.specs.declared.code.Code.{Code}
 use Rattle.pool_base.specs.declared.gate_call.View.{View}
-use Rattle.pool_base.specs.declared.gate_call.GateCall.{GateCall}
 use Rattle.pool_base.specs.declared.gate_call.GateCall.TheVariants as calls
 use Rattle.pool_base.specs.declared.gate_call.GateAnswer.{GateAnswer}
 use Rattle.pool_base.specs.declared.gate_call.GateAnswer.TheVariants.{Seen, Granted, Held, Spent}
@@ -17,21 +16,18 @@ use Rattle.backend_trait.specs.declared.answer.Answer.TheVariants as answers
 use Rattle.write_path.specs.declared.kind.ChainKind.{ChainKind}
 use Rattle.write_path.specs.declared.kind.ChainKind.TheVariants.{All, StopAtRefusal}
 use Rattle.session_machine.specs.Codes.{in_a_block, outside_a_block, moment_out_of_range, counts_spent, no_backend}
-use Rattle.session_machine.specs.declared.order.Verb.{Verb}
 use Rattle.session_machine.specs.declared.order.Verb.TheVariants as verbs
 use Rattle.session_machine.specs.declared.order.Class.{Class}
 use Rattle.session_machine.specs.declared.order.Class.TheVariants as classes
 use Rattle.session_machine.specs.declared.order.Work.{Work}
 use Rattle.session_machine.specs.declared.order.OrderBody.{OrderBody}
 use Rattle.session_machine.specs.declared.order.OrderBody.TheVariants as orders
-use Rattle.session_machine.specs.declared.order.Order.{Order}
 use Rattle.session_machine.specs.declared.outcome.Tag.{Tag}
 use Rattle.session_machine.specs.declared.outcome.Tag.TheVariants as tags
 use Rattle.session_machine.specs.declared.outcome.Outcome.{Outcome}
 use Rattle.session_machine.specs.declared.outcome.Outcome.TheVariants as outcomes
 use Rattle.session_machine.specs.declared.status.Status.{Status}
 use Rattle.session_machine.specs.declared.status.Status.TheVariants.{Idle, InBlock, Failed}
-use Rattle.session_machine.specs.declared.action.Cause.{Cause}
 use Rattle.session_machine.specs.declared.action.Cause.TheVariants.{Fault, Differs}
 use Rattle.session_machine.specs.declared.action.Action.{Action}
 use Rattle.session_machine.specs.declared.action.Action.TheVariants as actions

@@ -7,7 +7,7 @@ use crate::order::{Class, Verb, Work};
 use backend_trait::Checked;
 use catalogue::CheckedBody;
 use classifier::{class_of, tables_mask};
-use pool_base::NoMemory;
+use pool_base::{Boxed, NoMemory};
 use sql_copies::checked_copied;
 
 /// The class of a statement.
@@ -41,13 +41,13 @@ fn has_bit(statement: &Checked) -> bool
 }
 
 /// A statement with its own class and tables.
-pub fn work_of(statement: Checked) -> Work
+pub fn work_of(statement: Boxed<Checked>) -> Work
     requires few { WritesOneOf64 statement.body }
     ensures statement { result.statement ≡ statement }
     ensures classed { is_classed result ≡ true }
 {
-    let class = class_in(&statement);
-    let tables = tables_mask(&statement);
+    let class = class_in(statement.get());
+    let tables = tables_mask(statement.get());
     Work {
         statement,
         class,
@@ -59,8 +59,10 @@ pub fn work_of(statement: Checked) -> Work
 pub fn work_copied(work: &Work) -> Result<Work, NoMemory>
     ensures { IfOk result (λ copy. copy ≡ work.now) }
 {
+    let alloc = work.statement.allocator();
+    let statement = checked_copied(work.statement.get())?;
     Ok(Work {
-        statement: checked_copied(&work.statement)?,
+        statement: Boxed::new(alloc, statement)?,
         class: work.class,
         tables: work.tables,
     })
@@ -77,5 +79,6 @@ fn are_its_tables(statement: &Checked, tables: u64) -> bool
 pub fn is_classed(work: &Work) -> bool
     ensures { result ≡ is_classed work.now }
 {
-    class_in(&work.statement) == work.class && are_its_tables(&work.statement, work.tables)
+    let statement = work.statement.get();
+    class_in(statement) == work.class && are_its_tables(statement, work.tables)
 }

@@ -1,7 +1,7 @@
 //! What a session is ordered to do.
 
 use backend_trait::Checked;
-use pool_base::{Code, Text};
+use pool_base::{Boxed, Code, Text};
 
 /// The verb of a write.
 #[derive(Clone, Copy, PartialEq, Eq)]
@@ -23,10 +23,11 @@ pub enum Class {
     SerialInsert(u8),
 }
 
-/// A statement with its class, and the tables that it changes as the bits of a number.
+/// A statement with its class, and the tables that it changes as the bits of a number. It is boxed,
+/// so that what is handed on at each step is small.
 #[derive(Drop)]
 pub struct Work {
-    pub statement: Checked,
+    pub statement: Boxed<Checked>,
     pub class: Class,
     pub tables: u64,
 }

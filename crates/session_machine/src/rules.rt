@@ -9,7 +9,7 @@ use crate::order::{Class, Verb, Work};
 use crate::outcome::{Outcome, Tag};
 use crate::status::Status;
 use backend_trait::{Answer, Request};
-use pool_base::{Code, NoMemory};
+use pool_base::{Boxed, Code, NoMemory};
 use sql_copies::checked_copied;
 use time_rewrite::{RewriteFault, rewrite};
 
@@ -21,7 +21,7 @@ pub fn request_of(stage: &Stage) -> Result<Request, NoMemory>
     Ok(match stage {
         Stage::Opening(_) => Request::TakeSnapshot,
         Stage::Reading(work, _) | Stage::Running(work) | Stage::Inserting(work, _) => {
-            Request::Run(checked_copied(&work.statement)?)
+            Request::Run(checked_copied(work.statement.get())?)
         }
         Stage::Locking(_, table) => Request::Lock(*table),
         Stage::Committing | Stage::Closing => Request::Commit,
@@ -37,7 +37,7 @@ pub fn asks(stage: &Stage, request: &Request) -> bool
         Stage::Opening(_) => matches!(request, Request::TakeSnapshot),
         Stage::Reading(work, _) | Stage::Running(work) | Stage::Inserting(work, _) => {
             match request {
-                Request::Run(statement) => work.statement == *statement,
+                Request::Run(statement) => *work.statement.get() == *statement,
                 _ => false,
             }
         }
@@ -57,11 +57,12 @@ fn work_at(moment: i64, work: Work) -> Result<Work, NoMemory>
         class,
         tables,
     } = work;
-    let made = rewrite(&statement, moment);
+    let alloc = statement.allocator();
+    let made = rewrite(statement.get(), moment);
     drop(statement);
     match made {
         Ok(statement) => Ok(Work {
-            statement,
+            statement: Boxed::new(alloc, statement)?,
             class,
             tables,
         }),

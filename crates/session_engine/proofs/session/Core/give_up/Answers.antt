@@ -1,7 +1,7 @@
 use Rattle.std.proofs.Common.{ap, ◌∙◌}
 use Rattle.std.proofs.Math.Logic.{∥∥₁_map}
 use Rattle.session_machine.specs.Rules.{next_action}
-use Rattle.session_engine.specs.Meaning.{session_of, machine_of}
+use Rattle.session_engine.specs.Meaning.{machine_of}
 use Rattle.session_engine.specs.Handing.{handed}
 use Rattle.session_engine.proofs.Soundness.{left_sound}
 use Rattle.session_engine.proofs.Events.{handed_too}
