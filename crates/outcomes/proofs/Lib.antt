@@ -1,7 +1,9 @@
 pub mod Entries
 pub mod Laid
 pub mod Ordered
+pub mod Standing
 pub mod Numbers
+pub mod Chained
 pub mod StoredRows
 pub mod Giving
 pub mod Among

@@ -31,8 +31,8 @@ row_in table None = None
 row_in table (Some e) = if e.0.table == table then Some e.1 else None
 
 -- an entry of a table before that one, and one that does not stand behind a place
-abbrev pub is_before : ℕ → Place × Row → Bool
+abbrev pub is_before : {Y : Type 0} → ℕ → Place × Y → Bool
 is_before table e = nat_lt e.0.table table
 
-abbrev pub is_up_to : Place → Place × Row → Bool
+abbrev pub is_up_to : {Y : Type 0} → Place → Place × Y → Bool
 is_up_to p e = not (is_gt (place_order e.0 p))
