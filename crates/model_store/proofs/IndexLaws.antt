@@ -9,8 +9,8 @@ use Rattle.backend_trait.specs.Rows.{Rows}
 use Rattle.backend_trait.specs.Acts.{WhereSome}
 use Rattle.outcomes.specs.declared.change.ChangeSet.{ChangeSet}
 use Rattle.outcomes.specs.declared.index.Index.{Index}
-use Rattle.outcomes.specs.Indexed.{AreOfSets, IsIndexOf, rows_in_index}
-use Rattle.outcomes.specs.Chains.{all_chained}
+use Rattle.outcomes.specs.Indexed.{IsIndexOf, rows_in_index}
+use Rattle.outcomes.specs.Chains.{AreOfSets, all_chained}
 use Rattle.outcomes.specs.Log.{rows_of}
 use Rattle.model_store.specs.declared.phase.Phase.{Phase}
 use Rattle.model_store.specs.declared.phase.Phase.TheVariants as phases

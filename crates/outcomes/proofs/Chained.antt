@@ -1,32 +1,32 @@
 -- Chains of versions: what they show at a mark, and what a version more makes of them.
 use Rattle.std.proofs.Common.{Bor, add-one, ◌≡◌, ℕ, zero, suc, ◌+◌, ◌-◌, ◌<◌, ◌≤◌, List, [], ◌∷◌, ◌++◌, map, set, take, drop, length, get_or, refl, ap, sym, ◌∙◌, subst, arith}
-use Rattle.std.specs.Prelude.{◌==◌, ◌&&◌, cond, not, nat_lt, T, Bool as Truth, true, false, Option, Some, None, slice_get, if◌then◌else◌}
+use Rattle.std.specs.Prelude.{◌==◌, ◌&&◌, cond, not, nat_lt, T, Bool as Truth, true, false, Option, Some, None, slice_get, slice_set, if◌then◌else◌}
 use Rattle.std.specs.List.{find as first, insert}
 use Rattle.std.specs.Option.{option_map}
 use Rattle.std.specs.FinMap as fin
-use Rattle.std.specs.FinMap.{entries-from_sorted, get-from_sorted}
+use Rattle.std.specs.FinMap.{entries-from_sorted, from_sorted, get-from_sorted}
 use Rattle.std.specs.FinMap.Entries.{below_all, find, is_sorted}
 use Rattle.std.specs.Ordering.{is_gt, is_lt}
 use Rattle.std.proofs.lemmas.Bool.{eq-eqb, eqb-true, lt-ltb, ltb-false, ltb-true}
 use Rattle.std.proofs.lemmas.Cmp.{tied_itself}
-use Rattle.std.proofs.lemmas.List.{drop_all, length-append, length-map, map-set, take_all, take_more, take-append-le}
+use Rattle.std.proofs.lemmas.List.{drop_all, length-append, length-map, length-take-le, take_all, take_more, take-append-le}
 use Rattle.pg_values.specs.declared.value.Value.{Value}
 use Rattle.sql_eval.specs.declared.row.Row.{Row}
 use Rattle.sql_eval.specs.declared.effect.Change.{Change}
 use Rattle.sql_eval.specs.Views.{entry, is_behind, key_order, row_behind}
 use Rattle.backend_trait.specs.Keys.{Place, is_place, place, place_order}
-use Rattle.backend_trait.specs.Rows.{Rows, changed_at, no_rows}
-use Rattle.backend_trait.specs.Effect.{place_changed}
+use Rattle.backend_trait.specs.Rows.{Rows, changed_at, laid_over, no_rows}
+use Rattle.backend_trait.specs.Effect.{changes_of, place_changed}
 use Rattle.backend_trait.proofs.KeyLaws.{place_antisymmetric, place_total}
-use Rattle.backend_trait.proofs.RowLaws.{get-changed_at, same_rows}
+use Rattle.backend_trait.proofs.RowLaws.{get-changed_at, laid_over-none, same_rows}
 use Rattle.outcomes.specs.Spread.{IsParted, StandsAt, StandsBetween}
 use Rattle.outcomes.specs.declared.change.ChangeSet.{ChangeSet}
 use Rattle.outcomes.specs.declared.chain.Version.{Version}
 use Rattle.outcomes.specs.declared.chain.Chain.{Chain}
+use Rattle.outcomes.specs.declared.sight.Seen.{Seen}
 use Rattle.outcomes.specs.Log.{rows_of}
-use Rattle.outcomes.specs.Sights.{all_laid, is_before, is_up_to}
-use Rattle.outcomes.specs.Chains.{ArePut, Chained, IsPut, all_chained, chained, first_row, left_until, newer, put_shown, row_left, row_or, rows_until, shown, shown_rows}
-use Rattle.outcomes.specs.Indexed.{AreOfSets}
+use Rattle.outcomes.specs.Sights.{all_laid, all_stood, is_before, is_up_to, rows_at}
+use Rattle.outcomes.specs.Chains.{AreOfSets, ArePut, Chained, IsPut, all_chained, chained, first_row, left_until, newer, put_shown, row_left, row_or, rows_until, shown, shown_rows}
 use Rattle.outcomes.proofs.Entries.{both_hold, equal, found_at, hold_both, none_between, put_found, put_sorted, set_found, set_sorted, unfound}
 use Rattle.outcomes.proofs.Laid.{all_laid_is}
 use Rattle.outcomes.proofs.LogLaws.{rows_on-snoc}
@@ -203,14 +203,22 @@ begun_at xs ys n x p v left is sorted between =
     let there : all_chained ys ≡ insert (all_chained xs) n (p, v ∷ []) = ap all_chained left ∙ (chained_put xs n x ∙ ap (insert (all_chained xs) n) is) in
     subst (IsPut v.set p v.row (all_chained xs)) (sym there) (put_first (all_chained xs) n p v sorted between)
 
+pub chain_is : (x : Chain) (c : Change) (v : Version) → x.table ≡ c.table → x.key ≡ c.key → x.versions.items ≡ v ∷ [] → chained x ≡ (place_changed c, v ∷ [])
+chain_is x c v table key versions = λ i. (place (table i) (key i), versions i)
+
+chained_set : (xs : List Chain) (n : ℕ) (y : Chain) → n < length xs → all_chained (slice_set xs n y) ≡ set (all_chained xs) n (chained y)
+chained_set [] n y below = absurd (omega arith)
+chained_set (x ∷ xs) zero y below = refl
+chained_set (x ∷ xs) (suc n) y below = ap (λ (es : Chained). chained x ∷ es) (chained_set xs n y (omega arith))
+
 pub went_on_at : (xs : List Chain) (n : ℕ) (x y : Chain) (p : Place) (v : Version) → n < length xs → x ≡ get_or xs n x → chained y ≡ ((chained x).0, (chained x).1 ++ v ∷ []) → T (is_sorted place_order (all_chained xs))
-    → StandsAt place_order p (all_chained xs) n → IsPut v.set p v.row (all_chained xs) (all_chained (set xs n y))
+    → StandsAt place_order p (all_chained xs) n → IsPut v.set p v.row (all_chained xs) (all_chained (slice_set xs n y))
 went_on_at xs n x y p v below x_is is sorted at =
     let own : (chained x).0 ≡ p = ap (λ (c : Chain). (chained c).0) x_is ∙ place_there p xs n x at in
     let there : slice_get (all_chained xs) n ≡ Some (p, (chained x).1) =
     chain_there xs n x below ∙ (ap (λ (c : Chain). Some (chained c)) (sym x_is) ∙ ap (λ (q : Place). Some (q, (chained x).1)) own) in
-    let left : all_chained (set xs n y) ≡ set (all_chained xs) n (p, (chained x).1 ++ v ∷ []) =
-    map-set chained xs n y ∙ ap (set (all_chained xs) n) (is ∙ ap (λ (q : Place). (q, (chained x).1 ++ v ∷ [])) own) in
+    let left : all_chained (slice_set xs n y) ≡ set (all_chained xs) n (p, (chained x).1 ++ v ∷ []) =
+    chained_set xs n y below ∙ ap (set (all_chained xs) n) (is ∙ ap (λ (q : Place). (q, (chained x).1 ++ v ∷ [])) own) in
     subst (IsPut v.set p v.row (all_chained xs)) (sym left) (put_behind (all_chained xs) n p (chained x).1 v sorted at there)
 
 -- ---- the changes of a set
@@ -246,6 +254,20 @@ one_set_more sets one es fs before put mark = go (nat_lt (length sets) mark) ref
     go false is =
         let low : mark ≤ length sets = ltb-false (length sets) mark is in
         put.earlier mark low ∙ (before mark ∙ ap rows_of (sym (take-append-le mark sets (one ∷ []) low)))
+
+pub set_taken : (log : List ChangeSet) (n : ℕ) (one : ChangeSet) (read : List Change) (es fs : Chained) → n < length log → one ≡ get_or log n one → read ≡ one.changes.items → AreOfSets es (take n log)
+    → ArePut n read es fs → AreOfSets fs (take (n + 1) log)
+set_taken log n one read es fs below is read_is before put =
+    let long : length (take n log) ≡ n = length-take-le n log (omega arith) in
+    subst (AreOfSets fs) (sym (take_more log n one below ∙ ap (λ (d : ChangeSet). take n log ++ d ∷ []) (sym is)))
+    (one_set_more (take n log) one es fs before
+    (subst (λ (k : ℕ). ArePut k one.changes.items es fs) (sym long) (subst (λ (cs : List Change). ArePut n cs es fs) read_is put)))
+
+pub none_chained : (xs : List Chain) (mark : ℕ) → xs ≡ [] → rows_until mark (all_chained xs) ≡ rows_of (take mark [])
+none_chained xs mark is =
+    ap (λ (ys : List Chain). rows_until mark (all_chained ys)) is
+    ∙ (same_rows (rows_until mark []) no_rows (λ q. get-from_sorted place_order [] q tt ∙ sym (fin.get-empty place_order q))
+    ∙ ap rows_of (sym (take_all mark [] (omega arith))))
 
 -- ---- the row of a place
 
@@ -296,7 +318,7 @@ module _ (mark table : ℕ) (xs : List Chain) (n : ℕ) (x : Chain) (whole : Opt
 
 pub chains_end : (mark table : ℕ) (xs : List Chain) (n : ℕ) (whole : Option Row) → length xs ≤ n → first_row mark table (drop n (all_chained xs)) ≡ whole → None ≡ whole
 chains_end mark table xs n whole past so_far =
-    let long : length (all_chained xs) ≡ length xs = length-map chained xs in
+    let long : length (all_chained xs) ≡ length xs = length-map xs chained in
     ap (first_row mark table) (sym (drop_all n (all_chained xs) (omega (arith, long, past)))) ∙ so_far
 
 module _ (table : ℕ) (after : Option Value) where
@@ -356,3 +378,56 @@ behind_chain mark table key es n sorted parted =
 
     later : (e : Place × List Version) → is_up_to (place table key) e ≡ false → (e.0.table == table) ≡ false → table < e.0.table
     later e is of = later_table e.0 table key (not_false (is_gt (place_order e.0 (place table key))) is) (other_table table e.0.table of)
+
+-- ---- what calls answer of them
+
+pub chain_found : (mark : ℕ) (p : Place) (xs ys : List Chain) (n : ℕ) (x : Chain) → ys ≡ xs → T (is_sorted place_order (all_chained xs)) → (n < length ys) × StandsAt place_order p (all_chained ys) n
+    → x ≡ get_or ys n x → row_left (shown mark x.versions.items) ≡ fin.get (rows_until mark (all_chained xs)) p
+chain_found mark p xs ys n x same sorted at is =
+    subst (λ (zs : List Chain). row_left (shown mark x.versions.items) ≡ fin.get (rows_until mark (all_chained zs)) p) same
+    (row_at_chain mark p ys n x (subst (λ (zs : List Chain). T (is_sorted place_order (all_chained zs))) (sym same) sorted) at.0 is at.1)
+
+pub chain_unfound : (mark : ℕ) (p : Place) (xs ys : List Chain) (n : ℕ) → ys ≡ xs → T (is_sorted place_order (all_chained xs)) → (n ≤ length ys) × StandsBetween place_order p (all_chained ys) n
+    → None ≡ fin.get (rows_until mark (all_chained xs)) p
+chain_unfound mark p xs ys n same sorted between =
+    none_at_chain mark p xs n sorted (subst (λ (zs : List Chain). StandsBetween place_order p (all_chained zs) n) same between.1)
+
+pub first_chain_answered : (mark table : ℕ) (k : Option (Bor Value)) (xs ys : List Chain) (n : ℕ) (r : Option Row) → k ≡ None → ys ≡ xs → T (is_sorted place_order (all_chained xs))
+    → IsParted (is_before table) (all_chained ys) n → r ≡ first_row mark table (drop n (all_chained ys))
+    → r ≡ row_behind (rows_until mark (all_chained xs)) table (option_map (λ (b : Bor Value). b.now) k)
+first_chain_answered mark table k xs ys n r none same sorted parted is =
+    is
+    ∙ (ap (λ (zs : List Chain). first_row mark table (drop n (all_chained zs))) same
+    ∙ (sym (first_chain mark table (all_chained xs) n sorted (subst (λ (zs : List Chain). IsParted (is_before table) (all_chained zs) n) same parted))
+    ∙ ap (λ (b : Option (Bor Value)). row_behind (rows_until mark (all_chained xs)) table (option_map (λ (b : Bor Value). b.now) b)) (sym none)))
+
+pub behind_chain_answered : (mark table : ℕ) (k : Option (Bor Value)) (key : Bor Value) (xs ys : List Chain) (n : ℕ) (r : Option Row) → k ≡ Some key → ys ≡ xs → T (is_sorted place_order (all_chained xs))
+    → IsParted (is_up_to (place table key.now)) (all_chained ys) n → r ≡ first_row mark table (drop n (all_chained ys))
+    → r ≡ row_behind (rows_until mark (all_chained xs)) table (option_map (λ (b : Bor Value). b.now) k)
+behind_chain_answered mark table k key xs ys n r some same sorted parted is =
+    is
+    ∙ (ap (λ (zs : List Chain). first_row mark table (drop n (all_chained zs))) same
+    ∙ (sym (behind_chain mark table key.now (all_chained xs) n sorted (subst (λ (zs : List Chain). IsParted (is_up_to (place table key.now)) (all_chained zs) n) same parted))
+    ∙ ap (λ (b : Option (Bor Value)). row_behind (rows_until mark (all_chained xs)) table (option_map (λ (b : Bor Value). b.now) b)) (sym some)))
+
+-- ---- changes over them
+
+pub over_sorted : (mark : ℕ) (rows : List Seen) (xs ys : List Chain) → ys ≡ xs → T (is_sorted place_order (all_chained xs)) → all_stood rows ≡ shown_rows mark (all_chained ys)
+    → T (is_sorted place_order (all_stood rows))
+over_sorted mark rows xs ys same sorted is =
+    subst (λ (es : List (Place × Row)). T (is_sorted place_order es)) (sym (is ∙ ap (λ (zs : List Chain). shown_rows mark (all_chained zs)) same)) (sorted_shown mark (all_chained xs) sorted)
+
+pub over_rows : (mark : ℕ) (rows : List Seen) (xs ys : List Chain) (own read : List Change) (laid : Rows) → ys ≡ xs → all_stood rows ≡ shown_rows mark (all_chained ys) → read ≡ own
+    → laid ≡ all_laid (rows_at rows) read → laid ≡ laid_over (changes_of own) (rows_until mark (all_chained xs))
+over_rows mark rows xs ys own read laid same is read_is laid_is =
+    laid_is
+    ∙ (ap (all_laid (rows_at rows)) read_is
+    ∙ (ap (λ (es : List (Place × Row)). all_laid (from_sorted es) own) (is ∙ ap (λ (zs : List Chain). shown_rows mark (all_chained zs)) same)
+    ∙ all_laid_is own (rows_until mark (all_chained xs))))
+
+pub none_over : (own : List Change) (rows : Rows) → own ≡ [] → rows ≡ laid_over (changes_of own) rows
+none_over own rows none = sym (ap (λ (cs : List Change). laid_over (changes_of cs) rows) none ∙ laid_over-none rows)
+
+pub no_own : (own : List Change) (told : Truth) → told ≡ (length own == 0) → told ≡ true → own ≡ []
+no_own [] told tells is = refl
+no_own (c ∷ cs) told tells is = absurd (let none : length (c ∷ cs) ≡ 0 = eqb-true (length (c ∷ cs)) 0 (sym tells ∙ is) in omega (arith, none))

@@ -1,5 +1,5 @@
 -- What the sets of a log have left at each place, in the order of the places.
-use Rattle.std.specs.Prelude.{◌≡◌, ◌==◌, ◌<◌, ◌≤◌, ℕ, nat_lt, List, [], ◌∷◌, map, T, Option, Some, None, if◌then◌else◌}
+use Rattle.std.specs.Prelude.{◌≡◌, ◌==◌, ◌<◌, ◌≤◌, ℕ, nat_lt, List, [], ◌∷◌, map, take, T, Option, Some, None, if◌then◌else◌}
 use Rattle.std.specs.FinMap.{from_sorted, is_sorted}
 use Rattle.sql_eval.specs.declared.row.Row.{Row}
 use Rattle.sql_eval.specs.declared.effect.Change.{Change}
@@ -7,6 +7,8 @@ use Rattle.backend_trait.specs.Keys.{Place, place, place_order}
 use Rattle.backend_trait.specs.Rows.{Rows, changed_at}
 use Rattle.outcomes.specs.declared.chain.Version.{Version}
 use Rattle.outcomes.specs.declared.chain.Chain.{Chain}
+use Rattle.outcomes.specs.declared.change.ChangeSet.{ChangeSet}
+use Rattle.outcomes.specs.Log.{rows_of}
 use Rattle.outcomes.specs.Sights.{all_laid}
 
 -- the newer of two, where there is one
@@ -71,3 +73,7 @@ pub record ArePut (set : ℕ) (changes : List Change) (old new : Chained) : Type
   pub sorted : T (is_sorted place_order new)
   pub later : (mark : ℕ) → set < mark → rows_until mark new ≡ all_laid (rows_until mark old) changes
   pub earlier : (mark : ℕ) → mark ≤ set → rows_until mark new ≡ rows_until mark old
+
+-- chains show at each mark the rows of so many sets
+abbrev pub AreOfSets : Chained → List ChangeSet → Type 0
+AreOfSets es sets = (mark : ℕ) → rows_until mark es ≡ rows_of (take mark sets)

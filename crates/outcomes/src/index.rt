@@ -3,9 +3,7 @@ ghost use Rattle.std.specs.Prelude.{◌≡◌, ◌<◌, ◌≤◌, ◌+◌, ◌�
 ghost use Rattle.std.specs.FinMap.{is_sorted};
 ghost use Rattle.backend_trait.specs.Effect.{place_changed};
 ghost use Rattle.backend_trait.specs.Keys.{Place, place, place_order};
-ghost use Rattle.outcomes.specs.declared.change.ChangeSet.{ChangeSet};
-ghost use Rattle.outcomes.specs.Chains.{all_chained, chained, ArePut, IsPut};
-ghost use Rattle.outcomes.specs.Indexed.{AreOfSets, IsIndexOf};
+ghost use Rattle.outcomes.specs.Chains.{all_chained, chained, AreOfSets, ArePut, IsPut};
 ghost use Rattle.outcomes.specs.Sights.{is_before, is_up_to};
 ghost use Rattle.outcomes.specs.Spread.{IsParted, StandsAt, StandsBetween};
 
@@ -205,6 +203,9 @@ fn put_sets(
 }
 
 impl Index {
+    ghost use Rattle.outcomes.specs.declared.change.ChangeSet.{ChangeSet};
+    ghost use Rattle.outcomes.specs.Indexed.{IsIndexOf};
+
     /// The index of a log without sets.
     pub fn new(alloc: Global) -> Index
         ensures { (log : Sequence ChangeSet) → IsIndexOf result log }

@@ -1,5 +1,5 @@
 //! The rows behind the first sets of a log, as its index shows them.
-ghost use Rattle.std.specs.Prelude.{◌≡◌, ◌≤◌, drop, length};
+ghost use Rattle.std.specs.Prelude.{◌≡◌, drop};
 ghost use Rattle.std.specs.Option.{option_map};
 ghost use Rattle.outcomes.specs.Chains.{all_chained, first_row};
 ghost use Rattle.outcomes.specs.Indexed.{rows_in_index};
@@ -10,6 +10,7 @@ use pg_values::Value;
 use sql_eval::{Row, TableView};
 
 /// The rows behind the first sets of a log, so many of them.
+#[derive(Drop)]
 pub struct Indexed<'a> {
     pub index: &'a Index,
     pub mark: usize,
@@ -18,7 +19,6 @@ pub struct Indexed<'a> {
 /// The first row of a table from that chain on, where the chains before are of earlier tables or
 /// passed.
 fn first_shown(chains: &[Chain], from: usize, table: u8, mark: usize) -> Option<&Row>
-    requires { from ≤ length chains.now }
     ensures { option_map (λ r. r.now) result
         ≡ first_row mark table (drop from (all_chained chains.now)) }
 {
@@ -27,8 +27,9 @@ fn first_shown(chains: &[Chain], from: usize, table: u8, mark: usize) -> Option<
         if chain.table != table {
             return None;
         }
-        if let Some(row) = row_shown(chain.versions.as_slice(), mark) {
-            return Some(row);
+        match row_shown(chain.versions.as_slice(), mark) {
+            Some(row) => return Some(row),
+            None => (),
         }
     }
     None
@@ -47,10 +48,9 @@ impl TableView for Indexed<'_> {
 
     fn after(&self, table: u8, key: Option<&Value>) -> Option<&Row> {
         let chains = self.index.chains.as_slice();
-        let from = match key {
-            None => first_in(chains, table),
-            Some(key) => first_behind(chains, table, key),
-        };
-        first_shown(chains, from, table, self.mark)
+        match key {
+            None => first_shown(chains, first_in(chains, table), table, self.mark),
+            Some(key) => first_shown(chains, first_behind(chains, table, key), table, self.mark),
+        }
     }
 }

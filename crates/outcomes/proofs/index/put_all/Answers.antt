@@ -1,0 +1,8 @@
+use Rattle.outcomes.specs.Chains.{all_chained}
+use Rattle.outcomes.proofs.Chained.{one_put_more}
+use Rattle.outcomes.proofs.index.put_all.Goals as goal
+
+pub loop-change-preserved : goal.loop-change-preserved
+loop-change-preserved c =
+    one_put_more c.args.set c.args.changes.now c.loop-change.change-index c.change-item.result (all_chained c.args.chains.now.items) (all_chained c.loop-change.chains.items)
+    (all_chained c.put.new.chains.items) c.loop-change-test.true c.change-item.is c.loop-change.invariant c.in_ok-put.ensures
