@@ -1,6 +1,6 @@
 -- Chains of versions: what they show at a mark, and what a version more makes of them.
 use Rattle.std.proofs.Common.{Bor, add-one, ◌≡◌, ℕ, zero, suc, ◌+◌, ◌-◌, ◌<◌, ◌≤◌, List, [], ◌∷◌, ◌++◌, map, set, take, drop, length, get_or, refl, ap, sym, ◌∙◌, subst, arith}
-use Rattle.std.specs.Prelude.{◌==◌, ◌&&◌, cond, not, nat_lt, T, Bool as Truth, true, false, Option, Some, None, slice_get, slice_set, if◌then◌else◌}
+use Rattle.std.specs.Prelude.{◌==◌, ◌&&◌, cond, nat_lt, T, Bool as Truth, true, false, Option, Some, None, slice_get, slice_set, if◌then◌else◌}
 use Rattle.std.specs.List.{find as first, insert}
 use Rattle.std.specs.Option.{option_map}
 use Rattle.std.specs.FinMap as fin

@@ -1,18 +1,16 @@
 -- The number of a place among rows that stand in order.
-use Rattle.std.proofs.Common.{Bor, ◌≡◌, ℕ, zero, suc, ◌-◌, ◌<◌, ◌≤◌, List, [], ◌∷◌, map, length, get_or, refl, ap, sym, ◌∙◌, subst, arith}
-use Rattle.std.specs.Prelude.{◌&&◌, ◌==◌, cond, not, filter, T, Bool as Truth, true, false, Option, Some, None, Result, Ok, Err, IfOk, IfErr, is_some, slice_get, if◌then◌else◌}
-use Rattle.std.specs.List.{AllWithin, HoldsAt, find}
-use Rattle.std.specs.Slice.{IsGetResult}
-use Rattle.std.specs.List.Sorted.{IsBinarySearchResult, IsNonDecreasingBy, IsPartitionedBy, IsPartitionPoint, IsSearchInRange}
-use Rattle.std.specs.Option.{MatchOption, option_map}
+use Rattle.std.proofs.Common.{Bor, ◌≡◌, ℕ, zero, suc, ◌<◌, ◌≤◌, List, [], ◌∷◌, map, length, get_or, refl, ap, sym, ◌∙◌, subst, arith}
+use Rattle.std.specs.Prelude.{◌&&◌, ◌==◌, cond, not, filter, T, Bool as Truth, true, false, Option, Some, None, slice_get, if◌then◌else◌}
+use Rattle.std.specs.List.{find}
+use Rattle.std.specs.Option.{option_map}
 use Rattle.std.specs.FinMap as fin
 use Rattle.std.specs.FinMap.{entries-from_sorted, get-from_sorted}
 use Rattle.std.specs.FinMap.Entries.{below_all, is_sorted}
 use Rattle.std.specs.declared.cmp.Ordering.{Ordering}
 use Rattle.std.specs.declared.cmp.Ordering.TheVariants.{Less, Equal, Greater}
-use Rattle.std.specs.Ordering.{is_gt, is_lt, nat_cmp, ordering_index, ordering_then}
+use Rattle.std.specs.Ordering.{is_gt, nat_cmp, ordering_then}
 use Rattle.std.specs.Cmp.{ranked}
-use Rattle.std.proofs.lemmas.Bool.{eqb-true, eqb-false, lt-ltb, ltb-false, ltb-true}
+use Rattle.std.proofs.lemmas.Bool.{eqb-true, eqb-false, ltb-false, ltb-true}
 use Rattle.std.proofs.lemmas.Cmp.{tied_itself, nat_cmp_total}
 use Rattle.pg_values.specs.declared.value.Value.{Value}
 use Rattle.sql_eval.specs.declared.row.Row.{Row}
@@ -20,7 +18,7 @@ use Rattle.sql_eval.specs.Views.{Entry, entry, is_behind, key_order, row_behind}
 use Rattle.backend_trait.specs.Keys.{Place, place, place_order}
 use Rattle.backend_trait.proofs.KeyLaws.{place_antisymmetric, place_total}
 use Rattle.outcomes.specs.Spread.{IsParted, StandsAt, StandsBetween}
-use Rattle.outcomes.specs.Sights.{all_stood, is_before, is_up_to, row_in, rows_at, stood}
+use Rattle.outcomes.specs.Sights.{all_stood, is_before, is_up_to, row_in, rows_at}
 use Rattle.outcomes.specs.declared.sight.Seen.{Seen}
 use Rattle.outcomes.proofs.Entries.{both_hold, found_at, is_less, none_between}
 use Rattle.outcomes.proofs.Standing.{table_le}

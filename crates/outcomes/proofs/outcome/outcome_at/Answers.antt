@@ -1,4 +1,4 @@
-use Rattle.std.proofs.Common.{ap, sym}
+use Rattle.std.proofs.Common.{ap}
 use Rattle.backend_trait.specs.Effect.{changes_of, effect_of, table_in}
 use Rattle.backend_trait.specs.Rows.{Rows, laid_over}
 use Rattle.outcomes.specs.Indexed.{rows_in_index}
