@@ -43,7 +43,7 @@ pub struct MemoryStore {
     ghost committed: { AreAllStored catalogue log.items } by { all_stored-prop _ _ },
     ghost stored: { AreEachStored catalogue seats.items } by { each_stored-prop _ _ },
     // The index has the first sets of the log.
-    ghost indexed: { IsIndexOf index log.items } by { index-prop _ _ },
+    ghost indexed: { IsIndexOf index log.items } by { index-prop index _ },
     // What each statement gives that waits is its effect.
     ghost given: { AreGiven (next_of numbers) catalogue log.items seats.items } by { prop _ _ _ _ },
     // Each live transaction has room for its set.
