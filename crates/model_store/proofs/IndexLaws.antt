@@ -1,11 +1,9 @@
 -- The index of the log, where the log gets a set more, and what it shows of a transaction's base.
-use Rattle.std.proofs.Common.{◌≡◌, ℕ, ◌<◌, ◌≤◌, ◌+◌, List, [], ◌∷◌, ◌++◌, length, take, refl, sym, ap, ◌∙◌, subst, arith}
-use Rattle.std.specs.Prelude.{false, ℤ, Option, Some, Result, IfOk, slice_get}
+use Rattle.std.proofs.Common.{◌≡◌, ℕ, ◌+◌, List, [], ◌∷◌, ◌++◌, length, take, sym, ap, ◌∙◌, subst, arith}
+use Rattle.std.specs.Prelude.{false, ℤ, Option, Some, slice_get}
 use Rattle.std.proofs.lemmas.List.{length-append, take_all, take-append-le}
-use Rattle.pool_base.specs.declared.no_memory.NoMemory.{NoMemory}
 use Rattle.schema.specs.declared.catalogue.TableDef.{TableDef}
 use Rattle.backend_trait.specs.declared.answer.Answer.{Answer}
-use Rattle.backend_trait.specs.Rows.{Rows}
 use Rattle.backend_trait.specs.Acts.{WhereSome}
 use Rattle.outcomes.specs.declared.change.ChangeSet.{ChangeSet}
 use Rattle.outcomes.specs.declared.index.Index.{Index}
