@@ -4,7 +4,7 @@ use Rattle.std.specs.Prelude.{◌==◌, ◌&&◌, cond, nat_lt, T, Bool as Truth
 use Rattle.std.specs.List.{find as first, insert}
 use Rattle.std.specs.Option.{option_map}
 use Rattle.std.specs.FinMap as fin
-use Rattle.std.specs.FinMap.{entries-from_sorted, from_sorted, get-from_sorted}
+use Rattle.std.specs.FinMap.{entries-from_sorted, get-from_sorted}
 use Rattle.std.specs.FinMap.Entries.{below_all, find, is_sorted}
 use Rattle.std.specs.Ordering.{is_gt, is_lt}
 use Rattle.std.proofs.lemmas.Bool.{eq-eqb, eqb-true, lt-ltb, ltb-false, ltb-true}
@@ -13,24 +13,23 @@ use Rattle.std.proofs.lemmas.List.{drop_all, length-append, length-map, length-t
 use Rattle.pg_values.specs.declared.value.Value.{Value}
 use Rattle.sql_eval.specs.declared.row.Row.{Row}
 use Rattle.sql_eval.specs.declared.effect.Change.{Change}
-use Rattle.sql_eval.specs.Views.{entry, is_behind, key_order, row_behind}
+use Rattle.sql_eval.specs.Views.{Entry, entries_in, entry, is_behind, key_order}
 use Rattle.backend_trait.specs.Keys.{Place, is_place, place, place_order}
-use Rattle.backend_trait.specs.Rows.{Rows, changed_at, laid_over, no_rows}
+use Rattle.backend_trait.specs.Rows.{Changes, Rows, changed_at, no_changes, no_rows}
 use Rattle.backend_trait.specs.Effect.{changes_of, place_changed}
 use Rattle.backend_trait.proofs.KeyLaws.{place_antisymmetric, place_total}
-use Rattle.backend_trait.proofs.RowLaws.{get-changed_at, laid_over-none, same_rows}
+use Rattle.backend_trait.proofs.RowLaws.{get-changed_at, same_rows}
 use Rattle.outcomes.specs.Spread.{IsParted, StandsAt, StandsBetween}
 use Rattle.outcomes.specs.declared.change.ChangeSet.{ChangeSet}
 use Rattle.outcomes.specs.declared.chain.Version.{Version}
 use Rattle.outcomes.specs.declared.chain.Chain.{Chain}
-use Rattle.outcomes.specs.declared.sight.Seen.{Seen}
 use Rattle.outcomes.specs.Log.{rows_of}
-use Rattle.outcomes.specs.Sights.{all_laid, all_stood, is_before, is_up_to, rows_at}
-use Rattle.outcomes.specs.Chains.{AreOfSets, ArePut, Chained, IsPut, all_chained, chained, first_row, left_until, newer, put_shown, row_left, row_or, rows_until, shown, shown_rows}
+use Rattle.outcomes.specs.Sights.{all_laid, is_before, is_passed, is_up_to}
+use Rattle.outcomes.specs.Chains.{AreOfSets, ArePut, Chained, IsPut, all_chained, chained, entry_left, entry_or, first_entry, left_until, newer, put_shown, row_left, rows_until, shown, shown_at, shown_rows, versions_in}
 use Rattle.outcomes.proofs.Entries.{both_hold, equal, found_at, hold_both, none_between, put_found, put_sorted, set_found, set_sorted, unfound}
 use Rattle.outcomes.proofs.Laid.{all_laid_is}
-use Rattle.outcomes.proofs.LogLaws.{rows_on-snoc}
-use Rattle.outcomes.proofs.Numbers.{first_found, found_in, none_found, none_later, other_table, passed_by, row_of, same_table, later_table, not_false, not_true, to_entry}
+use Rattle.outcomes.proofs.LogLaws.{changed_on-append, rows_on-snoc}
+use Rattle.outcomes.proofs.Numbers.{first_found, found_in, none_found, none_later, other_table, passed_by, same_table, later_table, not_false, not_true, to_entry}
 use Rattle.outcomes.proofs.Ordered.{laid_append, one_place}
 
 -- ---- versions
@@ -73,19 +72,14 @@ module _ (mark : ℕ) (vs : List Version) (past n : ℕ) (v : Version) (within :
       let up : suc n ≡ length vs - past = omega (arith, n_is, within) in
       sym so_far ∙ (ap (λ (k : ℕ). shown mark (take k vs)) (sym up) ∙ shown_last mark vs n v (omega (arith, n_is, within)) v_is)
 
-  pub row_counts : v.set < mark → v.row ≡ row_left (shown mark vs)
-  row_counts below = sym (ap row_left here ∙ ap (λ (o : Option (Option Row)). row_left (newer o (shown mark (take n vs)))) (counted v mark below))
+  pub row_counts : v.set < mark → Some v.row ≡ shown mark vs
+  row_counts below = sym (here ∙ ap (λ (o : Option (Option Row)). newer o (shown mark (take n vs))) (counted v mark below))
 
   pub row_is_passed : mark ≤ v.set → shown mark (take (length vs - (past + 1)) vs) ≡ shown mark vs
   row_is_passed up =
       let same : length vs - (past + 1) ≡ n = omega (arith, n_is, within) in
       ap (λ (k : ℕ). shown mark (take k vs)) same
       ∙ sym (here ∙ ap (λ (o : Option (Option Row)). newer o (shown mark (take n vs))) (uncounted v mark up))
-
-pub none_counts : (mark : ℕ) (vs : List Version) (past : ℕ) → length vs ≤ past → shown mark (take (length vs - past) vs) ≡ shown mark vs → None ≡ row_left (shown mark vs)
-none_counts mark vs past all so_far =
-    let none : length vs - past ≡ zero = omega arith in
-    ap row_left (sym (ap (λ (k : ℕ). shown mark (take k vs)) none) ∙ so_far)
 
 -- ---- what is shown of chains
 
@@ -105,10 +99,6 @@ module _ (mark : ℕ) where
       go : T (below_all place_order e.0 (shown_rows mark es)) → T (is_sorted place_order (shown_rows mark es)) → (o : Option Row) → T (is_sorted place_order (put_shown e.0 o (shown_rows mark es)))
       go below rest None = rest
       go below rest (Some row) = hold_both (below_all place_order e.0 (shown_rows mark es)) (is_sorted place_order (shown_rows mark es)) below rest
-
-abbrev versions_in : Option (List Version) → List Version
-versions_in None = []
-versions_in (Some vs) = vs
 
 abbrev row_at : ℕ → Option (List Version) → Option Row
 row_at mark o = row_left (shown mark (versions_in o))
@@ -134,6 +124,16 @@ get_until mark es q sorted = get-from_sorted place_order (shown_rows mark es) q 
 module _ (es fs : Chained) (p : Place) (v : Version) (was : T (is_sorted place_order es)) (is : T (is_sorted place_order fs)) (found : (q : Place) → find place_order q fs ≡ cond (is_place q p) (Some (versions_in (find place_order p es) ++ v ∷ [])) (find place_order q es)) where
   abbrev old : List Version
   old = versions_in (find place_order p es)
+
+  shown_each : (mark : ℕ) (q : Place) → shown_at mark fs q ≡ cond (is_place q p) (newer (left_until mark v) (shown mark old)) (shown_at mark es q)
+  shown_each mark q = ap (λ (o : Option (List Version)). shown mark (versions_in o)) (found q) ∙ go (is_place q p)
+    where
+      go : (b : Truth) → shown mark (versions_in (cond b (Some (old ++ v ∷ [])) (find place_order q es))) ≡ cond b (newer (left_until mark v) (shown mark old)) (shown_at mark es q)
+      go true = shown_snoc mark old v
+      go false = refl
+
+  shown_newer : (mark : ℕ) → v.set < mark → (q : Place) → shown_at mark fs q ≡ cond (is_place q p) (Some v.row) (shown_at mark es q)
+  shown_newer mark below q = shown_each mark q ∙ ap (λ (o : Option (Option Row)). cond (is_place q p) (newer o (shown mark old)) (shown_at mark es q)) (counted v mark below)
 
   at_each : (mark : ℕ) (q : Place) → fin.get (rows_until mark fs) q ≡ cond (is_place q p) (row_left (newer (left_until mark v) (shown mark old))) (row_at mark (find place_order q es))
   at_each mark q = get_until mark fs q is ∙ (ap (row_at mark) (found q) ∙ go (is_place q p))
@@ -161,7 +161,7 @@ module _ (es fs : Chained) (p : Place) (v : Version) (was : T (is_sorted place_o
       go q false same = refl
 
   version_put : IsPut v.set p v.row es fs
-  version_put = record { sorted = is; later = shown_later; earlier = shown_earlier }
+  version_put = record { sorted = is; later = shown_later; earlier = shown_earlier; each = shown_newer }
 
 -- where none was yet
 pub put_first : (es : Chained) (n : ℕ) (p : Place) (v : Version) → T (is_sorted place_order es) → StandsBetween place_order p es n → IsPut v.set p v.row es (insert es n (p, v ∷ []))
@@ -224,7 +224,23 @@ went_on_at xs n x y p v below x_is is sorted at =
 -- ---- the changes of a set
 
 pub none_put : (number : ℕ) (es : Chained) → T (is_sorted place_order es) → ArePut number [] es es
-none_put number es sorted = record { sorted = sorted; later = λ mark below. refl; earlier = λ mark up. refl }
+none_put number es sorted = record {
+  sorted = sorted;
+  later = λ mark below. refl;
+  earlier = λ mark up. refl;
+  each = λ mark below q. ap (λ (o : Option (Option Row)). newer o (shown_at mark es q)) (sym (fin.get-empty place_order q));
+}
+
+over_newer : (b : Truth) (row : Option Row) (o before : Option (Option Row)) → cond b (Some row) (newer o before) ≡ newer (cond b (Some row) o) before
+over_newer true row o before = refl
+over_newer false row o before = refl
+
+taken_change : (changes : List Change) (n : ℕ) (c : Change) (q : Place) → n < length changes → c ≡ get_or changes n c
+    → fin.get (changes_of (take (n + 1) changes)) q ≡ cond (is_place q (place_changed c)) (Some c.row) (fin.get (changes_of (take n changes)) q)
+taken_change changes n c q below is =
+    ap (λ (cs : List Change). fin.get (changes_of cs) q) (take_more changes n c below ∙ ap (λ (d : Change). take n changes ++ d ∷ []) (sym is))
+    ∙ (ap (λ (m : Changes). fin.get m q) (changed_on-append no_changes (take n changes) (c ∷ []))
+    ∙ fin.get-insert place_total (changes_of (take n changes)) (place_changed c) c.row q)
 
 pub one_put_more : (number : ℕ) (changes : List Change) (n : ℕ) (c : Change) (es fs gs : Chained) → n < length changes → c ≡ get_or changes n c → ArePut number (take n changes) es fs
     → IsPut number (place_changed c) c.row fs gs → ArePut number (take (n + 1) changes) es gs
@@ -236,6 +252,11 @@ one_put_more number changes n c es fs gs below is before put = record {
       ∙ sym (ap (all_laid (rows_until mark es)) (take_more changes n c below ∙ ap (λ (d : Change). take n changes ++ d ∷ []) (sym is))
       ∙ laid_append (rows_until mark es) (take n changes) (c ∷ [])));
   earlier = λ mark low. put.earlier mark low ∙ before.earlier mark low;
+  each = λ mark up q.
+      put.each mark up q
+      ∙ (ap (cond (is_place q (place_changed c)) (Some c.row)) (before.each mark up q)
+      ∙ (over_newer (is_place q (place_changed c)) c.row (fin.get (changes_of (take n changes)) q) (shown_at mark es q)
+      ∙ ap (λ (o : Option (Option Row)). newer o (shown_at mark es q)) (sym (taken_change changes n c q below is))));
 }
 
 -- ---- the sets of a log
@@ -287,20 +308,20 @@ none_at_chain mark p xs n sorted between =
 -- ---- the first row of a table, and the row behind a key
 
 first_next : (mark table : ℕ) (xs : List Chain) (n : ℕ) (x : Chain) → n < length xs → x ≡ get_or xs n x
-    → first_row mark table (drop n (all_chained xs)) ≡ (if x.table == table then row_or (row_left (shown mark x.versions.items)) (first_row mark table (drop (suc n) (all_chained xs))) else None)
+    → first_entry mark table (drop n (all_chained xs)) ≡ (if x.table == table then entry_or (entry_left x.key (row_left (shown mark x.versions.items))) (first_entry mark table (drop (suc n) (all_chained xs))) else None)
 first_next mark table [] n x below is = absurd (omega arith)
 first_next mark table (y ∷ xs) zero x below is =
-    ap (λ (c : Chain). if c.table == table then row_or (row_left (shown mark c.versions.items)) (first_row mark table (all_chained xs)) else None) (sym is)
+    ap (λ (c : Chain). if c.table == table then entry_or (entry_left c.key (row_left (shown mark c.versions.items))) (first_entry mark table (all_chained xs)) else None) (sym is)
 first_next mark table (y ∷ xs) (suc n) x below is = first_next mark table xs n x (omega arith) is
 
 -- a walk over chains: one of another table ends it, one that shows a row too, any other is passed
-module _ (mark table : ℕ) (xs : List Chain) (n : ℕ) (x : Chain) (whole : Option Row) (below : n < length xs) (is : x ≡ get_or xs n x) (so_far : first_row mark table (drop n (all_chained xs)) ≡ whole) where
+module _ (mark table : ℕ) (xs : List Chain) (n : ℕ) (x : Chain) (whole : Option Entry) (below : n < length xs) (is : x ≡ get_or xs n x) (so_far : first_entry mark table (drop n (all_chained xs)) ≡ whole) where
   chain_step : (b : Truth) (o : Option Row) → (x.table == table) ≡ b → row_left (shown mark x.versions.items) ≡ o
-      → (if b then row_or o (first_row mark table (drop (n + 1) (all_chained xs))) else None) ≡ whole
+      → (if b then entry_or (entry_left x.key o) (first_entry mark table (drop (n + 1) (all_chained xs))) else None) ≡ whole
   chain_step b o b_is o_is =
-      ap (λ (k : ℕ). if b then row_or o (first_row mark table (drop k (all_chained xs))) else None) (add-one n)
-      ∙ (ap (λ (c : Truth). if c then row_or o (first_row mark table (drop (suc n) (all_chained xs))) else None) (sym b_is)
-      ∙ (ap (λ (r : Option Row). if x.table == table then row_or r (first_row mark table (drop (suc n) (all_chained xs))) else None) (sym o_is)
+      ap (λ (k : ℕ). if b then entry_or (entry_left x.key o) (first_entry mark table (drop k (all_chained xs))) else None) (add-one n)
+      ∙ (ap (λ (c : Truth). if c then entry_or (entry_left x.key o) (first_entry mark table (drop (suc n) (all_chained xs))) else None) (sym b_is)
+      ∙ (ap (λ (r : Option Row). if x.table == table then entry_or (entry_left x.key r) (first_entry mark table (drop (suc n) (all_chained xs))) else None) (sym o_is)
       ∙ (sym (first_next mark table xs n x below is) ∙ so_far)))
 
   pub table_ends : (x.table ≡ table → ⊥) → None ≡ whole
@@ -310,16 +331,16 @@ module _ (mark table : ℕ) (xs : List Chain) (n : ℕ) (x : Chain) (whole : Opt
       go true same = absurd (other (eqb-true x.table table same))
       go false apart = chain_step false (row_left (shown mark x.versions.items)) apart refl
 
-  pub chain_shows : (row : Row) → x.table ≡ table → Some row ≡ row_left (shown mark x.versions.items) → Some row ≡ whole
+  pub chain_shows : (row : Row) → x.table ≡ table → Some row ≡ row_left (shown mark x.versions.items) → Some (entry x.key row) ≡ whole
   chain_shows row same shows = chain_step true (Some row) (eq-eqb x.table table same) (sym shows)
 
-  pub chain_passed : x.table ≡ table → None ≡ row_left (shown mark x.versions.items) → first_row mark table (drop (n + 1) (all_chained xs)) ≡ whole
+  pub chain_passed : x.table ≡ table → None ≡ row_left (shown mark x.versions.items) → first_entry mark table (drop (n + 1) (all_chained xs)) ≡ whole
   chain_passed same shows = chain_step true None (eq-eqb x.table table same) (sym shows)
 
-pub chains_end : (mark table : ℕ) (xs : List Chain) (n : ℕ) (whole : Option Row) → length xs ≤ n → first_row mark table (drop n (all_chained xs)) ≡ whole → None ≡ whole
+pub chains_end : (mark table : ℕ) (xs : List Chain) (n : ℕ) (whole : Option Entry) → length xs ≤ n → first_entry mark table (drop n (all_chained xs)) ≡ whole → None ≡ whole
 chains_end mark table xs n whole past so_far =
     let long : length (all_chained xs) ≡ length xs = length-map xs chained in
-    ap (first_row mark table) (sym (drop_all n (all_chained xs) (omega (arith, long, past)))) ∙ so_far
+    ap (first_entry mark table) (sym (drop_all n (all_chained xs) (omega (arith, long, past)))) ∙ so_far
 
 module _ (table : ℕ) (after : Option Value) where
   skipped : (p : Place) (o : Option Row) (es : List (Place × Row)) → ((row : Row) → ((p.table == table) && is_behind after (entry p.key row)) ≡ false)
@@ -331,20 +352,20 @@ module _ (table : ℕ) (after : Option Value) where
       (passes : (e : Place × List Version) → test e ≡ true → (e.0.table == table) ≡ true → (row : Row) → is_behind after (entry e.0.key row) ≡ false)
       (fails : (e : Place × List Version) → test e ≡ false → (e.0.table == table) ≡ true → (row : Row) → is_behind after (entry e.0.key row) ≡ true)
       (later : (e : Place × List Version) → test e ≡ false → (e.0.table == table) ≡ false → table < e.0.table) where
-    behind_shown : (es : Chained) (n : ℕ) → T (is_sorted place_order es) → IsParted test es n → found_in table after (shown_rows mark es) ≡ first_row mark table (drop n es)
+    behind_shown : (es : Chained) (n : ℕ) → T (is_sorted place_order es) → IsParted test es n → found_in table after (shown_rows mark es) ≡ first_entry mark table (drop n es)
     behind_shown [] zero sorted parted = refl
     behind_shown [] (suc n) sorted parted = absurd parted
     behind_shown (e ∷ es) zero sorted parted =
         let parts = both_hold _ _ sorted in
         go parts.0 (behind_shown es zero parts.1 parted.1) (e.0.table == table) refl (row_left (shown mark e.1))
       where
-        go : T (below_all place_order e.0 es) → found_in table after (shown_rows mark es) ≡ first_row mark table es → (b : Truth) → (e.0.table == table) ≡ b → (o : Option Row)
-            → found_in table after (put_shown e.0 o (shown_rows mark es)) ≡ (if b then row_or o (first_row mark table es) else None)
+        go : T (below_all place_order e.0 es) → found_in table after (shown_rows mark es) ≡ first_entry mark table es → (b : Truth) → (e.0.table == table) ≡ b → (o : Option Row)
+            → found_in table after (put_shown e.0 o (shown_rows mark es)) ≡ (if b then entry_or (entry_left e.0.key o) (first_entry mark table es) else None)
         go below rest true is (Some row) = first_found table after (e.0, row) (shown_rows mark es) is (fails e parted.0 is row)
         go below rest true is None = rest
         go below rest false is (Some row) = none_found table after (e.0, row) (shown_rows mark es) is (later e parted.0 is) (below_shown mark e.0 es below)
         go below rest false is None =
-            ap (λ (fs : List (Place × Row)). option_map row_of (first (is_behind after) (map to_entry fs))) (none_later table e.0 (shown_rows mark es) (later e parted.0 is) (below_shown mark e.0 es below))
+            ap (λ (fs : List (Place × Row)). first (is_behind after) (map to_entry fs)) (none_later table e.0 (shown_rows mark es) (later e parted.0 is) (below_shown mark e.0 es below))
     behind_shown (e ∷ es) (suc n) sorted parted =
         let parts = both_hold _ _ sorted in
         skipped e.0 (row_left (shown mark e.1)) (shown_rows mark es) (λ row. apart row (e.0.table == table) refl) ∙ behind_shown es n parts.1 parted.1
@@ -353,7 +374,7 @@ module _ (table : ℕ) (after : Option Value) where
         apart row true is = passes e parted.0 is row
         apart row false is = refl
 
-pub first_chain : (mark table : ℕ) (es : Chained) (n : ℕ) → T (is_sorted place_order es) → IsParted (is_before table) es n → row_behind (rows_until mark es) table None ≡ first_row mark table (drop n es)
+first_chain : (mark table : ℕ) (es : Chained) (n : ℕ) → T (is_sorted place_order es) → IsParted (is_before table) es n → first (is_behind None) (entries_in (rows_until mark es) table) ≡ first_entry mark table (drop n es)
 first_chain mark table es n sorted parted =
     ap (λ (fs : List (Place × Row)). found_in table None fs) (entries-from_sorted place_order (shown_rows mark es) (sorted_shown mark es sorted))
     ∙ behind_shown table None mark (is_before table) passes (λ e fails is row. refl) later es n sorted parted
@@ -364,8 +385,8 @@ first_chain mark table es n sorted parted =
     later : (e : Place × List Version) → is_before table e ≡ false → (e.0.table == table) ≡ false → table < e.0.table
     later e is of = let up : table ≤ e.0.table = ltb-false e.0.table table is in let other = other_table table e.0.table of in omega arith
 
-pub behind_chain : (mark table : ℕ) (key : Value) (es : Chained) (n : ℕ) → T (is_sorted place_order es) → IsParted (is_up_to (place table key)) es n
-    → row_behind (rows_until mark es) table (Some key) ≡ first_row mark table (drop n es)
+behind_chain : (mark table : ℕ) (key : Value) (es : Chained) (n : ℕ) → T (is_sorted place_order es) → IsParted (is_up_to (place table key)) es n
+    → first (is_behind (Some key)) (entries_in (rows_until mark es) table) ≡ first_entry mark table (drop n es)
 behind_chain mark table key es n sorted parted =
     ap (λ (fs : List (Place × Row)). found_in table (Some key) fs) (entries-from_sorted place_order (shown_rows mark es) (sorted_shown mark es sorted))
     ∙ behind_shown table (Some key) mark (is_up_to (place table key)) passes fails later es n sorted parted
@@ -378,6 +399,12 @@ behind_chain mark table key es n sorted parted =
 
     later : (e : Place × List Version) → is_up_to (place table key) e ≡ false → (e.0.table == table) ≡ false → table < e.0.table
     later e is of = later_table e.0 table key (not_false (is_gt (place_order e.0 (place table key))) is) (other_table table e.0.table of)
+
+-- the first row behind a key, or of all
+pub chain_behind : (mark table : ℕ) (key : Option Value) (es : Chained) (n : ℕ) → T (is_sorted place_order es) → IsParted (is_passed table key) es n
+    → first (is_behind key) (entries_in (rows_until mark es) table) ≡ first_entry mark table (drop n es)
+chain_behind mark table None es n sorted parted = first_chain mark table es n sorted parted
+chain_behind mark table (Some key) es n sorted parted = behind_chain mark table key es n sorted parted
 
 -- ---- what calls answer of them
 
@@ -392,42 +419,25 @@ pub chain_unfound : (mark : ℕ) (p : Place) (xs ys : List Chain) (n : ℕ) → 
 chain_unfound mark p xs ys n same sorted between =
     none_at_chain mark p xs n sorted (subst (λ (zs : List Chain). StandsBetween place_order p (all_chained zs) n) same between.1)
 
-pub first_chain_answered : (mark table : ℕ) (k : Option (Bor Value)) (xs ys : List Chain) (n : ℕ) (r : Option Row) → k ≡ None → ys ≡ xs → T (is_sorted place_order (all_chained xs))
-    → IsParted (is_before table) (all_chained ys) n → r ≡ first_row mark table (drop n (all_chained ys))
-    → r ≡ row_behind (rows_until mark (all_chained xs)) table (option_map (λ (b : Bor Value). b.now) k)
-first_chain_answered mark table k xs ys n r none same sorted parted is =
+pub chain_answered : (mark table : ℕ) (key : Option Value) (xs ys : List Chain) (n : ℕ) (r : Option Entry) → ys ≡ xs → T (is_sorted place_order (all_chained xs)) → IsParted (is_passed table key) (all_chained ys) n
+    → r ≡ first_entry mark table (drop n (all_chained ys)) → r ≡ first (is_behind key) (entries_in (rows_until mark (all_chained xs)) table)
+chain_answered mark table key xs ys n r same sorted parted is =
     is
-    ∙ (ap (λ (zs : List Chain). first_row mark table (drop n (all_chained zs))) same
-    ∙ (sym (first_chain mark table (all_chained xs) n sorted (subst (λ (zs : List Chain). IsParted (is_before table) (all_chained zs) n) same parted))
-    ∙ ap (λ (b : Option (Bor Value)). row_behind (rows_until mark (all_chained xs)) table (option_map (λ (b : Bor Value). b.now) b)) (sym none)))
+    ∙ (ap (λ (zs : List Chain). first_entry mark table (drop n (all_chained zs))) same
+    ∙ sym (chain_behind mark table key (all_chained xs) n sorted (subst (λ (zs : List Chain). IsParted (is_passed table key) (all_chained zs) n) same parted)))
 
-pub behind_chain_answered : (mark table : ℕ) (k : Option (Bor Value)) (key : Bor Value) (xs ys : List Chain) (n : ℕ) (r : Option Row) → k ≡ Some key → ys ≡ xs → T (is_sorted place_order (all_chained xs))
-    → IsParted (is_up_to (place table key.now)) (all_chained ys) n → r ≡ first_row mark table (drop n (all_chained ys))
-    → r ≡ row_behind (rows_until mark (all_chained xs)) table (option_map (λ (b : Bor Value). b.now) k)
-behind_chain_answered mark table k key xs ys n r some same sorted parted is =
-    is
-    ∙ (ap (λ (zs : List Chain). first_row mark table (drop n (all_chained zs))) same
-    ∙ (sym (behind_chain mark table key.now (all_chained xs) n sorted (subst (λ (zs : List Chain). IsParted (is_up_to (place table key.now)) (all_chained zs) n) same parted))
-    ∙ ap (λ (b : Option (Bor Value)). row_behind (rows_until mark (all_chained xs)) table (option_map (λ (b : Bor Value). b.now) b)) (sym some)))
+pub passed_none : (table : ℕ) (k : Option (Bor Value)) (xs : List Chain) (n : ℕ) → k ≡ None → IsParted (is_before table) (all_chained xs) n
+    → IsParted (is_passed table (option_map (λ (b : Bor Value). b.now) k)) (all_chained xs) n
+passed_none table k xs n none parted = subst (λ (o : Option (Bor Value)). IsParted (is_passed table (option_map (λ (b : Bor Value). b.now) o)) (all_chained xs) n) (sym none) parted
 
--- ---- changes over them
+pub passed_some : (table : ℕ) (k : Option (Bor Value)) (key : Bor Value) (xs : List Chain) (n : ℕ) → k ≡ Some key → IsParted (is_up_to (place table key.now)) (all_chained xs) n
+    → IsParted (is_passed table (option_map (λ (b : Bor Value). b.now) k)) (all_chained xs) n
+passed_some table k key xs n some parted = subst (λ (o : Option (Bor Value)). IsParted (is_passed table (option_map (λ (b : Bor Value). b.now) o)) (all_chained xs) n) (sym some) parted
 
-pub over_sorted : (mark : ℕ) (rows : List Seen) (xs ys : List Chain) → ys ≡ xs → T (is_sorted place_order (all_chained xs)) → all_stood rows ≡ shown_rows mark (all_chained ys)
-    → T (is_sorted place_order (all_stood rows))
-over_sorted mark rows xs ys same sorted is =
-    subst (λ (es : List (Place × Row)). T (is_sorted place_order es)) (sym (is ∙ ap (λ (zs : List Chain). shown_rows mark (all_chained zs)) same)) (sorted_shown mark (all_chained xs) sorted)
+pub made_new : (changes : List Change) (xs ys : List Chain) → xs ≡ [] → ArePut 0 changes (all_chained xs) (all_chained ys) → (p : Place) → shown_at 1 (all_chained ys) p ≡ fin.get (changes_of changes) p
+made_new changes xs ys none put = λ p.
+    put.each 1 (omega arith) p
+    ∙ (ap (λ (zs : List Chain). newer (fin.get (changes_of changes) p) (shown_at 1 (all_chained zs) p)) none ∙ newer_none (fin.get (changes_of changes) p))
 
-pub over_rows : (mark : ℕ) (rows : List Seen) (xs ys : List Chain) (own read : List Change) (laid : Rows) → ys ≡ xs → all_stood rows ≡ shown_rows mark (all_chained ys) → read ≡ own
-    → laid ≡ all_laid (rows_at rows) read → laid ≡ laid_over (changes_of own) (rows_until mark (all_chained xs))
-over_rows mark rows xs ys own read laid same is read_is laid_is =
-    laid_is
-    ∙ (ap (all_laid (rows_at rows)) read_is
-    ∙ (ap (λ (es : List (Place × Row)). all_laid (from_sorted es) own) (is ∙ ap (λ (zs : List Chain). shown_rows mark (all_chained zs)) same)
-    ∙ all_laid_is own (rows_until mark (all_chained xs))))
-
-pub none_over : (own : List Change) (rows : Rows) → own ≡ [] → rows ≡ laid_over (changes_of own) rows
-none_over own rows none = sym (ap (λ (cs : List Change). laid_over (changes_of cs) rows) none ∙ laid_over-none rows)
-
-pub no_own : (own : List Change) (told : Truth) → told ≡ (length own == 0) → told ≡ true → own ≡ []
-no_own [] told tells is = refl
-no_own (c ∷ cs) told tells is = absurd (let none : length (c ∷ cs) ≡ 0 = eqb-true (length (c ∷ cs)) 0 (sym tells ∙ is) in omega (arith, none))
+pub none_sorted : (xs : List Chain) → xs ≡ [] → T (is_sorted place_order (all_chained xs))
+none_sorted xs none = subst (λ (zs : List Chain). T (is_sorted place_order (all_chained zs))) (sym none) tt

@@ -4,6 +4,8 @@ pub mod Ordered
 pub mod Standing
 pub mod Numbers
 pub mod Chained
+pub mod Behind
+pub mod Layered
 pub mod StoredRows
 pub mod Giving
 pub mod Among

@@ -70,40 +70,40 @@ module _ (table : ℕ) where
   other_table a is same = eqb-false a table is same
 
   module _ (after : Option Value) where
-    abbrev pub found_in : List (Place × Row) → Option Row
-    found_in es = option_map row_of (find (is_behind after) (those_of es))
+    abbrev pub found_in : List (Place × Row) → Option Entry
+    found_in es = find (is_behind after) (those_of es)
 
     -- an entry of another table, or one that is not behind, is passed; one that is behind is found
     pub passed_by : (e : Place × Row) (es : List (Place × Row)) (b c : Truth) → is_of e ≡ b → is_behind after (to_entry e) ≡ c → (b && c) ≡ false → found_in (e ∷ es) ≡ found_in es
-    passed_by e es false c is behind neither = ap (λ (b : Truth). option_map row_of (find (is_behind after) (map to_entry (cond b (e ∷ filter is_of es) (filter is_of es))))) is
+    passed_by e es false c is behind neither = ap (λ (b : Truth). find (is_behind after) (map to_entry (cond b (e ∷ filter is_of es) (filter is_of es)))) is
     passed_by e es true true is behind neither = absurd (let f : true ≡ false = neither in cc)
     passed_by e es true false is behind neither =
-        ap (λ (b : Truth). option_map row_of (find (is_behind after) (map to_entry (cond b (e ∷ filter is_of es) (filter is_of es))))) is
-        ∙ ap (λ (c : Truth). option_map row_of (cond c (Some (to_entry e)) (find (is_behind after) (those_of es)))) behind
+        ap (λ (b : Truth). find (is_behind after) (map to_entry (cond b (e ∷ filter is_of es) (filter is_of es)))) is
+        ∙ ap (λ (c : Truth). cond c (Some (to_entry e)) (find (is_behind after) (those_of es))) behind
 
-    pub first_found : (e : Place × Row) (es : List (Place × Row)) → is_of e ≡ true → is_behind after (to_entry e) ≡ true → found_in (e ∷ es) ≡ Some e.1
+    pub first_found : (e : Place × Row) (es : List (Place × Row)) → is_of e ≡ true → is_behind after (to_entry e) ≡ true → found_in (e ∷ es) ≡ Some (to_entry e)
     first_found e es is behind =
-        ap (λ (b : Truth). option_map row_of (find (is_behind after) (map to_entry (cond b (e ∷ filter is_of es) (filter is_of es))))) is
-        ∙ ap (λ (c : Truth). option_map row_of (cond c (Some (to_entry e)) (find (is_behind after) (those_of es)))) behind
+        ap (λ (b : Truth). find (is_behind after) (map to_entry (cond b (e ∷ filter is_of es) (filter is_of es)))) is
+        ∙ ap (λ (c : Truth). cond c (Some (to_entry e)) (find (is_behind after) (those_of es))) behind
 
     pub none_found : (e : Place × Row) (es : List (Place × Row)) → is_of e ≡ false → table < e.0.table → T (below_all place_order e.0 es) → found_in (e ∷ es) ≡ None
     none_found e es is later below =
-        ap (λ (b : Truth). option_map row_of (find (is_behind after) (map to_entry (cond b (e ∷ filter is_of es) (filter is_of es))))) is
-        ∙ ap (λ (fs : List (Place × Row)). option_map row_of (find (is_behind after) (map to_entry fs))) (none_later e.0 es later below)
+        ap (λ (b : Truth). find (is_behind after) (map to_entry (cond b (e ∷ filter is_of es) (filter is_of es)))) is
+        ∙ ap (λ (fs : List (Place × Row)). find (is_behind after) (map to_entry fs)) (none_later e.0 es later below)
 
     -- the test ends where the entries begin that are behind
     module _ (test : Place × Row → Truth) (passes : (e : Place × Row) → test e ≡ true → is_of e ≡ true → is_behind after (to_entry e) ≡ false) (fails : (e : Place × Row) → test e ≡ false → is_of e ≡ true → is_behind after (to_entry e) ≡ true) (later : (e : Place × Row) → test e ≡ false → is_of e ≡ false → table < e.0.table) where
-      pub found_there : (es : List (Place × Row)) (n : ℕ) → T (is_sorted place_order es) → IsParted test es n → found_in es ≡ row_in table (slice_get es n)
+      pub found_there : (es : List (Place × Row)) (n : ℕ) → T (is_sorted place_order es) → IsParted test es n → option_map row_of (found_in es) ≡ row_in table (slice_get es n)
       found_there [] zero sorted parted = refl
       found_there [] (suc n) sorted parted = absurd parted
       found_there (e ∷ es) zero sorted parted = go (is_of e) refl
         where
-          go : (b : Truth) → is_of e ≡ b → found_in (e ∷ es) ≡ (if b then Some e.1 else None)
-          go true is = first_found e es is (fails e parted.0 is)
-          go false is = let parts = both_hold _ _ sorted in none_found e es is (later e parted.0 is) parts.0
+          go : (b : Truth) → is_of e ≡ b → option_map row_of (found_in (e ∷ es)) ≡ (if b then Some e.1 else None)
+          go true is = ap (option_map row_of) (first_found e es is (fails e parted.0 is))
+          go false is = let parts = both_hold _ _ sorted in ap (option_map row_of) (none_found e es is (later e parted.0 is) parts.0)
       found_there (e ∷ es) (suc n) sorted parted =
           let parts = both_hold _ _ sorted in
-          go (is_of e) refl ∙ found_there es n parts.1 parted.1
+          ap (option_map row_of) (go (is_of e) refl) ∙ found_there es n parts.1 parted.1
         where
           go : (b : Truth) → is_of e ≡ b → found_in (e ∷ es) ≡ found_in es
           go true is = passed_by e es true false is (passes e parted.0 is) refl

@@ -1,9 +1,13 @@
 -- What the sets of a log have left at each place, in the order of the places.
-use Rattle.std.specs.Prelude.{◌≡◌, ◌==◌, ◌<◌, ◌≤◌, ℕ, nat_lt, List, [], ◌∷◌, map, take, T, Option, Some, None, if◌then◌else◌}
-use Rattle.std.specs.FinMap.{from_sorted, is_sorted}
+use Rattle.std.specs.Prelude.{cond, ◌≡◌, ◌==◌, ◌<◌, ◌≤◌, ℕ, nat_lt, List, [], ◌∷◌, map, take, T, Option, Some, None, if◌then◌else◌}
+use Rattle.std.specs.FinMap as fin
+use Rattle.std.specs.FinMap.{find, from_sorted, is_sorted}
+use Rattle.pg_values.specs.declared.value.Value.{Value}
 use Rattle.sql_eval.specs.declared.row.Row.{Row}
+use Rattle.sql_eval.specs.Views.{Entry, entry}
 use Rattle.sql_eval.specs.declared.effect.Change.{Change}
-use Rattle.backend_trait.specs.Keys.{Place, place, place_order}
+use Rattle.backend_trait.specs.Keys.{Place, is_place, place, place_order}
+use Rattle.backend_trait.specs.Effect.{changes_of}
 use Rattle.backend_trait.specs.Rows.{Rows, changed_at}
 use Rattle.outcomes.specs.declared.chain.Version.{Version}
 use Rattle.outcomes.specs.declared.chain.Chain.{Chain}
@@ -40,6 +44,15 @@ chained chain = (place chain.table chain.key, chain.versions.items)
 abbrev pub all_chained : List Chain → Chained
 all_chained chains = map chained chains
 
+-- the versions of a place
+abbrev pub versions_in : Option (List Version) → List Version
+versions_in None = []
+versions_in (Some vs) = vs
+
+-- what is left at a place
+abbrev pub shown_at : ℕ → Chained → Place → Option (Option Row)
+shown_at mark es q = shown mark (versions_in (find place_order q es))
+
 -- a row at its place, before others
 abbrev pub put_shown : Place → Option Row → List (Place × Row) → List (Place × Row)
 put_shown p None es = es
@@ -53,26 +66,33 @@ shown_rows mark (e ∷ es) = put_shown e.0 (row_left (shown mark e.1)) (shown_ro
 abbrev pub rows_until : ℕ → Chained → Rows
 rows_until mark es = from_sorted (shown_rows mark es)
 
-abbrev pub row_or : Option Row → Option Row → Option Row
-row_or None other = other
-row_or (Some row) other = Some row
+abbrev pub entry_or : Option Entry → Option Entry → Option Entry
+entry_or None other = other
+entry_or (Some e) other = Some e
+
+-- a row that is left, and its key
+abbrev pub entry_left : Value → Option Row → Option Entry
+entry_left key None = None
+entry_left key (Some row) = Some (entry key row)
 
 -- the first row of a table, where none of an earlier table stands before
-abbrev pub first_row : ℕ → ℕ → Chained → Option Row
-first_row mark table [] = None
-first_row mark table (e ∷ es) = if e.0.table == table then row_or (row_left (shown mark e.1)) (first_row mark table es) else None
+abbrev pub first_entry : ℕ → ℕ → Chained → Option Entry
+first_entry mark table [] = None
+first_entry mark table (e ∷ es) = if e.0.table == table then entry_or (entry_left e.0.key (row_left (shown mark e.1))) (first_entry mark table es) else None
 
 -- a set has changed a place: the rows that later marks show are changed, those of earlier ones are not
 pub record IsPut (set : ℕ) (p : Place) (row : Option Row) (old new : Chained) : Type 0 where
   pub sorted : T (is_sorted place_order new)
   pub later : (mark : ℕ) → set < mark → rows_until mark new ≡ changed_at (rows_until mark old) p row
   pub earlier : (mark : ℕ) → mark ≤ set → rows_until mark new ≡ rows_until mark old
+  pub each : (mark : ℕ) → set < mark → (q : Place) → shown_at mark new q ≡ cond (is_place q p) (Some row) (shown_at mark old q)
 
 -- a set has made changes, one after another
 pub record ArePut (set : ℕ) (changes : List Change) (old new : Chained) : Type 0 where
   pub sorted : T (is_sorted place_order new)
   pub later : (mark : ℕ) → set < mark → rows_until mark new ≡ all_laid (rows_until mark old) changes
   pub earlier : (mark : ℕ) → mark ≤ set → rows_until mark new ≡ rows_until mark old
+  pub each : (mark : ℕ) → set < mark → (q : Place) → shown_at mark new q ≡ newer (fin.get (changes_of changes) q) (shown_at mark old q)
 
 -- chains show at each mark the rows of so many sets
 abbrev pub AreOfSets : Chained → List ChangeSet → Type 0

@@ -6,6 +6,8 @@ pub mod Sights
 pub mod Seeing
 pub mod Chains
 pub mod Indexed
+pub mod Behind
+pub mod Layered
 pub mod Stored
 pub mod Given
 pub mod Positive

@@ -22,15 +22,26 @@ pub struct Chain {
     pub versions: Vec<Version>,
 }
 
-/// The row that the first sets have left, so many of them. The newest version is looked at first.
-pub(crate) fn row_shown(versions: &[Version], mark: usize) -> Option<&Row>
-    ensures { option_map (λ r. r.now) result ≡ row_left (shown mark versions.now) }
+/// What the last of the first sets has left, so many of them. The newest version is looked at
+/// first.
+pub(crate) fn left_shown(versions: &[Version], mark: usize) -> Option<&Option<Row>>
+    ensures { option_map (λ r. r.now) result ≡ shown mark versions.now }
 {
     for past in 0..versions.len() {
         let version = &versions[versions.len() - 1 - past];
         if version.set < mark {
-            return version.row.as_ref();
+            return Some(&version.row);
         }
     }
     None
+}
+
+/// The row that the first sets have left, so many of them.
+pub(crate) fn row_shown(versions: &[Version], mark: usize) -> Option<&Row>
+    ensures { option_map (λ r. r.now) result ≡ row_left (shown mark versions.now) }
+{
+    match left_shown(versions, mark) {
+        Some(row) => row.as_ref(),
+        None => None,
+    }
 }

@@ -22,7 +22,7 @@ fn change_order(a: &Change, b: &Change) -> Ordering
 }
 
 /// Puts changes behind others.
-pub(crate) fn gather<'a>(all: &mut Vec<&'a Change>, changes: &'a [Change]) -> Result<(), NoMemory>
+fn gather<'a>(all: &mut Vec<&'a Change>, changes: &'a [Change]) -> Result<(), NoMemory>
     ensures { OnOk result (map (λ c. c.now) all.new.items
         ≡ map (λ c. c.now) all.old.items ++ changes.now) }
 {

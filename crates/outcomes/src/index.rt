@@ -1,10 +1,11 @@
 //! The sets of a log by the places that they have changed.
 ghost use Rattle.std.specs.Prelude.{◌≡◌, ◌<◌, ◌≤◌, ◌+◌, ◌∷◌, ◌++◌, List as Sequence, [], IfErr, IfOk, IsTrue, OnOk, T, length, take};
 ghost use Rattle.std.specs.FinMap.{is_sorted};
+ghost use Rattle.std.specs.Option.{option_map};
 ghost use Rattle.backend_trait.specs.Effect.{place_changed};
 ghost use Rattle.backend_trait.specs.Keys.{Place, place, place_order};
 ghost use Rattle.outcomes.specs.Chains.{all_chained, chained, AreOfSets, ArePut, IsPut};
-ghost use Rattle.outcomes.specs.Sights.{is_before, is_up_to};
+ghost use Rattle.outcomes.specs.Sights.{is_before, is_passed, is_up_to};
 ghost use Rattle.outcomes.specs.Spread.{IsParted, StandsAt, StandsBetween};
 
 use crate::chain::{Chain, Version};
@@ -47,7 +48,8 @@ fn are_before(chains: &[Chain], table: u8, key: &Value) -> bool
 }
 
 /// The number of the chain at a place, or else of the chain before which it would stand. Where
-/// rows come in the order of their places, each stands behind all before it: that is looked at first.
+/// rows come in the order of their places, each stands behind all before it: that is looked at
+/// first.
 pub(crate) fn number_of(chains: &[Chain], table: u8, key: &Value) -> Result<usize, usize>
     requires { T (is_sorted place_order (all_chained chains.now)) }
     ensures at { IfOk result (λ n. (n < length chains.now)
@@ -66,7 +68,7 @@ pub(crate) fn number_of(chains: &[Chain], table: u8, key: &Value) -> Result<usiz
 }
 
 /// The number of the first chain that is of a table or of a later one.
-pub(crate) fn first_in(chains: &[Chain], table: u8) -> usize
+fn first_in(chains: &[Chain], table: u8) -> usize
     requires { T (is_sorted place_order (all_chained chains.now)) }
     ensures { IsParted (is_before table) (all_chained chains.now) result }
 {
@@ -78,7 +80,7 @@ pub(crate) fn first_in(chains: &[Chain], table: u8) -> usize
 }
 
 /// The number of the first chain that stands behind a place.
-pub(crate) fn first_behind(chains: &[Chain], table: u8, key: &Value) -> usize
+fn first_behind(chains: &[Chain], table: u8, key: &Value) -> usize
     requires { T (is_sorted place_order (all_chained chains.now)) }
     ensures { IsParted (is_up_to (place table key.now)) (all_chained chains.now) result }
 {
@@ -87,6 +89,18 @@ pub(crate) fn first_behind(chains: &[Chain], table: u8, key: &Value) -> usize
             ensures { result ≡ is_up_to (place table key.entry.now) (chained chain.now) }
         { !order_at(chain, table, key).is_gt() },
     )
+}
+
+/// The number of the first chain of a table behind a key, or of all, or of a later table.
+pub(crate) fn first_of(chains: &[Chain], table: u8, key: Option<&Value>) -> usize
+    requires { T (is_sorted place_order (all_chained chains.now)) }
+    ensures { IsParted (is_passed table (option_map (λ k. k.now) key.entry))
+        (all_chained chains.now) result }
+{
+    match key {
+        None => first_in(chains, table),
+        Some(key) => first_behind(chains, table, key),
+    }
 }
 
 /// A copy of what a change leaves.
@@ -167,7 +181,7 @@ fn put(alloc: Global, chains: &mut Vec<Chain>, set: usize, change: &Change) -> R
 }
 
 /// A set's changes are put at their places.
-fn put_all(
+pub(crate) fn put_all(
     alloc: Global,
     chains: &mut Vec<Chain>,
     set: usize,

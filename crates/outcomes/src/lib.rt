@@ -5,12 +5,13 @@ mod chain;
 mod change;
 mod gathered;
 mod index;
-mod indexed;
 mod laws;
+mod layers;
 mod log;
 mod outcome;
 mod rows;
 mod serials;
+mod shown;
 mod sight;
 mod spot;
 

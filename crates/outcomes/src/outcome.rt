@@ -13,7 +13,7 @@ ghost use Rattle.outcomes.specs.Given.{given_in};
 
 use crate::change::ChangeSet;
 use crate::index::Index;
-use crate::indexed::Indexed;
+use crate::layers::Layers;
 use crate::sight::Sight;
 use crate::spot::Spot;
 use backend_trait::{Answer, Catalogue, Checked};
@@ -182,8 +182,7 @@ pub fn outcome_of(
 }
 
 /// What a statement gives a transaction that sees the first sets of an index, so many of them, and
-/// then its own changes. Where it has made none, only the rows are looked at that the statement
-/// looks at.
+/// then its own changes. Only the rows are looked at that the statement looks at.
 pub fn outcome_at(
     alloc: Global,
     catalogue: &Catalogue,
@@ -200,10 +199,6 @@ pub fn outcome_at(
     ensures { IfOk result (λ outcome. given_in outcome ≡ (effect_of catalogue.now statement.now
         (laid_over (changes_of own.now) (rows_in_index index.now mark)) next).given) }
 {
-    if own.is_empty() {
-        let view = Indexed { index, mark };
-        return outcome_on(alloc, catalogue, &view, next, statement);
-    }
-    let sight = Sight::over(alloc, index, mark, own)?;
-    outcome_on(alloc, catalogue, &sight, next, statement)
+    let layers = Layers::new(alloc, own, index, mark)?;
+    outcome_on(alloc, catalogue, &layers, next, statement)
 }

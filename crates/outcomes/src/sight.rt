@@ -7,15 +7,11 @@ ghost use Rattle.backend_trait.specs.Keys.{place, place_order};
 ghost use Rattle.backend_trait.specs.Rows.{laid_over, changed_at};
 ghost use Rattle.backend_trait.specs.Effect.{changes_of, place_changed};
 ghost use Rattle.outcomes.specs.Log.{rows_of};
-ghost use Rattle.outcomes.specs.Chains.{all_chained, shown_rows};
-ghost use Rattle.outcomes.specs.Indexed.{rows_in_index};
 ghost use Rattle.outcomes.specs.Spread.{IsParted, StandsAt, StandsBetween};
 ghost use Rattle.outcomes.specs.Sights.{all_laid, all_stood, is_before, is_up_to, row_in, rows_at, stood};
 
-use crate::chain::{Chain, row_shown};
 use crate::change::ChangeSet;
-use crate::gathered::{gather, in_order};
-use crate::index::Index;
+use crate::gathered::in_order;
 use crate::spot::place_order;
 use pg_values::Value;
 use pool_base::NoMemory;
@@ -179,24 +175,6 @@ fn first_behind(rows: &[Seen<'_>], table: u8, key: &Value) -> usize
     )
 }
 
-/// The rows behind the first sets of an index, so many of them.
-fn seen_in<'a>(alloc: Global, chains: &'a [Chain], mark: usize) -> Result<Vec<Seen<'a>>, NoMemory>
-    ensures { IfOk result
-        (λ rows. all_stood rows.items ≡ shown_rows mark (all_chained chains.now)) }
-{
-    let mut rows = Vec::new(alloc);
-    for chain in chains {
-        if let Some(row) = row_shown(chain.versions.as_slice(), mark) {
-            rows.push(Seen {
-                table: chain.table,
-                key: &chain.key,
-                row,
-            })?;
-        }
-    }
-    Ok(rows)
-}
-
 impl<'a> Sight<'a> {
     /// What is seen behind the sets of a log and changes that follow them. All changes are put in
     /// the order of their places, so that each is of the last row or stands behind it.
@@ -210,23 +188,6 @@ impl<'a> Sight<'a> {
     {
         let changes = in_order(alloc, log, own)?;
         let mut rows: Vec<Seen<'a>> = Vec::new(alloc);
-        lay_all(&mut rows, changes.as_slice())?;
-        Ok(Sight { rows })
-    }
-
-    /// What is seen behind the first sets of an index, so many of them, and changes that follow them.
-    pub fn over(
-        alloc: Global,
-        index: &'a Index,
-        mark: usize,
-        own: &'a [Change],
-    ) -> Result<Sight<'a>, NoMemory>
-        ensures { IfOk result (λ sight. rows_at sight.rows.items
-            ≡ laid_over (changes_of own.now) (rows_in_index index.now mark)) }
-    {
-        let mut changes = Vec::new(alloc);
-        gather(&mut changes, own)?;
-        let mut rows = seen_in(alloc, index.chains.as_slice(), mark)?;
         lay_all(&mut rows, changes.as_slice())?;
         Ok(Sight { rows })
     }

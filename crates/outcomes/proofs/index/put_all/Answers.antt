@@ -1,6 +1,9 @@
 use Rattle.outcomes.specs.Chains.{all_chained}
-use Rattle.outcomes.proofs.Chained.{one_put_more}
+use Rattle.outcomes.proofs.Chained.{none_put, one_put_more}
 use Rattle.outcomes.proofs.index.put_all.Goals as goal
+
+pub loop-change-init : goal.loop-change-init
+loop-change-init c = none_put c.args.set (all_chained c.args.chains.now.items) c.requires
 
 pub loop-change-preserved : goal.loop-change-preserved
 loop-change-preserved c =

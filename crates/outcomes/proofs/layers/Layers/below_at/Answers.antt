@@ -4,7 +4,7 @@ use Rattle.outcomes.specs.declared.chain.Version.{Version}
 use Rattle.outcomes.specs.declared.chain.Chain.{Chain}
 use Rattle.outcomes.specs.Chains.{row_left, shown}
 use Rattle.outcomes.proofs.Chained.{chain_found, chain_unfound}
-use Rattle.outcomes.proofs.indexed.IndexedTableView.row.Goals as goal
+use Rattle.outcomes.proofs.layers.Layers.below_at.Goals as goal
 
 pub returns-in-Ok : goal.returns-in-Ok
 returns-in-Ok c =
