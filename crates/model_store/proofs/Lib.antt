@@ -13,4 +13,5 @@ pub mod WalkLaws
 pub mod FormedLaws
 pub mod NumberLaws
 pub mod KeptLaws
+pub mod IndexLaws
 pub mod AskLaws

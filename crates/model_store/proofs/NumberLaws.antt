@@ -1,6 +1,6 @@
 -- Serial numbers: who draws or sets one holds its table's lock, so that what waits elsewhere stays its effect.
-use Rattle.std.proofs.Common.{◌≡◌, ◌≢◌, ◌∙◌, ◌+◌, ℕ, zero, suc, Bool, List, [], ◌∷◌, ◌++◌, map, refl, ap, sym, subst, arith, inl, inr}
-use Rattle.std.specs.Prelude.{◌||◌, ◌≤ℤ◌, true, false, ℤ, pos, ◌+ℤ◌, is_some, Option, Some, None, Ok, Err, slice_get, if◌then◌else◌}
+use Rattle.std.proofs.Common.{◌≡◌, ◌≢◌, ◌∙◌, ◌+◌, ℕ, Bool, List, [], ◌∷◌, ◌++◌, map, refl, ap, sym, subst, arith, inl, inr}
+use Rattle.std.specs.Prelude.{◌||◌, ◌≤ℤ◌, true, false, ℤ, pos, ◌+ℤ◌, is_some, Option, Some, None, Err, slice_get, if◌then◌else◌}
 use Rattle.std.specs.List.{fold, list_any}
 use Rattle.std.proofs.lemmas.Bool.Decides.{eqb_tells}
 use Rattle.std.proofs.lemmas.Int.{ints}
@@ -27,9 +27,8 @@ use Rattle.sql_eval.specs.Inserts.{all_draws, cell_value, cell_values, draws_in,
 use Rattle.sql_eval.specs.Effects.{DrawsFew, Writes, given_by, draws_of as draws_by, table_in as table_of}
 use Rattle.backend_trait.specs.Rows.{Rows, with_at}
 use Rattle.backend_trait.specs.Effect.{Wants, Conflicts, same_table, given_as, effect_of, number_from, draws_of, table_in, IsPositive}
-use Rattle.backend_trait.specs.Store.{Live, IsLocked, numbered, with_draws, drawn, drawn_by, next_for, view_of}
+use Rattle.backend_trait.specs.Store.{IsLocked, numbered, with_draws, drawn, drawn_by, next_for, view_of}
 use Rattle.outcomes.specs.declared.change.ChangeSet.{ChangeSet}
-use Rattle.outcomes.specs.Given.{given_in}
 use Rattle.model_store.specs.declared.phase.Work.{Work}
 use Rattle.model_store.specs.declared.phase.Phase.{Phase}
 use Rattle.model_store.specs.declared.phase.Phase.TheVariants as phases

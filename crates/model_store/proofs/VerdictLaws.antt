@@ -6,12 +6,11 @@ use Rattle.std.proofs.lemmas.Option.{slice_get_read}
 use Rattle.pool_base.specs.declared.code.Code.{Code}
 use Rattle.backend_trait.specs.declared.request.Request.{Request}
 use Rattle.backend_trait.specs.declared.request.Request.TheVariants as requests
-use Rattle.catalogue.specs.declared.checked.Checked.{Checked}
 use Rattle.schema.specs.declared.catalogue.TableDef.{TableDef}
 use Rattle.backend_trait.specs.declared.answer.Answer.{Answer}
 use Rattle.backend_trait.specs.Keys.{Place}
 use Rattle.backend_trait.specs.Rows.{Changes}
-use Rattle.backend_trait.specs.Effect.{Wants, nothing, these_places, Conflicts, same_place, same_table, table_left, table_right, Given, Gives, effect_of, table_in}
+use Rattle.backend_trait.specs.Effect.{Wants, nothing, these_places, Conflicts, same_place, same_table, table_left, table_right, Given, Gives, table_in}
 use Rattle.backend_trait.specs.Store.{Store, Live, Transaction, Pending, WhereLive, held_by, view_of, next_for}
 use Rattle.backend_trait.specs.Acts.{IsFree, IsTaken, IsFresh, IsStale, WhereSome, given_of}
 use Rattle.outcomes.specs.declared.change.ChangeSet.{ChangeSet}

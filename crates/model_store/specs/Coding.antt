@@ -9,7 +9,7 @@ use Rattle.sql_eval.specs.contracts.row.Row as row
 use Rattle.backend_trait.specs.declared.answer.Answer.{Answer}
 use Rattle.backend_trait.specs.contracts.answer.Answer as answer
 use Rattle.backend_trait.specs.Keys.{Place}
-use Rattle.backend_trait.specs.Rows.{Changes}
+use Rattle.backend_trait.specs.Rows.{Changes, Rows}
 use Rattle.backend_trait.specs.Effect.{Given, Fails, Gives}
 
 abbrev pub value_code : Coded Value
@@ -20,6 +20,9 @@ place_code = code_by (ℕ × Value) (coded× coded_ℕ value_code) (λ p. (p.tab
 
 abbrev pub changes_code : Coded Changes
 changes_code = fin.code place_code (coded_option (row.the_row).coded)
+
+abbrev pub rows_code : Coded Rows
+rows_code = fin.code place_code (row.the_row).coded
 
 abbrev Parts : Type 0
 Parts = List ℕ ⊎ (Answer × (Changes × List Place))

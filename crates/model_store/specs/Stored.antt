@@ -1,6 +1,6 @@
 -- The changes of transactions leave each row in its table, under its own key.
 use Rattle.std.specs.Prelude.{ℕ, List, Option, Some, None, slice_get}
-use Rattle.std.specs.Coded.{Unit-prop, Π_prop}
+use Rattle.std.specs.Coded.{Unit-prop, Π_prop, ×_prop, le_prop}
 use Rattle.std.proofs.Props.{props}
 use Rattle.schema.specs.declared.catalogue.TableDef.{TableDef}
 use Rattle.outcomes.specs.declared.change.ChangeSet.{ChangeSet}
@@ -8,7 +8,9 @@ use Rattle.outcomes.specs.Stored.{AreAllStored, IsSetStored}
 use Rattle.model_store.specs.declared.phase.Phase.{Phase}
 use Rattle.model_store.specs.declared.phase.Phase.TheVariants as phases
 use Rattle.model_store.specs.declared.seat.Seat.{Seat}
-use Rattle.model_store.specs.Coding.{value_code}
+use Rattle.outcomes.specs.declared.index.Index.{Index}
+use Rattle.outcomes.specs.Indexed.{IsIndexOf}
+use Rattle.model_store.specs.Coding.{rows_code, value_code}
 
 abbrev pub AreStoredIn : List TableDef → Phase → Type 0
 AreStoredIn tables phases.Absent = Unit {0}
@@ -37,3 +39,6 @@ each_stored-prop tables seats = Π_prop (λ s. AreStoredAt-prop tables (slice_ge
 
 pub all_stored-prop : (tables : List TableDef) (sets : List ChangeSet) → IsProp (AreAllStored tables sets)
 all_stored-prop tables sets = Prim.hlevel (props, value_code)
+
+pub index-prop : (index : Index) (log : List ChangeSet) → IsProp (IsIndexOf index log)
+index-prop index log = ×_prop le_prop (Π_prop (λ mark. Prim.hlevel (props, rows_code)))

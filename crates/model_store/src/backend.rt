@@ -41,7 +41,7 @@ impl Backend for MemoryStore {
         // A post of Lock, Commit or Rollback wants no memory.
         ensures sure { takes_none request ≡ true → result ≡ posts.Accepted }
     {
-        if !has_room(&mut self.log, &request) {
+        if !has_room(self.alloc, &mut self.log, &mut self.index, &request) {
             return Posted::NoMemory(request);
         }
         let at = s.number as usize;
@@ -51,6 +51,7 @@ impl Backend for MemoryStore {
             self.alloc,
             &self.catalogue,
             &self.numbers,
+            &self.index,
             log,
             request,
         )

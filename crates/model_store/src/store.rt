@@ -5,14 +5,15 @@ ghost use Rattle.model_store.specs.Seats.{mark_in, all_owed, AreGiven, AreGiven-
 ghost use Rattle.model_store.specs.Conflicts.{AreApart};
 ghost use Rattle.outcomes.specs.Next.{next_of};
 ghost use Rattle.outcomes.specs.Stored.{AreAllStored};
-ghost use Rattle.model_store.specs.Stored.{AreEachStored, all_stored-prop, each_stored-prop};
+ghost use Rattle.outcomes.specs.Indexed.{IsIndexOf};
+ghost use Rattle.model_store.specs.Stored.{AreEachStored, all_stored-prop, each_stored-prop, index-prop};
 
 use crate::phase::Phase;
 use crate::seat::Seat;
 use crate::waiting::SEATS;
 use backend_trait::Catalogue;
 use catalogue::{SchemaFault, read_schema};
-use outcomes::{ChangeSet, NextNumbers};
+use outcomes::{ChangeSet, Index, NextNumbers};
 use pool_base::NoMemory;
 use std::alloc::Global;
 
@@ -25,6 +26,9 @@ pub struct MemoryStore {
     pub(crate) numbers: NextNumbers,
     /// The sets of changes that were committed, oldest first.
     pub(crate) log: Vec<ChangeSet>,
+    /// The sets by the places that they have changed. It takes up at each statement those that were
+    /// committed since the last one.
+    pub(crate) index: Index,
     /// The seat of each session at its number.
     pub(crate) seats: Vec<Seat>,
     pub(crate) is_lost: bool,
@@ -38,6 +42,8 @@ pub struct MemoryStore {
     ghost allowed: { ∥ AreAllowed catalogue ∥₁ },
     ghost committed: { AreAllStored catalogue log.items } by { all_stored-prop _ _ },
     ghost stored: { AreEachStored catalogue seats.items } by { each_stored-prop _ _ },
+    // The index has the first sets of the log.
+    ghost indexed: { IsIndexOf index log.items } by { index-prop index _ },
     // What each statement gives that waits is its effect.
     ghost given: { AreGiven (next_of numbers) catalogue log.items seats.items } by { prop _ _ _ _ },
     // Each live transaction has room for its set.
@@ -78,6 +84,7 @@ impl MemoryStore {
             catalogue,
             numbers,
             log: Vec::new(alloc),
+            index: Index::new(alloc),
             seats,
             is_lost: false,
             faults: 0,

@@ -8,7 +8,9 @@ ghost use Rattle.backend_trait.specs.declared.request.Posted.TheVariants as post
 ghost use Rattle.outcomes.specs.declared.change.ChangeSet.{ChangeSet};
 ghost use Rattle.model_store.specs.Phases.{live_of, transaction_of, mark_of, is_open, fits, run_of, has_room_for, has_room_in, IsGivenAt};
 ghost use Rattle.model_store.specs.Acting.{admits, takes_none, WaitsFor, MayRunAt};
+ghost use Rattle.catalogue.specs.declared.checked.Checked.{Checked as CheckedStatement};
 ghost use Rattle.outcomes.specs.Given.{given_in};
+ghost use Rattle.outcomes.specs.Indexed.{IsIndexOf};
 ghost use Rattle.outcomes.specs.Next.{next_of};
 ghost use Rattle.outcomes.specs.Stored.{AreAllStored, IsSetStored};
 ghost use Rattle.model_store.specs.Stored.{AreStoredIn};
@@ -16,7 +18,7 @@ ghost use Rattle.model_store.specs.Stored.{AreStoredIn};
 use crate::phase::{Phase, Run, Waiting, Work};
 use crate::seat::Seat;
 use backend_trait::{Catalogue, Checked, Posted, Request};
-use outcomes::{ChangeSet, NextNumbers, Outcome, outcome_of, table_in};
+use outcomes::{ChangeSet, Index, NextNumbers, Outcome, outcome_at, table_in};
 use pool_base::NoMemory;
 use std::alloc::Global;
 use std::mem;
@@ -24,18 +26,28 @@ use std::mem;
 /// How many seats there are: one at each number of a session, and one that none has.
 pub(crate) const SEATS: usize = 65;
 
-/// Makes room for the sets of all sessions, where the request begins a transaction.
-pub(crate) fn has_room(log: &mut Vec<ChangeSet>, request: &Request) -> bool
+/// Makes ready for a request: room for the sets of all sessions where it begins a transaction, and
+/// all sets in the index where it is a statement.
+pub(crate) fn has_room(
+    alloc: Global,
+    log: &mut Vec<ChangeSet>,
+    index: &mut Index,
+    request: &Request,
+) -> bool
+    requires { IsIndexOf index.old log.old.items }
     ensures items { log.new.items ≡ log.old.items }
     ensures len { vec_len log.new ≡ vec_len log.old }
     ensures capacity { vec_capacity log.old ≤ vec_capacity log.new }
     ensures room { IsTrue result → request.now ≡ requests.TakeSnapshot
         → vec_len log.new + 65 ≤ vec_capacity log.new }
+    ensures indexed { IsIndexOf index.new log.old.items }
+    ensures whole { (statement : CheckedStatement) → IsTrue result
+        → request.now ≡ requests.Run statement → index.new.sets ≡ length log.old.items }
     ensures sure { takes_none request.now ≡ true → IsTrue result }
 {
     match request {
         Request::TakeSnapshot => log.reserve(SEATS).is_ok(),
-        Request::Run(_) => true,
+        Request::Run(_) => index.follow(alloc, log.as_slice()).is_ok(),
         Request::Lock(_) => true,
         Request::Commit => true,
         Request::Rollback => true,
@@ -78,11 +90,14 @@ fn outcome_in(
     alloc: Global,
     catalogue: &Catalogue,
     numbers: &NextNumbers,
+    index: &Index,
     log: &[ChangeSet],
     work: &Work,
     statement: &Checked,
 ) -> Result<Outcome, NoMemory>
     requires runnable { IsRunnable catalogue.now statement.now }
+    requires indexed { IsIndexOf index.now log.now }
+    requires whole { index.now.sets ≡ length log.now }
     requires marked { work.now.mark ≤ length log.now }
     requires committed { AreAllStored catalogue.now log.now }
     requires stored { IsSetStored catalogue.now work.now.own }
@@ -92,7 +107,7 @@ fn outcome_in(
 {
     let own = work.own.changes.as_slice();
     let next = numbers.next_for(table_in(statement));
-    outcome_of(alloc, catalogue, &log[..work.mark], own, next, statement)
+    outcome_at(alloc, catalogue, index, work.mark, own, next, statement)
 }
 
 /// What a statement gives a transaction, which has room for it then.
@@ -100,11 +115,14 @@ fn prepared(
     alloc: Global,
     catalogue: &Catalogue,
     numbers: &NextNumbers,
+    index: &Index,
     log: &[ChangeSet],
     work: &mut Work,
     statement: &Checked,
 ) -> Result<Outcome, NoMemory>
     requires runnable { IsRunnable catalogue.now statement.now }
+    requires indexed { IsIndexOf index.now log.now }
+    requires whole { index.now.sets ≡ length log.now }
     requires marked { work.old.mark ≤ length log.now }
     requires committed { AreAllStored catalogue.now log.now }
     requires stored { IsSetStored catalogue.now work.old.own }
@@ -115,7 +133,7 @@ fn prepared(
         (next_for (next_of numbers.now) (table_in statement.now))).given) }
     ensures room { IfOk result (λ outcome. has_room_for work.new outcome) }
 {
-    let outcome = outcome_in(alloc, catalogue, numbers, log, work, statement)?;
+    let outcome = outcome_in(alloc, catalogue, numbers, index, log, work, statement)?;
     make_place(work, &outcome)?;
     Ok(outcome)
 }
@@ -125,11 +143,14 @@ fn prepared_run(
     alloc: Global,
     catalogue: &Catalogue,
     numbers: &NextNumbers,
+    index: &Index,
     log: &[ChangeSet],
     phase: &mut Phase,
     statement: &Checked,
 ) -> Result<Outcome, NoMemory>
     requires may { MayRunAt catalogue.now phase.old statement.now }
+    requires indexed { IsIndexOf index.now log.now }
+    requires whole { index.now.sets ≡ length log.now }
     requires marked { mark_of phase.old ≤ length log.now }
     requires committed { AreAllStored catalogue.now log.now }
     requires stored { AreStoredIn catalogue.now phase.old }
@@ -144,7 +165,7 @@ fn prepared_run(
         (run_of statement.now outcome)) }
 {
     match phase {
-        Phase::Open(work) => prepared(alloc, catalogue, numbers, log, work, statement),
+        Phase::Open(work) => prepared(alloc, catalogue, numbers, index, log, work, statement),
         Phase::Absent | Phase::Dead => unreachable!(),
     }
 }
@@ -167,11 +188,14 @@ fn wait_to_run(
     alloc: Global,
     catalogue: &Catalogue,
     numbers: &NextNumbers,
+    index: &Index,
     log: &[ChangeSet],
     statement: Checked,
 ) -> Posted
     requires idle { seat.old.waiting ≡ None }
     requires may { MayRunAt catalogue.now seat.old.phase statement }
+    requires indexed { IsIndexOf index.now log.now }
+    requires whole { index.now.sets ≡ length log.now }
     requires marked { mark_of seat.old.phase ≤ length log.now }
     requires committed { AreAllStored catalogue.now log.now }
     requires stored { AreStoredIn catalogue.now seat.old.phase }
@@ -183,7 +207,15 @@ fn wait_to_run(
     ensures given { IsGivenAt (next_of numbers.now) catalogue.now log.now seat.new.phase
         seat.new.waiting }
 {
-    match prepared_run(alloc, catalogue, numbers, log, &mut seat.phase, &statement) {
+    match prepared_run(
+        alloc,
+        catalogue,
+        numbers,
+        index,
+        log,
+        &mut seat.phase,
+        &statement,
+    ) {
         Err(NoMemory) => Posted::NoMemory(Request::Run(statement)),
         Ok(outcome) => accept(seat, Waiting::Run(Run { statement, outcome })),
     }
@@ -195,11 +227,15 @@ pub(crate) fn wait(
     alloc: Global,
     catalogue: &Catalogue,
     numbers: &NextNumbers,
+    index: &Index,
     log: &[ChangeSet],
     request: Request,
 ) -> Posted
     requires idle { seat.old.waiting ≡ None }
     requires may { admits (next_of numbers.now) catalogue.now seat.old.phase request }
+    requires indexed { IsIndexOf index.now log.now }
+    requires whole { (statement : CheckedStatement) → request ≡ requests.Run statement
+        → index.now.sets ≡ length log.now }
     requires marked { mark_of seat.old.phase ≤ length log.now }
     requires committed { AreAllStored catalogue.now log.now }
     requires stored { AreStoredIn catalogue.now seat.old.phase }
@@ -214,7 +250,9 @@ pub(crate) fn wait(
 {
     match request {
         Request::TakeSnapshot => accept(seat, Waiting::Snapshot),
-        Request::Run(statement) => wait_to_run(seat, alloc, catalogue, numbers, log, statement),
+        Request::Run(statement) => wait_to_run(
+            seat, alloc, catalogue, numbers, index, log, statement,
+        ),
         Request::Lock(table) => accept(seat, Waiting::Lock(table)),
         Request::Commit => accept(seat, Waiting::Commit),
         Request::Rollback => accept(seat, Waiting::Rollback),

@@ -16,7 +16,7 @@ pub both_hold : (a b : Truth) → T (a && b) → T a × T b
 both_hold true b h = (tt, h)
 both_hold false b h = absurd h
 
-hold_both : (a b : Truth) → T a → T b → T (a && b)
+pub hold_both : (a b : Truth) → T a → T b → T (a && b)
 hold_both true b p q = q
 hold_both false b p q = p
 
@@ -25,10 +25,10 @@ is_less Less h = refl
 is_less Equal h = absurd h
 is_less Greater h = absurd h
 
-less_holds : (o : Ordering) → o ≡ Less → T (is_lt o)
+pub less_holds : (o : Ordering) → o ≡ Less → T (is_lt o)
 less_holds o is = subst (λ (r : Ordering). T (is_lt r)) (sym is) tt
 
-equal : (o : Ordering) → is_eq o ≡ true → o ≡ Equal
+pub equal : (o : Ordering) → is_eq o ≡ true → o ≡ Equal
 equal Less is = absurd (let e : false ≡ true = is in cc)
 equal Equal is = refl
 equal Greater is = absurd (let e : false ≡ true = is in cc)
@@ -54,10 +54,10 @@ module _ {K : Type 0} (R : K → K → Ordering) (o : IsTotalOrder R) where
   apart_less q e k less a b = let none : Less ≡ Equal = sym less ∙ (sym (o.congr q e k (equal (R q e) a)) ∙ equal (R q k) b) in cc
 
 module _ {K X : Type 0} (R : K → K → Ordering) (o : IsTotalOrder R) where
-  passed : (q : K) (r : Ordering) (e : K × X) (es : List (K × X)) → R q e.0 ≡ r → is_eq r ≡ false → find R q (e ∷ es) ≡ find R q es
+  pub passed : (q : K) (r : Ordering) (e : K × X) (es : List (K × X)) → R q e.0 ≡ r → is_eq r ≡ false → find R q (e ∷ es) ≡ find R q es
   passed q r e es is apart = ap (λ (b : Truth). cond b (Some e.1) (find R q es)) (ap is_eq is ∙ apart)
 
-  unfound : (q x : K) (es : List (K × X)) → R q x ≡ Equal → T (below_all R x es) → find R q es ≡ None
+  pub unfound : (q x : K) (es : List (K × X)) → R q x ≡ Equal → T (below_all R x es) → find R q es ≡ None
   unfound q x [] tie below = refl
   unfound q x (e ∷ es) tie below =
       let parts = both_hold _ _ below in

@@ -44,7 +44,7 @@ effect_unseen tables (body.Insert insert) view m n is = absurd is
 effect_unseen tables (body.Change change) view m n is = absurd is
 effect_unseen tables (body.Remove remove) view m n is = absurd is
 
-same_given : (r : Result Outcome NoMemory) (a b : Given) → IfOk r (λ o. given_in o ≡ a) → a ≡ b → IfOk r (λ o. given_in o ≡ b)
+pub same_given : (r : Result Outcome NoMemory) (a b : Given) → IfOk r (λ o. given_in o ≡ a) → a ≡ b → IfOk r (λ o. given_in o ≡ b)
 same_given (Ok o) a b is same = is ∙ same
 same_given (Err e) a b is same = tt
 

@@ -1,7 +1,11 @@
 pub mod Entries
 pub mod Laid
 pub mod Ordered
+pub mod Standing
 pub mod Numbers
+pub mod Chained
+pub mod Behind
+pub mod Layered
 pub mod StoredRows
 pub mod Giving
 pub mod Among

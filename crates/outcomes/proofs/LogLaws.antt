@@ -1,7 +1,6 @@
 -- What a log says of a place, one set after another.
 use Rattle.std.proofs.Common.{◌≡◌, Bool, true, false, ◌||◌, List, [], ◌∷◌, ◌++◌, refl, sym, ap, ◌∙◌}
 use Rattle.std.specs.Prelude.{Option, Some, None, cond, is_some}
-use Rattle.std.specs.List.{list_any}
 use Rattle.std.specs.FinMap as fin
 use Rattle.std.proofs.lemmas.Cmp.{eq_by_cmp_equiv}
 use Rattle.std.proofs.lemmas.List.Folds.{list_any-append}
@@ -79,7 +78,7 @@ get-changed_on old (c ∷ cs) q =
 changed_on_joined : (old : Changes) (cs : List Change) → changed_on old cs ≡ joined_changes (changes_of cs) old
 changed_on_joined old cs = same_changes _ _ (λ q. get-changed_on old cs q ∙ sym (get-joined_changes (changes_of cs) old q))
 
-changed_on-append : (old : Changes) (cs ds : List Change) → changed_on old (cs ++ ds) ≡ changed_on (changed_on old cs) ds
+pub changed_on-append : (old : Changes) (cs ds : List Change) → changed_on old (cs ++ ds) ≡ changed_on (changed_on old cs) ds
 changed_on-append old [] ds = refl
 changed_on-append old (c ∷ cs) ds = changed_on-append (fin.insert old (place_changed c) c.row) cs ds
 

@@ -1,18 +1,16 @@
 -- The number of a place among rows that stand in order.
-use Rattle.std.proofs.Common.{Bor, ◌≡◌, ℕ, zero, suc, ◌-◌, ◌<◌, ◌≤◌, List, [], ◌∷◌, map, length, get_or, refl, ap, sym, ◌∙◌, subst, arith}
-use Rattle.std.specs.Prelude.{◌&&◌, ◌==◌, cond, not, filter, T, Bool as Truth, true, false, Option, Some, None, Result, Ok, Err, IfOk, IfErr, is_some, slice_get, if◌then◌else◌}
-use Rattle.std.specs.List.{AllWithin, HoldsAt, find}
-use Rattle.std.specs.Slice.{IsGetResult}
-use Rattle.std.specs.List.Sorted.{IsBinarySearchResult, IsNonDecreasingBy, IsPartitionedBy, IsPartitionPoint, IsSearchInRange}
-use Rattle.std.specs.Option.{MatchOption, option_map}
+use Rattle.std.proofs.Common.{Bor, ◌≡◌, ℕ, zero, suc, ◌<◌, ◌≤◌, List, [], ◌∷◌, map, length, get_or, refl, ap, sym, ◌∙◌, subst, arith}
+use Rattle.std.specs.Prelude.{◌&&◌, ◌==◌, cond, not, filter, T, Bool as Truth, true, false, Option, Some, None, slice_get, if◌then◌else◌}
+use Rattle.std.specs.List.{find}
+use Rattle.std.specs.Option.{option_map}
 use Rattle.std.specs.FinMap as fin
 use Rattle.std.specs.FinMap.{entries-from_sorted, get-from_sorted}
 use Rattle.std.specs.FinMap.Entries.{below_all, is_sorted}
 use Rattle.std.specs.declared.cmp.Ordering.{Ordering}
 use Rattle.std.specs.declared.cmp.Ordering.TheVariants.{Less, Equal, Greater}
-use Rattle.std.specs.Ordering.{is_gt, is_lt, nat_cmp, ordering_index, ordering_then}
+use Rattle.std.specs.Ordering.{is_gt, nat_cmp, ordering_then}
 use Rattle.std.specs.Cmp.{ranked}
-use Rattle.std.proofs.lemmas.Bool.{eqb-true, eqb-false, lt-ltb, ltb-false, ltb-true}
+use Rattle.std.proofs.lemmas.Bool.{eqb-true, eqb-false, ltb-false, ltb-true}
 use Rattle.std.proofs.lemmas.Cmp.{tied_itself, nat_cmp_total}
 use Rattle.pg_values.specs.declared.value.Value.{Value}
 use Rattle.sql_eval.specs.declared.row.Row.{Row}
@@ -20,148 +18,10 @@ use Rattle.sql_eval.specs.Views.{Entry, entry, is_behind, key_order, row_behind}
 use Rattle.backend_trait.specs.Keys.{Place, place, place_order}
 use Rattle.backend_trait.proofs.KeyLaws.{place_antisymmetric, place_total}
 use Rattle.outcomes.specs.Spread.{IsParted, StandsAt, StandsBetween}
-use Rattle.outcomes.specs.Sights.{all_stood, is_before, is_up_to, row_in, rows_at, stood}
+use Rattle.outcomes.specs.Sights.{all_stood, is_before, is_up_to, row_in, rows_at}
 use Rattle.outcomes.specs.declared.sight.Seen.{Seen}
-use Rattle.outcomes.proofs.Entries.{both_hold, found_at, is_less, none_between, turned_greater, turned_less}
-
--- ---- the number that a search answers
-
-module _ (p : Place) where
-  abbrev order_of : Seen → Ordering
-  order_of y = place_order (stood y).0 p
-
-  held_stands : (xs : List Seen) (n : ℕ) → n < length xs → ((d : Seen) → order_of (get_or xs n d) ≡ Equal) → StandsAt place_order p (all_stood xs) n
-  held_stands [] n below held = absurd (omega arith)
-  held_stands (x ∷ xs) zero below held = held x
-  held_stands (x ∷ xs) (suc n) below held = held_stands xs n (omega arith) (λ d. held d)
-
-  within_between : (xs : List Seen) (n : ℕ) → n ≤ length xs → AllWithin (λ y. order_of y ≡ Less) xs 0 n → AllWithin (λ y. order_of y ≡ Greater) xs n (length xs)
-      → StandsBetween place_order p (all_stood xs) n
-  within_between [] zero bound less greater = tt
-  within_between [] (suc n) bound less greater = absurd (omega arith)
-  within_between (x ∷ xs) zero bound less greater = (
-    greater zero x (omega arith) (omega arith),
-    within_between xs zero (omega arith) (λ k d low high. absurd (omega arith)) (λ k d low high. greater (suc k) d (omega arith) (omega arith)),
-  )
-  within_between (x ∷ xs) (suc n) bound less greater = (
-    less zero x (omega arith) (omega arith),
-    within_between xs n (omega arith) (λ k d low high. less (suc k) d (omega arith) (omega arith)) (λ k d low high. greater (suc k) d (omega arith) (omega arith)),
-  )
-
-  index_rises : (a b : Place) → place_order a b ≡ Less → ordering_index (place_order a p) ≤ ordering_index (place_order b p)
-  index_rises a b less = go (place_order a p) refl
-    where
-      go : (r : Ordering) → place_order a p ≡ r → ordering_index r ≤ ordering_index (place_order b p)
-      go Less is = omega arith
-      go Equal is =
-          subst (λ (r : Ordering). 1 ≤ ordering_index r) (sym (turned_greater place_order place_total p b (sym (place_total.congr a p b is) ∙ less))) (omega arith)
-      go Greater is =
-          subst (λ (r : Ordering). 2 ≤ ordering_index r)
-          (sym (turned_greater place_order place_total p b (place_total.trans p a b (turned_less place_order place_total a p is) less))) (omega arith)
-
-below_get : (q : Place) (xs : List Seen) (j : ℕ) (d : Seen) → T (below_all place_order q (all_stood xs)) → j < length xs → place_order q (stood (get_or xs j d)).0 ≡ Less
-below_get q [] j d below bound = absurd (omega arith)
-below_get q (x ∷ xs) zero d below bound = let parts = both_hold _ _ below in is_less (place_order q (stood x).0) parts.0
-below_get q (x ∷ xs) (suc j) d below bound = let parts = both_hold _ _ below in below_get q xs j d parts.1 (omega arith)
-
-orders_rise : (p : Place) (xs : List Seen) → T (is_sorted place_order (all_stood xs)) → IsNonDecreasingBy (λ y. ordering_index (place_order (stood y).0 p)) xs
-orders_rise p [] sorted i j d up bound = absurd (omega arith)
-orders_rise p (x ∷ xs) sorted zero zero d up bound = omega arith
-orders_rise p (x ∷ xs) sorted zero (suc j) d up bound =
-    let parts = both_hold _ _ sorted in
-    index_rises p (stood x).0 (stood (get_or xs j d)).0 (below_get (stood x).0 xs j d parts.0 (omega arith))
-orders_rise p (x ∷ xs) sorted (suc i) zero d up bound = absurd (omega arith)
-orders_rise p (x ∷ xs) sorted (suc i) (suc j) d up bound = let parts = both_hold _ _ sorted in orders_rise p xs parts.1 i j d (omega arith) (omega arith)
-
-pub number_at : (p : Place) (xs : List Seen) (r : Result ℕ ℕ) → IsSearchInRange r (length xs) → IsBinarySearchResult (λ y. place_order (stood y).0 p) xs r
-    → IfOk r (λ n. (n < length xs) × StandsAt place_order p (all_stood xs) n)
-number_at p xs (Ok n) bound is = (bound, held_stands p xs n bound is)
-number_at p xs (Err n) bound is = tt
-
-pub number_between : (p : Place) (xs : List Seen) (r : Result ℕ ℕ) → IsSearchInRange r (length xs) → IsBinarySearchResult (λ y. place_order (stood y).0 p) xs r
-    → T (is_sorted place_order (all_stood xs)) → IfErr r (λ n. (n ≤ length xs) × StandsBetween place_order p (all_stood xs) n)
-number_between p xs (Ok n) bound is sorted = tt
-number_between p xs (Err n) bound is sorted = let point = is (orders_rise p xs sorted) in (bound, within_between p xs n bound point.0 point.1)
-
--- ---- a place behind all rows
-
-least : (o : Ordering) → ordering_index o ≤ 0 → o ≡ Less
-least Less low = refl
-least Equal low = absurd (omega arith)
-least Greater low = absurd (omega arith)
-
-pub lt_is : (o : Ordering) → is_lt o ≡ true → o ≡ Less
-lt_is Less e = refl
-lt_is Equal e = absurd (let f : false ≡ true = e in cc)
-lt_is Greater e = absurd (let f : false ≡ true = e in cc)
-
-pub none_before : (p : Place) (xs : List Seen) (r : Option (Bor Seen)) → r ≡ None → IsGetResult xs 0 (length xs - 1) r → StandsBetween place_order p (all_stood xs) (length xs)
-none_before p [] r none item = tt
-none_before p (x ∷ xs) r none item = absurd (let f : false ≡ true = sym (ap is_some none) ∙ item.2 (omega arith) in cc)
-
-pub last_before : (p : Place) (xs : List Seen) (r : Option (Bor Seen)) (last : Bor Seen) → T (is_sorted place_order (all_stood xs)) → r ≡ Some last
-    → IsGetResult xs 0 (length xs - 1) r → place_order (stood last.now).0 p ≡ Less → StandsBetween place_order p (all_stood xs) (length xs)
-last_before p xs r last sorted some item less =
-    let held = subst (λ (o : Option (Bor Seen)). MatchOption o (length xs ≤ 0) (λ x. (0 < length xs) × HoldsAt (λ y. x.now ≡ y) xs (length xs - 1))) some item.3 in
-    within_between p xs (length xs) (omega arith) (λ k d low high. before held k d high) (λ k d low high. absurd (omega arith))
-  where
-    before : (0 < length xs) × HoldsAt (λ y. last.now ≡ y) xs (length xs - 1) → (k : ℕ) (d : Seen) → k < length xs → place_order (stood (get_or xs k d)).0 p ≡ Less
-    before held k d below =
-        let up = orders_rise p xs sorted k (length xs - 1) d (omega arith) (omega (arith, held.0)) in
-        let end : ordering_index (place_order (stood (get_or xs (length xs - 1) d)).0 p) ≡ 0 =
-        ap (λ (y : Seen). ordering_index (place_order (stood y).0 p)) (sym (held.1 d)) ∙ ap ordering_index less in
-        least (place_order (stood (get_or xs k d)).0 p) (omega (arith, up, end))
-
--- ---- the number where a test ends
-
-module _ (test : Place × Row → Truth) (falls : (a b : Place × Row) → place_order a.0 b.0 ≡ Less → test b ≡ true → test a ≡ true) where
-  pub tests_fall : (xs : List Seen) → T (is_sorted place_order (all_stood xs)) → IsPartitionedBy (λ y. test (stood y)) xs
-  tests_fall [] sorted i j d up bound is = absurd (omega arith)
-  tests_fall (x ∷ xs) sorted zero zero d up bound is = is
-  tests_fall (x ∷ xs) sorted zero (suc j) d up bound is =
-      let parts = both_hold _ _ sorted in
-      falls (stood x) (stood (get_or xs j d)) (below_get (stood x).0 xs j d parts.0 (omega arith)) is
-  tests_fall (x ∷ xs) sorted (suc i) zero d up bound is = absurd (omega arith)
-  tests_fall (x ∷ xs) sorted (suc i) (suc j) d up bound is = let parts = both_hold _ _ sorted in tests_fall xs parts.1 i j d (omega arith) (omega arith) is
-
-pub parted_at : (test : Place × Row → Truth) (xs : List Seen) (n : ℕ) → n ≤ length xs → IsPartitionPoint (λ y. test (stood y) ≡ true) (λ y. test (stood y) ≡ false) xs n
-    → IsParted test (all_stood xs) n
-parted_at test [] zero bound point = tt
-parted_at test [] (suc n) bound point = absurd (omega arith)
-parted_at test (x ∷ xs) zero bound point = (
-  point.1 zero x (omega arith) (omega arith),
-  parted_at test xs zero (omega arith) (λ k d low high. absurd (omega arith), λ k d low high. point.1 (suc k) d (omega arith) (omega arith)),
-)
-parted_at test (x ∷ xs) (suc n) bound point = (
-  point.0 zero x (omega arith) (omega arith),
-  parted_at test xs n (omega arith) (λ k d low high. point.0 (suc k) d (omega arith) (omega arith), λ k d low high. point.1 (suc k) d (omega arith) (omega arith)),
-)
-
--- of two places the first is of no later table
-table_le : (p q : Place) → place_order p q ≡ Less → p.table ≤ q.table
-table_le p q less = go (nat_cmp p.table q.table) refl less
-  where
-    go : (r : Ordering) → nat_cmp p.table q.table ≡ r → ordering_then r (key_order p.key q.key) ≡ Less → p.table ≤ q.table
-    go Less is stands = let below : p.table < q.table = ranked p.table q.table Less (sym is) in omega arith
-    go Equal is stands = let same : p.table ≡ q.table = ranked p.table q.table Equal (sym is) in omega arith
-    go Greater is stands = absurd (let e : Greater ≡ Less = stands in cc)
-
-pub before_falls : (table : ℕ) (a b : Place × Row) → place_order a.0 b.0 ≡ Less → is_before table b ≡ true → is_before table a ≡ true
-before_falls table a b less is =
-    let up : a.0.table ≤ b.0.table = table_le a.0 b.0 less in
-    let below : b.0.table < table = ltb-true b.0.table table is in
-    lt-ltb a.0.table table (omega arith)
-
-pub up_to_falls : (p : Place) (a b : Place × Row) → place_order a.0 b.0 ≡ Less → is_up_to p b ≡ true → is_up_to p a ≡ true
-up_to_falls p a b less is = go (place_order a.0 p) refl
-  where
-    go : (r : Ordering) → place_order a.0 p ≡ r → not (is_gt r) ≡ true
-    go Less e = refl
-    go Equal e = refl
-    go Greater e =
-        let greater : place_order b.0 p ≡ Greater =
-        turned_greater place_order place_total p b.0 (place_total.trans p a.0 b.0 (turned_less place_order place_total a.0 p e) less) in
-        absurd (let f : false ≡ true = sym (ap (λ (r : Ordering). not (is_gt r)) greater) ∙ is in cc)
+use Rattle.outcomes.proofs.Entries.{both_hold, found_at, is_less, none_between}
+use Rattle.outcomes.proofs.Standing.{table_le}
 
 -- ---- the row of a place
 
@@ -181,10 +41,10 @@ none_at_place p xs n sorted between =
 
 -- ---- the first row of a table, and the row behind a key
 
-abbrev to_entry : Place × Row → Entry
+abbrev pub to_entry : Place × Row → Entry
 to_entry e = entry e.0.key e.1
 
-abbrev row_of : Entry → Row
+abbrev pub row_of : Entry → Row
 row_of e = e.row
 
 module _ (table : ℕ) where
@@ -195,7 +55,7 @@ module _ (table : ℕ) where
   those_of es = map to_entry (filter is_of es)
 
   -- behind a later table stands none of this one
-  none_later : (q : Place) (es : List (Place × Row)) → table < q.table → T (below_all place_order q es) → filter is_of es ≡ []
+  pub none_later : (q : Place) (es : List (Place × Row)) → table < q.table → T (below_all place_order q es) → filter is_of es ≡ []
   none_later q [] later below = refl
   none_later q (e ∷ es) later below =
       let parts = both_hold _ _ below in
@@ -206,44 +66,44 @@ module _ (table : ℕ) where
       go none true is after = absurd (let same : e.0.table ≡ table = eqb-true e.0.table table is in omega arith)
       go none false is after = none
 
-  other_table : (a : ℕ) → (a == table) ≡ false → a ≡ table → ⊥
+  pub other_table : (a : ℕ) → (a == table) ≡ false → a ≡ table → ⊥
   other_table a is same = eqb-false a table is same
 
   module _ (after : Option Value) where
-    abbrev found_in : List (Place × Row) → Option Row
-    found_in es = option_map row_of (find (is_behind after) (those_of es))
+    abbrev pub found_in : List (Place × Row) → Option Entry
+    found_in es = find (is_behind after) (those_of es)
 
     -- an entry of another table, or one that is not behind, is passed; one that is behind is found
-    passed_by : (e : Place × Row) (es : List (Place × Row)) (b c : Truth) → is_of e ≡ b → is_behind after (to_entry e) ≡ c → (b && c) ≡ false → found_in (e ∷ es) ≡ found_in es
-    passed_by e es false c is behind neither = ap (λ (b : Truth). option_map row_of (find (is_behind after) (map to_entry (cond b (e ∷ filter is_of es) (filter is_of es))))) is
+    pub passed_by : (e : Place × Row) (es : List (Place × Row)) (b c : Truth) → is_of e ≡ b → is_behind after (to_entry e) ≡ c → (b && c) ≡ false → found_in (e ∷ es) ≡ found_in es
+    passed_by e es false c is behind neither = ap (λ (b : Truth). find (is_behind after) (map to_entry (cond b (e ∷ filter is_of es) (filter is_of es)))) is
     passed_by e es true true is behind neither = absurd (let f : true ≡ false = neither in cc)
     passed_by e es true false is behind neither =
-        ap (λ (b : Truth). option_map row_of (find (is_behind after) (map to_entry (cond b (e ∷ filter is_of es) (filter is_of es))))) is
-        ∙ ap (λ (c : Truth). option_map row_of (cond c (Some (to_entry e)) (find (is_behind after) (those_of es)))) behind
+        ap (λ (b : Truth). find (is_behind after) (map to_entry (cond b (e ∷ filter is_of es) (filter is_of es)))) is
+        ∙ ap (λ (c : Truth). cond c (Some (to_entry e)) (find (is_behind after) (those_of es))) behind
 
-    first_found : (e : Place × Row) (es : List (Place × Row)) → is_of e ≡ true → is_behind after (to_entry e) ≡ true → found_in (e ∷ es) ≡ Some e.1
+    pub first_found : (e : Place × Row) (es : List (Place × Row)) → is_of e ≡ true → is_behind after (to_entry e) ≡ true → found_in (e ∷ es) ≡ Some (to_entry e)
     first_found e es is behind =
-        ap (λ (b : Truth). option_map row_of (find (is_behind after) (map to_entry (cond b (e ∷ filter is_of es) (filter is_of es))))) is
-        ∙ ap (λ (c : Truth). option_map row_of (cond c (Some (to_entry e)) (find (is_behind after) (those_of es)))) behind
+        ap (λ (b : Truth). find (is_behind after) (map to_entry (cond b (e ∷ filter is_of es) (filter is_of es)))) is
+        ∙ ap (λ (c : Truth). cond c (Some (to_entry e)) (find (is_behind after) (those_of es))) behind
 
-    none_found : (e : Place × Row) (es : List (Place × Row)) → is_of e ≡ false → table < e.0.table → T (below_all place_order e.0 es) → found_in (e ∷ es) ≡ None
+    pub none_found : (e : Place × Row) (es : List (Place × Row)) → is_of e ≡ false → table < e.0.table → T (below_all place_order e.0 es) → found_in (e ∷ es) ≡ None
     none_found e es is later below =
-        ap (λ (b : Truth). option_map row_of (find (is_behind after) (map to_entry (cond b (e ∷ filter is_of es) (filter is_of es))))) is
-        ∙ ap (λ (fs : List (Place × Row)). option_map row_of (find (is_behind after) (map to_entry fs))) (none_later e.0 es later below)
+        ap (λ (b : Truth). find (is_behind after) (map to_entry (cond b (e ∷ filter is_of es) (filter is_of es)))) is
+        ∙ ap (λ (fs : List (Place × Row)). find (is_behind after) (map to_entry fs)) (none_later e.0 es later below)
 
     -- the test ends where the entries begin that are behind
     module _ (test : Place × Row → Truth) (passes : (e : Place × Row) → test e ≡ true → is_of e ≡ true → is_behind after (to_entry e) ≡ false) (fails : (e : Place × Row) → test e ≡ false → is_of e ≡ true → is_behind after (to_entry e) ≡ true) (later : (e : Place × Row) → test e ≡ false → is_of e ≡ false → table < e.0.table) where
-      pub found_there : (es : List (Place × Row)) (n : ℕ) → T (is_sorted place_order es) → IsParted test es n → found_in es ≡ row_in table (slice_get es n)
+      pub found_there : (es : List (Place × Row)) (n : ℕ) → T (is_sorted place_order es) → IsParted test es n → option_map row_of (found_in es) ≡ row_in table (slice_get es n)
       found_there [] zero sorted parted = refl
       found_there [] (suc n) sorted parted = absurd parted
       found_there (e ∷ es) zero sorted parted = go (is_of e) refl
         where
-          go : (b : Truth) → is_of e ≡ b → found_in (e ∷ es) ≡ (if b then Some e.1 else None)
-          go true is = first_found e es is (fails e parted.0 is)
-          go false is = let parts = both_hold _ _ sorted in none_found e es is (later e parted.0 is) parts.0
+          go : (b : Truth) → is_of e ≡ b → option_map row_of (found_in (e ∷ es)) ≡ (if b then Some e.1 else None)
+          go true is = ap (option_map row_of) (first_found e es is (fails e parted.0 is))
+          go false is = let parts = both_hold _ _ sorted in ap (option_map row_of) (none_found e es is (later e parted.0 is) parts.0)
       found_there (e ∷ es) (suc n) sorted parted =
           let parts = both_hold _ _ sorted in
-          go (is_of e) refl ∙ found_there es n parts.1 parted.1
+          ap (option_map row_of) (go (is_of e) refl) ∙ found_there es n parts.1 parted.1
         where
           go : (b : Truth) → is_of e ≡ b → found_in (e ∷ es) ≡ found_in es
           go true is = passed_by e es true false is (passes e parted.0 is) refl
@@ -262,11 +122,11 @@ first_there table xs n sorted parted =
     later e is of = let up : table ≤ e.0.table = ltb-false e.0.table table is in let other = other_table table e.0.table of in omega arith
 
 -- places of one table stand as their keys do
-same_table : (p : Place) (table : ℕ) (key : Value) → p.table ≡ table → place_order p (place table key) ≡ key_order p.key key
+pub same_table : (p : Place) (table : ℕ) (key : Value) → p.table ≡ table → place_order p (place table key) ≡ key_order p.key key
 same_table p table key same = ap (λ (r : Ordering). ordering_then r (key_order p.key key)) (ap (λ (n : ℕ). nat_cmp n table) same ∙ tied_itself nat_cmp_total table)
 
 -- one of another table that stands behind is of a later one
-later_table : (p : Place) (table : ℕ) (key : Value) → is_gt (place_order p (place table key)) ≡ true → (p.table ≡ table → ⊥) → table < p.table
+pub later_table : (p : Place) (table : ℕ) (key : Value) → is_gt (place_order p (place table key)) ≡ true → (p.table ≡ table → ⊥) → table < p.table
 later_table p table key is other = go (nat_cmp p.table table) refl is
   where
     go : (r : Ordering) → nat_cmp p.table table ≡ r → is_gt (ordering_then r (key_order p.key key)) ≡ true → table < p.table
@@ -274,11 +134,11 @@ later_table p table key is other = go (nat_cmp p.table table) refl is
     go Equal e gt = absurd (other (ranked p.table table Equal (sym e)))
     go Greater e gt = ranked p.table table Greater (sym e)
 
-not_true : (b : Truth) → not b ≡ true → b ≡ false
+pub not_true : (b : Truth) → not b ≡ true → b ≡ false
 not_true true e = absurd (let f : false ≡ true = e in cc)
 not_true false e = refl
 
-not_false : (b : Truth) → not b ≡ false → b ≡ true
+pub not_false : (b : Truth) → not b ≡ false → b ≡ true
 not_false true e = refl
 not_false false e = absurd (let f : true ≡ false = e in cc)
 

@@ -45,7 +45,7 @@ passes p (y ∷ ys) x rest e = go (p y) refl e (λ f. passes p ys x rest f)
 
 -- ---- what is at a place
 
-one_place : (q p : Place) → is_place q p ≡ true → q ≡ p
+pub one_place : (q p : Place) → is_place q p ≡ true → q ≡ p
 one_place q p is = place_antisymmetric q p (go (place_order q p) is)
   where
     go : (o : Ordering) → is_eq o ≡ true → o ≡ Equal
@@ -117,7 +117,7 @@ laid_in_order now xs ys stable rows =
 
 -- ---- all changes of a log
 
-laid_append : (rows : Rows) (cs ds : List Change) → all_laid rows (cs ++ ds) ≡ all_laid (all_laid rows cs) ds
+pub laid_append : (rows : Rows) (cs ds : List Change) → all_laid rows (cs ++ ds) ≡ all_laid (all_laid rows cs) ds
 laid_append rows [] ds = refl
 laid_append rows (c ∷ cs) ds = laid_append (changed_at rows (place_changed c) c.row) cs ds
 

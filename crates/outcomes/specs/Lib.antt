@@ -4,6 +4,10 @@ pub mod Log
 pub mod Gathered
 pub mod Sights
 pub mod Seeing
+pub mod Chains
+pub mod Indexed
+pub mod Behind
+pub mod Layered
 pub mod Stored
 pub mod Given
 pub mod Positive

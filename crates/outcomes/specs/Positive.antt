@@ -1,5 +1,5 @@
 -- The next numbers of serial columns, by the numbers of their tables.
-use Rattle.std.specs.Prelude.{◌≡◌, ℕ, ℤ, pos, ◌≤ℤ◌, List, Option, Some, None, slice_index_or}
+use Rattle.std.specs.Prelude.{ℕ, ℤ, List, Option, None, slice_index_or}
 use Rattle.std.specs.Coded.{Π_prop}
 use Rattle.std.proofs.Props.{props}
 use Rattle.backend_trait.specs.Effect.{IsPositive}

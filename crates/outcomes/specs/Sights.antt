@@ -2,6 +2,7 @@
 use Rattle.std.specs.Prelude.{◌==◌, not, ℕ, nat_lt, Bool, List, [], ◌∷◌, map, Option, Some, None, if◌then◌else◌}
 use Rattle.std.specs.FinMap.{from_sorted}
 use Rattle.std.specs.Ordering.{is_gt}
+use Rattle.pg_values.specs.declared.value.Value.{Value}
 use Rattle.sql_eval.specs.declared.row.Row.{Row}
 use Rattle.sql_eval.specs.declared.effect.Change.{Change}
 use Rattle.backend_trait.specs.Keys.{Place, place, place_order}
@@ -31,8 +32,13 @@ row_in table None = None
 row_in table (Some e) = if e.0.table == table then Some e.1 else None
 
 -- an entry of a table before that one, and one that does not stand behind a place
-abbrev pub is_before : ℕ → Place × Row → Bool
+abbrev pub is_before : {Y : Type 0} → ℕ → Place × Y → Bool
 is_before table e = nat_lt e.0.table table
 
-abbrev pub is_up_to : Place → Place × Row → Bool
+abbrev pub is_up_to : {Y : Type 0} → Place → Place × Y → Bool
 is_up_to p e = not (is_gt (place_order e.0 p))
+
+-- an entry that does not stand behind a key of a table, or that is of an earlier table where there is no key
+abbrev pub is_passed : {Y : Type 0} → ℕ → Option Value → Place × Y → Bool
+is_passed table None e = is_before table e
+is_passed table (Some key) e = is_up_to (place table key) e

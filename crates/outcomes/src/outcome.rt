@@ -8,17 +8,19 @@ ghost use Rattle.backend_trait.specs.Rows.{laid_over};
 ghost use Rattle.backend_trait.specs.Runnable.{IsRunnable};
 ghost use Rattle.outcomes.specs.Spots.{place_of};
 ghost use Rattle.outcomes.specs.Log.{rows_of};
-ghost use Rattle.outcomes.specs.Seeing.{rows_seen};
+ghost use Rattle.outcomes.specs.Indexed.{rows_in_index};
 ghost use Rattle.outcomes.specs.Given.{given_in};
 
 use crate::change::ChangeSet;
+use crate::index::Index;
+use crate::layers::Layers;
 use crate::sight::Sight;
 use crate::spot::Spot;
 use backend_trait::{Answer, Catalogue, Checked};
 use catalogue::CheckedBody;
 use pg_values::Value;
 use pool_base::{Code, List, NoMemory};
-use sql_eval::{Change, EvalFault, ReadEffect, WriteEffect, eval_read, eval_write};
+use sql_eval::{Change, EvalFault, ReadEffect, TableView, WriteEffect, eval_read, eval_write};
 use std::alloc::Global;
 
 /// What a statement gives its transaction.
@@ -131,26 +133,26 @@ fn failed(fault: EvalFault) -> Result<Outcome, NoMemory>
 }
 
 /// What a statement gives on what is seen.
-fn outcome_on(
+fn outcome_on<V: TableView>(
     alloc: Global,
     catalogue: &Catalogue,
-    sight: &Sight<'_>,
+    view: &V,
     next: Option<i64>,
     statement: &Checked,
 ) -> Result<Outcome, NoMemory>
     requires runnable { IsRunnable catalogue.now statement.now }
-    requires keyed { IsKeyedAt catalogue.now (rows_seen sight.now) (table_in statement.now) }
+    requires keyed { IsKeyedAt catalogue.now (V.rows view.now) (table_in statement.now) }
     requires positive { IsPositive next }
     ensures { IfOk result (λ outcome. given_in outcome ≡ (effect_of catalogue.now statement.now
-        (rows_seen sight.now) next).given) }
+        (V.rows view.now) next).given) }
 {
     match &statement.body {
-        CheckedBody::Read(read) => match eval_read(alloc, catalogue, statement, sight) {
+        CheckedBody::Read(read) => match eval_read(alloc, catalogue, statement, view) {
             Ok(given) => read_given(alloc, read.table, given),
             Err(fault) => failed(fault),
         },
         CheckedBody::Insert(_) | CheckedBody::Change(_) | CheckedBody::Remove(_) =>
-            match eval_write(alloc, catalogue, statement, sight, number_from(next)) {
+            match eval_write(alloc, catalogue, statement, view, number_from(next)) {
                 Ok(given) => write_given(alloc, given),
                 Err(fault) => failed(fault),
             },
@@ -177,4 +179,26 @@ pub fn outcome_of(
 {
     let sight = Sight::new(alloc, sets, own)?;
     outcome_on(alloc, catalogue, &sight, next, statement)
+}
+
+/// What a statement gives a transaction that sees the first sets of an index, so many of them, and
+/// then its own changes. Only the rows are looked at that the statement looks at.
+pub fn outcome_at(
+    alloc: Global,
+    catalogue: &Catalogue,
+    index: &Index,
+    mark: usize,
+    own: &[Change],
+    next: Option<i64>,
+    statement: &Checked,
+) -> Result<Outcome, NoMemory>
+    requires runnable { IsRunnable catalogue.now statement.now }
+    requires stored { AreAllStored catalogue.now
+        (laid_over (changes_of own.now) (rows_in_index index.now mark)) }
+    requires positive { IsPositive next }
+    ensures { IfOk result (λ outcome. given_in outcome ≡ (effect_of catalogue.now statement.now
+        (laid_over (changes_of own.now) (rows_in_index index.now mark)) next).given) }
+{
+    let layers = Layers::new(alloc, own, index, mark)?;
+    outcome_on(alloc, catalogue, &layers, next, statement)
 }

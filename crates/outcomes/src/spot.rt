@@ -32,7 +32,7 @@ fn rank_of(value: &Value) -> u8
 }
 
 /// How two keys stand: by their kinds, and keys of one kind as their values do.
-fn key_order(a: &Value, b: &Value) -> Ordering
+pub(crate) fn key_order(a: &Value, b: &Value) -> Ordering
     ensures { result ≡ key_order a.now b.now }
 {
     rank_of(a).cmp(&rank_of(b)).then(standing(a, b))

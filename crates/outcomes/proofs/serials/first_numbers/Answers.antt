@@ -1,4 +1,4 @@
-use Rattle.std.proofs.Common.{◌≡◌, ℕ, ◌<◌, arith, rules, subst}
+use Rattle.std.proofs.Common.{◌≡◌, arith, rules, subst}
 use Rattle.outcomes.proofs.NextLaws.{AreFirst, none_first, one_first, all_first}
 use Rattle.outcomes.proofs.serials.first_numbers.Goals as goal
 

@@ -5,6 +5,7 @@ use Rattle.model_store.proofs.ApartLaws.{apart_kept}
 use Rattle.model_store.proofs.AskLaws.{may_admit}
 use Rattle.model_store.proofs.KeptLaws.{given_posted, stored_posted, stored_there}
 use Rattle.outcomes.specs.declared.change.ChangeSet.{ChangeSet}
+use Rattle.outcomes.specs.Indexed.{IsIndexOf}
 use Rattle.outcomes.specs.Stored.{AreAllStored}
 use Rattle.model_store.specs.Seats.{AreGiven}
 use Rattle.outcomes.specs.Next.{next_of}
@@ -122,3 +123,17 @@ returns-clause-posted c =
     let idle = idle_seat seats at c.index_mut.result.now there c.requires.idle in
     posted_ok (next_of c.args.self.now.numbers) c.args.self.now.catalogue c.args.self.now.log.items c.has_room.new.log.items seats c.args.self.now.is_lost at c.index_mut.result.now c.wait.new.seat c.args.request c.wait.result c.has_room.ensures.items within there
     (c.wait.ensures.transaction c.args.self.now.log.items) idle c.wait.ensures.posted
+
+pub invariant_of-self-clause-indexed : goal.invariant_of-self-clause-indexed
+invariant_of-self-clause-indexed c = subst (IsIndexOf c.has_room.new.index) (sym c.has_room.ensures.items) c.has_room.ensures.indexed
+
+pub invariant_of-self-2-clause-indexed : goal.invariant_of-self-2-clause-indexed
+invariant_of-self-2-clause-indexed c = subst (IsIndexOf c.has_room.new.index) (sym c.has_room.ensures.items) c.has_room.ensures.indexed
+
+pub wait-requires-clause-indexed : goal.wait-requires-clause-indexed
+wait-requires-clause-indexed c = subst (IsIndexOf c.has_room.new.index) (sym (c.as_slice-log.ensures.value ∙ c.has_room.ensures.items)) c.has_room.ensures.indexed
+
+pub wait-requires-clause-whole : goal.wait-requires-clause-whole
+wait-requires-clause-whole c = λ statement is.
+    let has : c.has_room.result ≡ true = search (rules, not_false) in
+    c.has_room.ensures.whole statement has is ∙ ap (λ (l : List ChangeSet). length l) (sym (c.as_slice-log.ensures.value ∙ c.has_room.ensures.items))

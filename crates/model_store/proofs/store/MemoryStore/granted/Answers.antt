@@ -6,6 +6,7 @@ use Rattle.model_store.proofs.ActLaws.{granted_not_lost, longer}
 use Rattle.model_store.proofs.ApartLaws.{apart_granted}
 use Rattle.model_store.proofs.FormedLaws.{formed_here, gives_here}
 use Rattle.model_store.proofs.KeptLaws.{committed_granted, given_granted, stored_granted}
+use Rattle.model_store.proofs.IndexLaws.{indexed_granted}
 use Rattle.outcomes.specs.Next.{next_of}
 use Rattle.model_store.proofs.store.MemoryStore.granted.Goals as goal
 
@@ -80,3 +81,11 @@ grant_at-requires-clause-given c =
     let store = c.args.self.now in
     let within : c.args.at < length store.seats.items = omega (arith, store.all_seated, c.requires.below) in
     subst (IsGivenTo (next_of store.numbers) store.catalogue store.log.items) (slice_get_read store.seats.items (length store.seats.items) c.args.at c.index_mut.result.now refl within c.index_mut.ensures.value) (store.given c.args.at)
+
+pub invariant_of-self-clause-indexed : goal.invariant_of-self-clause-indexed
+invariant_of-self-clause-indexed c =
+    let store = c.args.self.now in
+    let within : c.args.at < length store.seats.items = omega (arith, store.all_seated, c.requires.below) in
+    let there = slice_get_read store.seats.items (length store.seats.items) c.args.at c.index_mut.result.now refl within c.index_mut.ensures.value in
+    indexed_granted store.index (next_of store.numbers) store.catalogue store.log.items c.grant_at.new.log.items store.seats.items c.args.at c.index_mut.result.now c.grant_at.new.seat c.grant_at.result there c.requires.goes
+    c.grant_at.ensures.granted store.indexed

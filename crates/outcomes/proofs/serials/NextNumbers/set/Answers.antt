@@ -1,6 +1,5 @@
-use Rattle.std.proofs.Common.{arith, subst, sym}
-use Rattle.outcomes.specs.Positive.{ArePositive}
-use Rattle.outcomes.proofs.NextLaws.{next_set, next_set_at, set_positive_at}
+use Rattle.std.proofs.Common.{arith}
+use Rattle.outcomes.proofs.NextLaws.{next_set_at, set_positive_at}
 use Rattle.outcomes.proofs.serials.NextNumbers.set.Goals as goal
 
 pub invariant_of-self : goal.invariant_of-self

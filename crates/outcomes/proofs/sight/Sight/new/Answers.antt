@@ -4,7 +4,7 @@ use Rattle.std.specs.FinMap.{is_sorted}
 use Rattle.sql_eval.specs.declared.effect.Change.{Change}
 use Rattle.backend_trait.specs.Keys.{place_order}
 use Rattle.backend_trait.specs.Rows.{Rows, no_rows}
-use Rattle.outcomes.specs.Sights.{all_laid, all_stood, rows_at}
+use Rattle.outcomes.specs.Sights.{all_laid, all_stood}
 use Rattle.outcomes.specs.declared.sight.Seen.{Seen}
 use Rattle.outcomes.proofs.Laid.{none_seen}
 use Rattle.outcomes.proofs.sight.Sight.new.Goals as goal
