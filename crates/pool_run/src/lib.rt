@@ -9,11 +9,10 @@ mod scripts;
 mod shelf;
 mod status;
 mod stores;
-#[cfg(test)]
-mod tests;
 mod texts;
 mod top;
 
+pub use shelf::put;
 pub use status::Status;
 pub use stores::run_over_stores;
 pub use top::pool_run;
