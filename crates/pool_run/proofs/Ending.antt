@@ -1,6 +1,6 @@
 -- What each stage says of the end of the run.
 use Rattle.std.proofs.Common.{◌≡◌, ◌≢◌, ℕ, ◌<◌, ◌≤◌, length, true, List, [], refl, subst}
-use Rattle.std.specs.Prelude.{Option, Some, None, Err}
+use Rattle.std.specs.Prelude.{Option, Some, Err}
 use Rattle.pool_base.specs.Outside.{Appends}
 use Rattle.pool_base.proofs.Sinking.{rose_after, front_nothing}
 use Rattle.backend_trait.specs.Rows.{Rows}
@@ -25,7 +25,7 @@ use Rattle.pool_run.specs.Schemas.{IsSchemaAnswer, schema_too_long, bad_schema_l
 use Rattle.pool_run.specs.Texts.{IsBuilt, IsRead, config_name, schema_name, is_plain}
 use Rattle.pool_run.specs.Reading.{IsFault}
 use Rattle.pool_run.specs.Ends.{Outside, outside, Says, IsSchemaRefusal, NoCommandEnds, RefusedEnds, UnbuiltEnds, UnreadEnds, ScriptEnds, no_command, not_built, fault_line}
-use Rattle.pool_run.specs.Ends.{ScriptStageEnds, script_unread, script_read, SchemaEnds, schema_stands, schema_refused, schema_unparsed, RestEnds, schema_unread, schema_read, ConfigEnds, configured, faulty, unparsed, CommandEnds, unread, read, WordsEnd}
+use Rattle.pool_run.specs.Ends.{ScriptStageEnds, script_unread, script_read, SchemaEnds, schema_stands, schema_refused, schema_unparsed, RestEnds, schema_unread, schema_read, ConfigEnds, configured, faulty, unparsed, CommandEnds, read}
 
 pub said : (s : Status) (bytes : List ℕ) (a b : Option (List ℕ)) (n m : ℕ) → s ≢ SinkFailed → Appends a b bytes → Says s s bytes a b n m
 said Done bytes a b n m other p = (refl, p)
@@ -76,16 +76,6 @@ said_script_refused FilesFailed bytes a b n m x y p = let e : ScriptRefused ≡ 
 said_script_refused SinkFailed bytes a b n m x y p = p
 said_script_refused NoMemory bytes a b n m x y p = let e : ScriptRefused ≡ NoMemory = p.0 in absurd (cc)
 said_script_refused NotBuilt bytes a b n m x y p = let e : ScriptRefused ≡ NotBuilt = p.0 in absurd (cc)
-
-pub fault_unread : (s : Status) (before after n m : ℕ) (a : Option (List ℕ)) (x y : List Store) → IsFault before after s → UnreadEnds before after s (outside n m a a x y)
-fault_unread Done before after n m a x y p = p
-fault_unread NoCommand before after n m a x y p = p
-fault_unread Refused before after n m a x y p = p
-fault_unread ScriptRefused before after n m a x y p = p
-fault_unread FilesFailed before after n m a x y p = (p, refl)
-fault_unread SinkFailed before after n m a x y p = p
-fault_unread NoMemory before after n m a x y p = refl
-fault_unread NotBuilt before after n m a x y p = p
 
 pub fault_after : (s : Status) (a b c : ℕ) → a ≤ b → IsFault b c s → IsFault a c s
 fault_after Done a b c h p = p
@@ -162,11 +152,6 @@ pub schema_stop : (stop : SchemaStop) (contents : List ℕ → Told) (before : �
 schema_stop schemas.TooLong contents before command config schema s o why rows e = schema_refused schema_too_long why rows e
 schema_stop (schemas.BadLine n) contents before command config schema s o why rows e = schema_refused (bad_schema_line n) why rows e
 schema_stop schemas.NoMemory contents before command config schema s o why rows (memory, same) = schema_unparsed memory same rows
-
--- memory was refused before anything was done
-pub memory_ends : (command : Option Command) (contents : List ℕ → Told) (before n : ℕ) (a : Option (List ℕ)) (x : List Store) → WordsEnd command contents before before NoMemory (outside n n a a x x)
-memory_ends None contents before n a x = (refl, refl)
-memory_ends (Some command) contents before n a x = unread refl refl
 
 -- nothing was played
 pub none_played : (tables : List TableDef) (lines : List Line) (rows : Rows) (a : Option (List ℕ)) → ArePlayedInPart tables lines rows a a

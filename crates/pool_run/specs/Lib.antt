@@ -5,3 +5,4 @@ pub mod Texts
 pub mod Reading
 pub mod Shelf
 pub mod Ends
+pub mod Plan

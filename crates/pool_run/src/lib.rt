@@ -2,13 +2,16 @@
 //! boxed backends. Each status comes with its cause; status 0 with the transcript of one store.
 #![tactic(auto)]
 
+mod asking;
 mod backends;
+mod plan;
 mod running;
 mod schemas;
 mod scripts;
 mod shelf;
 mod status;
 mod stores;
+mod telling;
 mod texts;
 mod top;
 

@@ -1,7 +1,7 @@
 use Rattle.std.proofs.Common.{sym, subst}
 use Rattle.pool_run.specs.declared.schemas.SchemaStop.{SchemaStop}
 use Rattle.pool_run.specs.Ends.{IsSchemaRefusal, outside}
-use Rattle.pool_run.proofs.running.refuse_schema.Goals as goal
+use Rattle.pool_run.proofs.telling.refuse_schema.Goals as goal
 
 pub returns-in-BadLine : goal.returns-in-BadLine
 returns-in-BadLine g c = λ stores.
