@@ -18,39 +18,33 @@ fn put_value(value: &Value, told: &mut Told) {
 }
 
 fn put_row(row: &Row, told: &mut Told) {
-    let mut rest = row.cells.as_slice();
     let mut gap = "";
-    while let [value, after @ ..] = rest {
+    for value in row.cells.as_slice() {
         told.put(gap);
         put_value(value, told);
         gap = " ";
-        rest = after;
     }
 }
 
 fn put_rows(rows: &[Row], told: &mut Told) {
-    let mut rest = rows;
     let mut gap = "";
-    while let [row, after @ ..] = rest {
+    for row in rows {
         told.put(gap);
         put_row(row, told);
         gap = ", ";
-        rest = after;
     }
 }
 
 /// Puts the rows of the first table of each box, with `|` between the boxes.
 fn put_each<B: Backend>(boxes: &[B], told: &mut Told) {
-    let mut rest = boxes;
     let mut gap = "";
-    while let [one, after @ ..] = rest {
+    for one in boxes {
         told.put(gap);
         match one.rows_of(0) {
             Ok(rows) => put_rows(rows.as_slice(), told),
             Err(_) => told.put("no memory"),
         }
         gap = "|";
-        rest = after;
     }
 }
 
