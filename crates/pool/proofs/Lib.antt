@@ -1,7 +1,0 @@
-pub mod Shelves
-pub mod Preparing
-pub mod Ending
-pub mod Touching
-pub mod Numbers
-pub mod ScriptNumbers
-pub mod ScriptReading

@@ -1,0 +1,77 @@
+-- What a run is to do once its words and its texts were read, and how it then ends.
+use Rattle.std.specs.Prelude.{◌≡◌, ◌≢◌, ◌<◌, ◌≤◌, ℕ, List, Result, Ok, Err, map}
+use Rattle.std.specs.List.{AllByRecursion}
+use Rattle.pgproto.specs.Line.{line_of}
+use Rattle.pgproto.specs.Spelling.{IsOfGrammar}
+use Rattle.pgproto.specs.declared.line.ScriptLine.{ScriptLine}
+use Rattle.play.specs.Script.{IsSession}
+use Rattle.pool_config.specs.declared.fault.ConfigFault.{ConfigFault}
+use Rattle.pool_config.specs.declared.fault.ConfigFault.TheVariants as faults
+use Rattle.pool_run.specs.declared.plan.Plan.{Plan}
+use Rattle.pool_run.specs.declared.plan.Stop.{Stop}
+use Rattle.pool_run.specs.declared.plan.Stop.TheVariants as stops
+use Rattle.pool_run.specs.declared.scripts.ScriptStop.{ScriptStop}
+use Rattle.pool_run.specs.declared.scripts.ScriptStop.TheVariants as scripts
+use Rattle.pool_run.specs.declared.status.Status.{Status}
+use Rattle.pool_run.specs.declared.status.Status.TheVariants.{Refused, ScriptRefused, NoMemory}
+use Rattle.pool_run.specs.Ends.{Outside, Untouched, NoCommandEnds, RefusedEnds, UnbuiltEnds, ScriptEnds, IsSchemaRefusal, config_too_long, fault_line}
+use Rattle.pool_run.specs.Scripts.{script_too_long, bad_line}
+use Rattle.schema.specs.declared.catalogue.TableDef.{TableDef}
+use Rattle.schema_print.specs.Allowed.{AreAllowed}
+use Rattle.schema_print.specs.Printed.{AreInRange}
+
+-- what may be played: lines of the grammar that are one session
+pub record IsPlayable (lines : List ScriptLine) : Type 0 where
+  pub grammar : AllByRecursion IsOfGrammar (map line_of lines)
+  pub session : IsSession (map line_of lines)
+
+-- so many backends are played
+pub record IsFew (count : ℕ) : Type 0 where
+  pub some : 0 < count
+  pub few : count ≤ 8
+
+-- a plan that can be carried out
+pub record IsSound (plan : Plan) : Type 0 where
+  pub playable : IsPlayable plan.script
+  pub in_range : AreInRange plan.catalogue
+  pub allowed : AreAllowed plan.catalogue
+  pub count : IsFew plan.count
+
+-- the fault of a configuration is told; want of memory is no fault of its text
+pub record IsFaultRefusal (fault : ConfigFault) (status : Status) (o : Outside) : Type 0 where
+  pub memory : fault ≡ faults.NoMemory → (status ≡ NoMemory) × (o.has ≡ o.had)
+  pub refuses : fault ≢ faults.NoMemory → RefusedEnds Refused (fault_line fault) status o
+
+-- what the refusal of a script comes to
+abbrev pub IsScriptRefusal : ScriptStop → Status → Outside → Type 0
+IsScriptRefusal scripts.TooLong status o = RefusedEnds ScriptRefused script_too_long status o
+IsScriptRefusal (scripts.BadLine n) status o = RefusedEnds ScriptRefused (bad_line n) status o
+IsScriptRefusal scripts.NoMemory status o = (status ≡ NoMemory) × (o.has ≡ o.had)
+
+-- how a run ends that plays no script
+abbrev pub StopEnds : Stop → Status → Outside → Type 0
+StopEnds (stops.Unread wanted) status o = (status ≡ wanted) × (o.has ≡ o.had)
+StopEnds stops.NoCommand status o = NoCommandEnds status o
+StopEnds stops.ConfigTooLong status o = RefusedEnds Refused config_too_long status o
+StopEnds (stops.Config fault) status o = IsFaultRefusal fault status o
+StopEnds (stops.Schema stop) status o = IsSchemaRefusal stop status o
+StopEnds (stops.Script stop) status o = IsScriptRefusal stop status o
+StopEnds stops.NotBuilt status o = UnbuiltEnds status o
+
+-- how a run ends that is to do this
+abbrev pub PlanEnds : Result Plan Stop → Status → Outside → Type 0
+PlanEnds (Ok plan) status o = ScriptEnds plan.count plan.catalogue (map line_of plan.script) status o
+PlanEnds (Err stop) status o = Untouched o × StopEnds stop status o
+
+-- the same of lines, with a number of backends and tables
+abbrev pub LinesEnd : ℕ → List TableDef → Result (List ScriptLine) Stop → Status → Outside → Type 0
+LinesEnd count tables (Ok lines) status o = ScriptEnds count tables (map line_of lines) status o
+LinesEnd count tables (Err stop) status o = Untouched o × StopEnds stop status o
+
+-- an end of what is to be done is an end of that kind
+abbrev pub Leads : Result Plan Stop → (Status → Outside → Type 0) → Type 0
+Leads asked Kind = (status : Status) (o : Outside) → PlanEnds asked status o → Kind status o
+
+-- the same of lines, over any tables
+abbrev pub LinesLead : ℕ → Result (List ScriptLine) Stop → (List TableDef → Status → Outside → Type 0) → Type 0
+LinesLead count asked Kind = (tables : List TableDef) (status : Status) (o : Outside) → LinesEnd count tables asked status o → Kind tables status o

@@ -1,0 +1,49 @@
+-- The texts that a command names, what is read of them, and what is built.
+use Rattle.std.specs.Prelude.{◌≡◌, ◌<◌, ◌≤◌, ℕ, Bool, true, false, not, List, [], ◌∷◌, ◌++◌, Option, Some, None, length}
+use Rattle.pool_base.specs.Outside.{Told, IsTold, IsLonger}
+use Rattle.pgproto.specs.Line.{Line}
+use Rattle.play.specs.Script.{IsSession}
+use Rattle.pool_command.specs.declared.command.Command.{Command}
+use Rattle.pool_command.specs.declared.command.Command.TheVariants.{Play, Generate, Serve}
+use Rattle.pool_config.specs.declared.config.Config.{Config}
+use Rattle.pool_run.specs.Scripts.{IsReadAs}
+
+-- the file of the configuration
+abbrev pub config_name : Command → List ℕ
+config_name (Play config schema script journal) = config
+config_name (Generate config schema number size) = config
+config_name (Serve config schema) = config
+
+-- the file of the schema
+abbrev pub schema_name : Command → List ℕ
+schema_name (Play config schema script journal) = schema
+schema_name (Generate config schema number size) = schema
+schema_name (Serve config schema) = schema
+
+-- the text that was read is the file's, where the file tells; None is a file above the limit
+abbrev pub IsRead : Told → ℕ → Option (List ℕ) → Type 0
+IsRead told limit None = IsLonger told limit
+IsRead told limit (Some text) = IsTold told text × (length text ≤ limit)
+
+-- the script of the command was read so; a command without one has none
+abbrev pub IsScriptRead : (List ℕ → Told) → Command → Option (List ℕ) → Type 0
+IsScriptRead contents (Play config schema script journal) text = IsRead (contents script) 4194304 text
+IsScriptRead contents (Generate config schema number size) text = text ≡ None
+IsScriptRead contents (Serve config schema) text = text ≡ None
+
+abbrev pub line : List ℕ → List ℕ
+line text = text ++ 10 ∷ []
+
+-- to play a script without its journal
+abbrev pub is_plain : Command → Bool
+is_plain (Play config schema script journal) = not journal
+is_plain (Generate config schema number size) = false
+is_plain (Serve config schema) = false
+
+-- what is built is asked for: a script that is one session, over one to eight backends, without the journal
+pub record IsBuilt (command : Command) (config : Config) (script : Option (List ℕ)) (lines : List Line) : Type 0 where
+  pub plain : is_plain command ≡ true
+  pub some_backend : 0 < length config.nodes
+  pub few_backends : length config.nodes ≤ 8
+  pub reads : IsReadAs script lines
+  pub session : IsSession lines
