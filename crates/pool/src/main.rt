@@ -3,8 +3,12 @@
 
 use pool_base::{NoMemory, SystemFiles, WriterSink};
 use pool_run::{Status, run_over_stores};
+use std::env;
+use std::io::{self, BufWriter, Write};
 use std::process::ExitCode;
-use std::{env, io};
+
+/// How many bytes are written at once.
+const BUFFER: usize = 65536;
 
 fn main(rt: HostRuntime) -> io::Result<ExitCode> {
     let code = match run_args(&rt) {
@@ -30,14 +34,27 @@ fn args_of(rt: &HostRuntime) -> Result<Vec<String>, NoMemory> {
     Ok(args)
 }
 
-/// Runs the command that the program is called with.
-fn run_args(rt: &HostRuntime) -> Result<u8, NoMemory> {
+/// Runs the command that the program is called with, and writes to a buffer.
+fn run_buffered<W: Write>(rt: &HostRuntime, buffer: &mut W) -> Result<u8, NoMemory> {
     let args = args_of(rt)?;
     let mut words = Vec::new(rt.alloc());
     for arg in &args {
         words.push(arg.as_str())?;
     }
     let mut files = SystemFiles::new(rt.clone()?);
-    let mut out = WriterSink::new(io::writer(rt));
+    let mut out = WriterSink::new(buffer);
     run_over_stores(rt.alloc(), words.as_slice(), &mut files, &mut out)
+}
+
+/// Runs the command, and then writes what is left in the buffer. Where that cannot be written, the
+/// output has failed.
+fn run_args(rt: &HostRuntime) -> Result<u8, NoMemory> {
+    let Ok(mut buffer) = BufWriter::with_capacity(rt.alloc(), BUFFER, io::writer(rt)) else {
+        return Err(NoMemory);
+    };
+    let code = run_buffered(rt, &mut buffer)?;
+    match buffer.flush() {
+        Ok(()) => Ok(code),
+        Err(_) => Ok(Status::SinkFailed.code()),
+    }
 }
