@@ -1,0 +1,390 @@
+//! What becomes of an order, as bytes for the client.
+ghost use Rattle.std.specs.Prelude.{◌≡◌, ◌≤◌, length, true, None, Some, IfOk, IsTrue, IsOk, OnOk};
+ghost use Rattle.wire_reply.specs.Rows.{AreInRange};
+ghost use Rattle.session_wire.specs.Answers.{MayAnswer, Says, SaysExecute, SaysRefused, SaysStatement, code_of, ends_block, ends_now, implicit_after, saying_of, skips};
+ghost use Rattle.wire_session.specs.Kept.{HasNone};
+ghost use Rattle.session_wire.specs.Sayings.{HasRoom};
+ghost use Rattle.session_wire.specs.Shown.{shown};
+ghost use Rattle.session_wire.specs.declared.due.Due.TheVariants as dues;
+ghost use Rattle.wire_orders.specs.declared.outcome.Outcome.TheVariants.{Rows, Nodes, Error as Failed};
+
+use crate::due::Due;
+use crate::nodes::nodes_bytes;
+use crate::wire::Wire;
+use pool_base::{BackendSet, Code, List, NoMemory, Text};
+use pool_config::Config;
+use wire_extended::{advance, keep_rows, next_rows};
+use wire_orders::{Outcome, Row, Tag};
+use wire_reply::{Saying, of_backend, rows_bytes};
+
+impl Wire {
+    /// Takes the outcome of the last order, and the status of the session behind it: `I`, `T` or
+    /// `E`.
+    pub fn answer(&mut self, config: &Config, outcome: Outcome, status: u8) -> Result<(), NoMemory>
+        requires range { MayAnswer outcome }
+        // What is told, by what the order was for.
+        ensures says { (due : _) → (shown self.old).due ≡ Some due
+            → OnOk result (Says due outcome status (shown self.old) (shown self.new)) }
+        ensures status { (due : _) → (shown self.old).due ≡ Some due
+            → OnOk result ((shown self.new).session.status ≡ status) }
+        ensures implicit { (due : _) → (shown self.old).due ≡ Some due
+            → OnOk result ((shown self.new).session.implicit
+            ≡ implicit_after (shown self.old).session.implicit outcome status) }
+        ensures skips { (due : _) → (shown self.old).due ≡ Some due
+            → OnOk result ((shown self.new).session.skipping
+            ≡ skips due outcome (shown self.old).session.skipping) }
+        // Portals end with their block, and outside one with Settle.
+        ensures ended { (due : _) → (shown self.old).due ≡ Some due → ends_block outcome ≡ true
+            → OnOk result (HasNone (shown self.new).session.portals) }
+        ensures settled { (shown self.old).due ≡ Some dues.Settle → status ≡ 73
+            → OnOk result (HasNone (shown self.new).session.portals) }
+        // The order has its outcome; without one that waits for it nothing is done.
+        ensures gone { (shown self.new).due ≡ None }
+        ensures none { (shown self.old).due ≡ None → shown self.new ≡ shown self.old }
+
+        // The end of a block, and a Settle, take no memory where there is room for them.
+        ensures commit { (due : _) → (shown self.old).due ≡ Some due
+            → IsTrue (ends_now due outcome) → HasRoom self.old.output → IsOk result }
+    {
+        match self.due.take() {
+            None => {
+                drop(outcome);
+                Ok(())
+            }
+            Some(due) => {
+                self.told(config, due, outcome, status)?;
+                Ok(())
+            }
+        }
+    }
+
+    fn told(
+        &mut self,
+        config: &Config,
+        due: Due,
+        outcome: Outcome,
+        status: u8,
+    ) -> Result<(), NoMemory>
+        requires range { MayAnswer outcome }
+        ensures says { OnOk result (Says due outcome status (shown self.old) (shown self.new)) }
+        ensures status { OnOk result (self.new.session.status ≡ status) }
+        ensures implicit { OnOk result (self.new.session.implicit
+            ≡ implicit_after self.old.session.implicit outcome status) }
+        ensures skips { OnOk result (self.new.session.skipping
+            ≡ skips due outcome self.old.session.skipping) }
+        ensures due { self.new.due ≡ self.old.due }
+        ensures ended { ends_block outcome ≡ true → OnOk result (HasNone self.new.session.portals) }
+        ensures settled { due ≡ dues.Settle → status ≡ 73
+            → OnOk result (HasNone self.new.session.portals) }
+        ensures commit { IsTrue (ends_now due outcome) → HasRoom self.old.output → IsOk result }
+    {
+        let implicit = implicit_after(self.session.implicit, &outcome, status);
+        let ends = ends_block(&outcome);
+        self.say(config, due, outcome, status)?;
+        self.turn(implicit, status, ends);
+        Ok(())
+    }
+
+    /// Where the session stands behind an outcome. Where a block ended no portal is left.
+    fn turn(&mut self, implicit: bool, status: u8, ends: bool)
+        ensures status { self.new.session.status ≡ status }
+        ensures implicit { self.new.session.implicit ≡ implicit }
+        ensures skipping { self.new.session.skipping ≡ self.old.session.skipping }
+        ensures output { self.new.output ≡ self.old.output }
+        ensures due { self.new.due ≡ self.old.due }
+        ensures ended { ends ≡ true → HasNone self.new.session.portals }
+        ensures kept { HasNone self.old.session.portals → HasNone self.new.session.portals }
+    {
+        self.session.implicit = implicit;
+        self.session.status = status;
+        if ends {
+            self.session.portals.clear();
+        }
+    }
+
+    fn say(
+        &mut self,
+        config: &Config,
+        due: Due,
+        outcome: Outcome,
+        status: u8,
+    ) -> Result<(), NoMemory>
+        requires range { MayAnswer outcome }
+        ensures says { OnOk result (Says due outcome status (shown self.old) (shown self.new)) }
+        ensures skips { OnOk result (self.new.session.skipping
+            ≡ skips due outcome self.old.session.skipping) }
+        ensures due { self.new.due ≡ self.old.due }
+        ensures settled { due ≡ dues.Settle → status ≡ 73
+            → OnOk result (HasNone self.new.session.portals) }
+        ensures commit { IsTrue (ends_now due outcome) → HasRoom self.old.output → IsOk result }
+    {
+        match due {
+            Due::Statement { description, last } => {
+                self.statement(config, description, last, outcome)?;
+                Ok(())
+            }
+            Due::Refused { code, saying, last } => {
+                self.refused(code, saying, last, outcome)?;
+                Ok(())
+            }
+            Due::Declined { code, saying } => {
+                self.refused(code, saying, false, outcome)?;
+                self.session.skipping = true;
+                Ok(())
+            }
+            Due::Execute { portal, limit } => {
+                self.executed(portal, limit, outcome)?;
+                Ok(())
+            }
+            Due::Settle => {
+                self.settled(outcome, status)?;
+                Ok(())
+            }
+        }
+    }
+
+    /// The outcome of a statement of a Query. An error ends the text.
+    fn statement(
+        &mut self,
+        config: &Config,
+        description: List<u8>,
+        last: bool,
+        outcome: Outcome,
+    ) -> Result<(), NoMemory>
+        requires range { MayAnswer outcome }
+        ensures says { OnOk result (SaysStatement description last outcome (shown self.old)
+            (shown self.new)) }
+        ensures session { self.new.session ≡ self.old.session }
+        ensures due { self.new.due ≡ self.old.due }
+        ensures commit { IsTrue (ends_now (dues.Statement description last) outcome)
+            → HasRoom self.old.output → IsOk result }
+    {
+        match outcome {
+            Outcome::Rows { rows, tag } => {
+                self.rows(description, rows.as_slice(), tag, last)?;
+                Ok(())
+            }
+            Outcome::Done { tag, warning } => {
+                self.output.put_done(self.alloc, last, tag, warning)?;
+                Ok(())
+            }
+            Outcome::Nodes(attached) => {
+                self.nodes(config, attached, last)?;
+                Ok(())
+            }
+            Outcome::Error { code, name } => {
+                drop(name);
+                self.at = self.text.len();
+                self.output.put_error(last, code, of_backend(code), &[])?;
+                Ok(())
+            }
+            Outcome::Settled => {
+                self.output.put(last, &[])?;
+                Ok(())
+            }
+        }
+    }
+
+    /// The rows of a statement of a Query behind their description, and its tag.
+    fn rows(
+        &mut self,
+        description: List<u8>,
+        rows: &[Row],
+        tag: Tag,
+        last: bool,
+    ) -> Result<(), NoMemory>
+        requires range { AreInRange rows.now }
+        ensures says { OnOk result (SaysStatement description last (Rows rows.now tag)
+            (shown self.old) (shown self.new)) }
+        ensures session { self.new.session ≡ self.old.session }
+        ensures due { self.new.due ≡ self.old.due }
+    {
+        let bytes = rows_bytes(self.alloc, rows, &[])?;
+        self.output.put(last, description.as_slice())?;
+        self.output.put(last, bytes.as_slice())?;
+        self.output.put_done(self.alloc, last, tag, None)?;
+        Ok(())
+    }
+
+    /// The rows of SHOW pool_nodes.
+    fn nodes(&mut self, config: &Config, attached: BackendSet, last: bool) -> Result<(), NoMemory>
+        ensures says { OnOk result ((description : _) → SaysStatement description last
+            (Nodes attached) (shown self.old) (shown self.new)) }
+        ensures session { self.new.session ≡ self.old.session }
+        ensures due { self.new.due ≡ self.old.due }
+    {
+        let bytes = nodes_bytes(self.alloc, config, attached)?;
+        self.output.put(last, bytes.as_slice())?;
+        self.output.put_done(self.alloc, last, Tag::Show, None)?;
+        Ok(())
+    }
+
+    /// The outcome of a refusal: the code that was refused has the text of its cause.
+    fn refused(
+        &mut self,
+        asked: Code,
+        saying: Saying,
+        last: bool,
+        outcome: Outcome,
+    ) -> Result<(), NoMemory>
+        requires range { MayAnswer outcome }
+        ensures says { OnOk result (SaysRefused asked saying last outcome (shown self.old)
+            (shown self.new)) }
+        ensures session { self.new.session ≡ self.old.session }
+        ensures due { self.new.due ≡ self.old.due }
+    {
+        match outcome {
+            Outcome::Error { code, name } => {
+                self.report_refused(asked, saying, last, code, name)?;
+                Ok(())
+            }
+            other => {
+                drop(other);
+                self.output.put(last, &[])?;
+                Ok(())
+            }
+        }
+    }
+
+    fn report_refused(
+        &mut self,
+        asked: Code,
+        saying: Saying,
+        last: bool,
+        code: Code,
+        name: Text,
+    ) -> Result<(), NoMemory>
+        requires short { length name ≤ 1000 }
+        ensures says { OnOk result (SaysRefused asked saying last (Failed code name)
+            (shown self.old) (shown self.new)) }
+        ensures session { self.new.session ≡ self.old.session }
+        ensures due { self.new.due ≡ self.old.due }
+    {
+        let saying = saying_of(asked, saying, code);
+        self.output.put_error(last, code, saying, name.as_bytes())?;
+        Ok(())
+    }
+
+    /// The outcome of an Execute. After an error messages are dropped up to the next Sync.
+    fn executed(&mut self, portal: List<u8>, limit: i32, outcome: Outcome) -> Result<(), NoMemory>
+        requires range { MayAnswer outcome }
+        ensures says { OnOk result (SaysExecute outcome (shown self.old) (shown self.new)) }
+        ensures skips { OnOk result (self.new.session.skipping
+            ≡ skips (dues.Execute portal limit) outcome self.old.session.skipping) }
+        ensures due { self.new.due ≡ self.old.due }
+        ensures commit { IsTrue (ends_now (dues.Execute portal limit) outcome)
+            → HasRoom self.old.output → IsOk result }
+    {
+        match outcome {
+            Outcome::Rows { rows, tag: _ } => {
+                self.first_rows(portal, limit, rows.as_slice())?;
+                Ok(())
+            }
+            Outcome::Done { tag, warning } => {
+                self.output.put_done(self.alloc, false, tag, warning)?;
+                Ok(())
+            }
+            Outcome::Error { code, name } => {
+                drop(name);
+                self.output.put_error(false, code, of_backend(code), &[])?;
+                self.session.skipping = true;
+                Ok(())
+            }
+            Outcome::Settled | Outcome::Nodes(_) => {
+                self.output.put(false, &[])?;
+                Ok(())
+            }
+        }
+    }
+
+    fn first_rows(&mut self, portal: List<u8>, limit: i32, rows: &[Row]) -> Result<(), NoMemory>
+        requires range { AreInRange rows.now }
+        ensures says { OnOk result ((tag : _) → SaysExecute (Rows rows.now tag) (shown self.old)
+            (shown self.new)) }
+        ensures skipping { self.new.session.skipping ≡ self.old.session.skipping }
+        ensures due { self.new.due ≡ self.old.due }
+    {
+        let alloc = self.alloc;
+        let Some(portal) = self.session.portals.get_mut(portal.as_slice()) else {
+            self.output.put(false, &[])?;
+            return Ok(());
+        };
+        keep_rows(alloc, portal, rows)?;
+        let (bytes, count) = next_rows(alloc, portal, limit)?;
+        advance(portal, count);
+        self.output.put(false, bytes.as_slice())?;
+        Ok(())
+    }
+
+    /// The outcome of a Settle: the reply that waited, or an error in its place, and the end of the
+    /// answer. Outside a block no portal is left.
+    fn settled(&mut self, outcome: Outcome, status: u8) -> Result<(), NoMemory>
+        ensures says { OnOk result (Says dues.Settle outcome status (shown self.old)
+            (shown self.new)) }
+        ensures skipping { self.new.session.skipping ≡ self.old.session.skipping }
+        ensures due { self.new.due ≡ self.old.due }
+        ensures settled { status ≡ 73 → OnOk result (HasNone self.new.session.portals) }
+        ensures commit { HasRoom self.old.output → IsOk result }
+    {
+        let error = code_of(&outcome);
+        drop(outcome);
+        self.output.settle(error, status)?;
+        if status != b'I' {
+            return Ok(());
+        }
+        self.session.portals.clear();
+        Ok(())
+    }
+}
+
+/// What is said of the code of an outcome of a refusal.
+fn saying_of(asked: Code, saying: Saying, code: Code) -> Saying
+    ensures { result ≡ saying_of asked.bytes saying code.bytes }
+{
+    if code.bytes == asked.bytes {
+        saying
+    } else {
+        of_backend(code)
+    }
+}
+
+/// The code of an error.
+fn code_of(outcome: &Outcome) -> Option<Code>
+    ensures { result ≡ code_of outcome.now }
+{
+    match outcome {
+        Outcome::Error { code, .. } => Some(*code),
+        Outcome::Rows { .. } | Outcome::Done { .. } | Outcome::Settled | Outcome::Nodes(_) => None,
+    }
+}
+
+/// Whether a transaction is live behind an outcome that no block began.
+fn implicit_after(before: bool, outcome: &Outcome, status: u8) -> bool
+    ensures { result ≡ implicit_after before outcome.now status }
+{
+    match outcome {
+        Outcome::Nodes(_) => before,
+        Outcome::Error { .. } | Outcome::Settled => false,
+        Outcome::Rows { .. } => status == b'I',
+        Outcome::Done { tag, .. } => match tag {
+            Tag::Insert(_) | Tag::Update(_) | Tag::Delete(_) | Tag::Select(_) => status == b'I',
+            Tag::Begin | Tag::Commit | Tag::Rollback | Tag::Show | Tag::Recover => false,
+        },
+    }
+}
+
+/// Whether a block was ended.
+fn ends_block(outcome: &Outcome) -> bool
+    ensures { result ≡ ends_block outcome.now }
+{
+    match outcome {
+        Outcome::Done { tag, .. } => match tag {
+            Tag::Commit | Tag::Rollback => true,
+            Tag::Insert(_) | Tag::Update(_) | Tag::Delete(_) | Tag::Select(_) => false,
+            Tag::Begin | Tag::Show | Tag::Recover => false,
+        },
+        Outcome::Rows { .. } | Outcome::Error { .. } | Outcome::Settled | Outcome::Nodes(_) => {
+            false
+        }
+    }
+}

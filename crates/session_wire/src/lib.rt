@@ -1,0 +1,16 @@
+//! A session's client: its bytes, in whatever pieces they come, to orders, and outcomes to bytes.
+#![tactic(auto)]
+
+mod answering;
+mod asking;
+mod due;
+mod extended;
+mod input;
+mod laws;
+mod messages;
+mod nodes;
+mod output;
+mod wire;
+
+pub use laws::pieces_are_one;
+pub use wire::{Wire, WireStep};

@@ -1,0 +1,4 @@
+pub mod Binding
+pub mod Parsing
+pub mod Describing
+pub mod Executing

@@ -1,0 +1,134 @@
+//! What a statement of a Query asks for.
+ghost use Rattle.std.specs.Prelude.{[], codes, IfOk};
+ghost use Rattle.schema.specs.Grammar.{IsWithin};
+ghost use Rattle.catalogue.specs.Checking.{IsChecked};
+ghost use Rattle.wire_reply.specs.declared.saying.Saying.TheVariants.{Aborted};
+ghost use Rattle.wire_session.specs.Refusals.{Says, IsNotTaken};
+ghost use Rattle.wire_query.specs.Asking.{IsOrder, IsRefused, IsBarred, IsStatement, AsksControl, AsksWork, Asks, Describes};
+
+use crate::checking::{Verdict, judged};
+use catalogue::{Catalogue, Checked, ColumnDesc};
+use pool_base::{Boxed, Code, List, NoMemory};
+use sql_tree::Statement;
+use std::alloc::Global;
+use wire_orders::OrderBody;
+use wire_reply::{Saying, description_bytes};
+use wire_session::{Refusal, not_in_profile, refused};
+
+/// What a statement asks for.
+#[derive(Drop)]
+pub enum Asked {
+    /// It is ordered; the description of its rows is this message, or it has none.
+    Order {
+        body: OrderBody,
+        description: List<u8>,
+    },
+    Refused(Refusal),
+}
+
+/// In a failed block nothing is taken but its end.
+pub fn aborted(alloc: Global) -> Result<Refusal, NoMemory>
+    ensures { IfOk result (Says Aborted (codes "25P02") []) }
+{
+    refused(alloc, Saying::Aborted, Code { bytes: *b"25P02" })
+}
+
+fn barred(alloc: Global) -> Result<Asked, NoMemory>
+    ensures { IfOk result IsBarred }
+{
+    Ok(Asked::Refused(aborted(alloc)?))
+}
+
+fn plain(alloc: Global, body: OrderBody) -> Asked
+    ensures { IsOrder body result }
+{
+    Asked::Order {
+        body,
+        description: List::new(alloc),
+    }
+}
+
+/// A block does not begin or end in a transaction that no block began.
+fn control(alloc: Global, implicit: bool, body: OrderBody) -> Result<Asked, NoMemory>
+    ensures { IfOk result (AsksControl implicit body) }
+{
+    if implicit {
+        drop(body);
+        let refusal = not_in_profile(alloc, "transaction control in an implicit transaction")?;
+        return Ok(Asked::Refused(refusal));
+    }
+    Ok(plain(alloc, body))
+}
+
+fn description_of(alloc: Global, columns: &[ColumnDesc]) -> Result<List<u8>, NoMemory>
+    ensures { IfOk result (Describes columns.now) }
+{
+    match columns {
+        [] => Ok(List::new(alloc)),
+        [_, ..] => {
+            let bytes = description_bytes(alloc, columns, &[])?;
+            Ok(bytes)
+        }
+    }
+}
+
+fn ordered(alloc: Global, checked: Boxed<Checked>) -> Result<Asked, NoMemory>
+    ensures { IfOk result (IsStatement checked) }
+{
+    match description_of(alloc, checked.get().columns.as_slice()) {
+        Ok(description) => Ok(Asked::Order {
+            body: OrderBody::Statement(checked),
+            description,
+        }),
+        Err(NoMemory) => {
+            drop(checked);
+            Err(NoMemory)
+        }
+    }
+}
+
+fn work(alloc: Global, tables: &Catalogue, statement: &Statement) -> Result<Asked, NoMemory>
+    requires within { IsWithin tables.now }
+    requires one { IsChecked statement.now }
+    ensures { IfOk result (AsksWork tables.now statement.now) }
+{
+    match judged(alloc, tables, statement, None)? {
+        Verdict::Taken(checked) => ordered(alloc, checked),
+        Verdict::Refused(refusal) => Ok(Asked::Refused(refusal)),
+    }
+}
+
+fn no_recovery(alloc: Global) -> Result<Asked, NoMemory>
+    ensures { IfOk result (IsRefused (IsNotTaken (codes "recover"))) }
+{
+    Ok(Asked::Refused(not_in_profile(alloc, "recover")?))
+}
+
+/// What a statement of a Query asks for, in a failed block or not, and in a transaction that no
+/// block began or not.
+///
+/// Errors: `25P02` in a failed block, but for a statement that ends it; then what the tables say.
+/// House rule: a block neither begins nor ends in a transaction that no block began.
+pub fn ask(
+    alloc: Global,
+    tables: &Catalogue,
+    statement: &Statement,
+    failed: bool,
+    implicit: bool,
+) -> Result<Asked, NoMemory>
+    requires within { IsWithin tables.now }
+    ensures { IfOk result (Asks tables.now failed implicit statement.now) }
+{
+    match statement {
+        Statement::Commit => control(alloc, implicit, OrderBody::Commit),
+        Statement::Rollback => control(alloc, implicit, OrderBody::Rollback),
+        _ if failed => barred(alloc),
+        Statement::Begin => control(alloc, implicit, OrderBody::Begin),
+        Statement::ShowNodes => Ok(plain(alloc, OrderBody::ShowNodes)),
+        Statement::Recover(_) => no_recovery(alloc),
+        Statement::Select(_) => work(alloc, tables, statement),
+        Statement::Insert(_) => work(alloc, tables, statement),
+        Statement::Update(_) => work(alloc, tables, statement),
+        Statement::Delete(_) => work(alloc, tables, statement),
+    }
+}

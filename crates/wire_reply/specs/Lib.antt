@@ -1,0 +1,5 @@
+pub mod Sayings
+pub mod Codes
+pub mod Replies
+pub mod Tags
+pub mod Rows
