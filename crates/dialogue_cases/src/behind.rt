@@ -6,8 +6,8 @@ use crate::given::{code_of, error_of, nodes_of, outcome_of};
 use case_lines::Told;
 use catalogue::Checked;
 use pool_base::{Code, Text};
+use session_orders::{OrderBody, Outcome, Tag};
 use std::alloc::Global;
-use wire_orders::{OrderBody, Outcome, Tag};
 
 /// A session: its status, how many of the given outcomes were taken, and whether it is over.
 #[derive(Drop)]

@@ -7,8 +7,9 @@ ghost use Rattle.session_wire.specs.Answers.{MayAnswer};
 use catalogue::{Checked, ColumnDesc};
 use pg_values::{ColType, Value, from_text};
 use pool_base::{BackendId, BackendSet, Code, List, Text};
+use session_orders::{Outcome, Tag};
+use sql_eval::Row;
 use std::alloc::Global;
-use wire_orders::{Outcome, Row, Tag};
 
 /// A value by its text, or Null for `null`, and where the text is none of the type.
 fn value_of(alloc: Global, kind: ColType, text: &str) -> Value

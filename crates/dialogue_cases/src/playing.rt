@@ -6,9 +6,9 @@ use crate::shown::{put_next, put_order, put_replies};
 use case_lines::Told;
 use catalogue::Catalogue;
 use pool_config::Config;
+use session_orders::{Order, OrderBody};
 use session_wire::{Wire, WireStep};
 use std::alloc::Global;
-use wire_orders::{Order, OrderBody};
 
 /// What an order is answered over: the tables, the configuration, and the outcomes that are given.
 #[derive(Clone, Copy)]
@@ -44,7 +44,7 @@ fn step(alloc: Global, world: World, wire: &mut Wire, behind: &mut Behind, told:
     let next = wire.next(world.tables, 0);
     put_output(alloc, wire, told);
     match next {
-        Ok(WireStep::NeedInput) => false,
+        Ok(WireStep::NeedInput | WireStep::NeedOutcome) => false,
         Ok(WireStep::Close { refused }) => {
             put_next(told);
             told.put(if refused { "closed, refused" } else { "closed" });

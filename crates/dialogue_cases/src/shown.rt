@@ -5,8 +5,8 @@ use checked_print::print_checked;
 use pg_messages::{Read, ServerMessage, read_server};
 use pgproto::render;
 use pool_base::{Code, SessionId};
+use session_orders::OrderBody;
 use std::alloc::Global;
-use wire_orders::OrderBody;
 
 /// Puts what stands between two orders or replies.
 pub(crate) fn put_next(told: &mut Told) {

@@ -8,12 +8,13 @@ use Rattle.catalogue.specs.declared.checked.TypedCell.{TypedCell}
 use Rattle.catalogue.specs.declared.checked.TypedCell.TheVariants as cells
 use Rattle.classifier.specs.Classes.{is_serial, has_serial, tables_mask}
 use Rattle.time_rewrite.specs.Rewriting.{cell_at, body_at}
-use Rattle.session_machine.specs.declared.order.Class.{Class}
-use Rattle.session_machine.specs.declared.order.Class.TheVariants as classes
-use Rattle.session_machine.specs.declared.order.Verb.TheVariants as verbs
-use Rattle.session_machine.specs.declared.order.Work.{Work}
-use Rattle.session_machine.specs.Classes.{class_in, same_class, is_classed}
+use Rattle.session_machine.specs.declared.work.Class.{Class}
+use Rattle.session_machine.specs.declared.work.Class.TheVariants as classes
+use Rattle.session_machine.specs.declared.work.Verb.TheVariants as verbs
+use Rattle.session_machine.specs.declared.work.Work.{Work}
+use Rattle.session_machine.specs.Classes.{class_in}
 use Rattle.session_machine.specs.Rules.{work_at}
+use Rattle.session_engine.specs.Sound.{same_class, is_classed}
 
 cell_serial : (moment : ℤ) (cell : TypedCell) → is_serial (cell_at moment cell) ≡ is_serial cell
 cell_serial moment cells.Serial = refl

@@ -7,8 +7,8 @@ use Rattle.pool_base.specs.declared.backend_id.BackendId.{BackendId}
 use Rattle.pool_base.specs.declared.gate_call.GateAnswer.{GateAnswer}
 use Rattle.backend_trait.specs.declared.request.Request.{Request}
 use Rattle.backend_trait.specs.declared.answer.Answer.{Answer}
-use Rattle.session_machine.specs.declared.order.Order.{Order}
-use Rattle.session_machine.specs.declared.order.OrderBody.TheVariants as orders
+use Rattle.session_orders.specs.declared.order.Order.{Order}
+use Rattle.session_orders.specs.declared.order.OrderBody.TheVariants as orders
 use Rattle.session_machine.specs.declared.action.Action.{Action}
 use Rattle.session_machine.specs.declared.action.Action.TheVariants as actions
 use Rattle.session_machine.specs.declared.action.SessionEvent.TheVariants as events
@@ -17,12 +17,12 @@ use Rattle.session_machine.specs.declared.machine.Machine.{Machine}
 use Rattle.session_machine.specs.Rules.{due, action_at, left, ordered, posted, taken, faulted, after, after_at}
 use Rattle.session_engine.specs.declared.due.Due.{Due}
 use Rattle.session_engine.specs.declared.due.Due.TheVariants.{Resting, EnterDue, LookDue, PostDue, Waiting, LostDue, SplitDue, ChooseDue, ShowDue, LeaveSnapshotDue, UnwindDue, EnterCommitDue, LeaveCommitDue, FinishDue, ReplyDue, RowsDue, EndDue}
-use Rattle.session_engine.specs.Dues.{point_of, IsPosting, IsWaiting}
-use Rattle.session_engine.specs.Handing.{handed, gate_event, IsPost}
+use Rattle.session_engine.specs.Dues.{point_of, IsPosting, IsWaiting, IsParting, IsReplying, IsEnding}
+use Rattle.session_engine.specs.Handing.{gate_event, IsPost, IsDetach, IsReply}
 use Rattle.session_engine.specs.Sound.{IsSound, wants_memory, WantsCopies}
 use Rattle.session_engine.proofs.Ones.{few}
 use Rattle.session_engine.proofs.Soundness.{called_sound, detached_sound}
-use Rattle.session_engine.proofs.Events.{handed_too, copies_wanted}
+use Rattle.session_engine.proofs.Events.{copies_wanted}
 
 -- Where each event leads, by its rule.
 
@@ -97,6 +97,63 @@ waiting s (ReplyDue outcome) b waits = absurd (cc)
 waiting s (RowsDue best) b waits = absurd (cc)
 waiting s EndDue b waits = absurd (cc)
 
+pub parting : (s : Session) (d : Due) → IsDetach (action_at s (point_of s.heard d)) → IsParting d
+parting s Resting parts = parts
+parting s (EnterDue work) parts = parts
+parting s (LookDue stage) parts = parts
+parting s (PostDue stage asked) parts = parts
+parting s (Waiting stage asked) parts = parts
+parting s (LostDue stage asked before later) parts = tt
+parting s (SplitDue stage best own among more) parts = tt
+parting s (ChooseDue work) parts = parts
+parting s ShowDue parts = parts
+parting s (LeaveSnapshotDue work) parts = parts
+parting s (UnwindDue ending) parts = parts
+parting s EnterCommitDue parts = parts
+parting s (LeaveCommitDue ending) parts = parts
+parting s (FinishDue ending) parts = parts
+parting s (ReplyDue outcome) parts = parts
+parting s (RowsDue best) parts = parts
+parting s EndDue parts = parts
+
+pub replying : (s : Session) (d : Due) → IsReply (action_at s (point_of s.heard d)) → IsReplying d
+replying s Resting replies = replies
+replying s (EnterDue work) replies = replies
+replying s (LookDue stage) replies = replies
+replying s (PostDue stage asked) replies = replies
+replying s (Waiting stage asked) replies = replies
+replying s (LostDue stage asked before later) replies = replies
+replying s (SplitDue stage best own among more) replies = replies
+replying s (ChooseDue work) replies = replies
+replying s ShowDue replies = replies
+replying s (LeaveSnapshotDue work) replies = replies
+replying s (UnwindDue ending) replies = replies
+replying s EnterCommitDue replies = replies
+replying s (LeaveCommitDue ending) replies = replies
+replying s (FinishDue ending) replies = replies
+replying s (ReplyDue outcome) replies = tt
+replying s (RowsDue best) replies = tt
+replying s EndDue replies = replies
+
+pub is_ending : (s : Session) (d : Due) → action_at s (point_of s.heard d) ≡ actions.End → IsEnding d
+is_ending s Resting ends = absurd (cc)
+is_ending s (EnterDue work) ends = absurd (cc)
+is_ending s (LookDue stage) ends = absurd (cc)
+is_ending s (PostDue stage asked) ends = absurd (cc)
+is_ending s (Waiting stage asked) ends = absurd (cc)
+is_ending s (LostDue stage asked before later) ends = absurd (cc)
+is_ending s (SplitDue stage best own among more) ends = absurd (cc)
+is_ending s (ChooseDue work) ends = absurd (cc)
+is_ending s ShowDue ends = absurd (cc)
+is_ending s (LeaveSnapshotDue work) ends = absurd (cc)
+is_ending s (UnwindDue last) ends = absurd (cc)
+is_ending s EnterCommitDue ends = absurd (cc)
+is_ending s (LeaveCommitDue last) ends = absurd (cc)
+is_ending s (FinishDue last) ends = absurd (cc)
+is_ending s (ReplyDue outcome) ends = absurd (cc)
+is_ending s (RowsDue best) ends = absurd (cc)
+is_ending s EndDue ends = tt
+
 -- the backend that is asked has not answered: there is room for its answer
 room_at : (s : Session) (d : Due) → IsSound (due s (point_of s.heard d)) → IsWaiting d → length s.heard < 8
 room_at s (Waiting stage b) sound waits = few s.heard b sound.0 sound.1.0
@@ -120,32 +177,18 @@ room_at s EndDue sound waits = absurd waits
 pub room : (s : Session) (d : Due) (b : BackendId) → ∥ IsSound (due s (point_of s.heard d)) ∥₁ → action_at s (point_of s.heard d) ≡ actions.WaitFor b → length s.heard < 8
 room s d b sound waits = ∥∥₁_elim sound le_prop (λ is. room_at s d is (waiting s d b waits))
 
--- What is handed out.
+-- What is due wants memory.
 
 pub led : (m n : Machine) → n ≡ m → IsSound m → IsSound n
 led m n is sound = subst IsSound (sym is) sound
 
--- handed out or not
-pub handed_or_kept : {E : Type 0} (r : Result Action E) (m n : Machine) → OnOk r (n ≡ handed m) → OnErr r (n ≡ m) → IsSound m → IsSound n
-handed_or_kept (Ok action) m n given kept sound = led (handed m) n given (handed_too m sound)
-handed_or_kept (Err e) m n given kept sound = led m n kept sound
-
--- what is whole wants no memory
-pub not_wanted : {E : Type 0} (r : Result Action E) (m n : Machine) → m ≡ n → IfErr r (λ _. WantsCopies m.session.heard m.point) → (WantsCopies n.session.heard n.point → ⊥) → IfErr r (λ _. ⊥)
-not_wanted (Ok action) m n is wants whole = tt
-not_wanted (Err e) m n is wants whole = whole (subst (λ (x : Machine). WantsCopies x.session.heard x.point) is wants)
-
--- where none was wanted, nothing has to be shown of want of memory
-pub none_kept : {A E : Type 0} (r : Result A E) (P : Type 0) → IfErr r (λ _. ⊥) → OnErr r P
-none_kept (Ok x) P none = tt
-none_kept (Err e) P none = absurd none
-
-pub none_wanted : {A E : Type 0} (r : Result A E) (P : Type 0) → IfErr r (λ _. ⊥) → IfErr r (λ _. P)
-none_wanted (Ok x) P none = tt
-none_wanted (Err e) P none = absurd none
+-- an order is taken, or the session stands where it stood
+pub led_or_kept : {A E : Type 0} (P : Machine → Type 0) (r : Result A E) (m next n : Machine) → OnOk r (n ≡ next) → OnErr r (n ≡ m) → P next → P m → P n
+led_or_kept P (Ok x) m next n is kept there here = subst P (sym is) there
+led_or_kept P (Err e) m next n is kept there here = subst P (sym kept) here
 
 -- memory is wanted where a statement is posted, and where answers to a SELECT differ
-pub wanted : {E : Type 0} (r : Result Action E) (m : Machine) → ∥ IsSound m ∥₁ → IfErr r (λ _. WantsCopies m.session.heard m.point)
+pub wanted : {A E : Type 0} (r : Result A E) (m : Machine) → ∥ IsSound m ∥₁ → IfErr r (λ _. WantsCopies m.session.heard m.point)
     → IfErr r (λ _. wants_memory m.point ≡ true)
-wanted (Ok action) m sound wants = tt
+wanted (Ok x) m sound wants = tt
 wanted (Err e) m sound wants = ∥∥₁_elim sound (Bool-set _ _) (λ is. copies_wanted m.session m.point is wants)

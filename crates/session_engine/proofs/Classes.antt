@@ -1,11 +1,13 @@
--- Every event that may happen leads from a statement with its own class to one with its own.
-use Rattle.std.proofs.Common.{◌≡◌, ◌+◌, ◌==◌, ℕ, ℤ, Bool, true, false, List, [], ◌∷◌, Some, None, Result, Ok, Err, OnOk, OnErr, refl, sym, subst}
+-- Every event leads from a statement with its own class to one with its own.
+use Rattle.std.proofs.Common.{◌≡◌, ◌+◌, ◌==◌, ℕ, ℤ, Bool, true, false, List, [], ◌∷◌, Some, None, refl, sym, subst}
+use Rattle.std.proofs.lemmas.Bool.{and_from, eq-eqb}
 use Rattle.std.specs.Prelude.{Option, not, ◌&&◌, if◌then◌else◌}
 use Rattle.pool_base.specs.declared.code.Code.{Code}
 use Rattle.pool_base.specs.declared.backend_id.BackendId.{BackendId}
 use Rattle.pool_base.specs.declared.backend_set.BackendSet.{BackendSet}
 use Rattle.pool_base.specs.declared.gate_call.GateAnswer.{GateAnswer}
 use Rattle.pool_base.specs.declared.gate_call.GateAnswer.TheVariants.{Seen, Granted, Held, Spent}
+use Rattle.catalogue.specs.declared.checked.Checked.{Checked}
 use Rattle.catalogue.specs.declared.checked.CheckedBody.{CheckedBody}
 use Rattle.catalogue.specs.declared.checked.CheckedBody.TheVariants as body
 use Rattle.classifier.specs.Classes.{tables_mask}
@@ -13,14 +15,15 @@ use Rattle.backend_trait.specs.declared.request.Request.TheVariants as requests
 use Rattle.backend_trait.specs.declared.answer.Answer.{Answer}
 use Rattle.backend_trait.specs.declared.answer.Answer.TheVariants as answers
 use Rattle.write_path.specs.declared.kind.ChainKind.TheVariants.{All, StopAtRefusal}
-use Rattle.session_machine.specs.declared.order.Class.{Class}
-use Rattle.session_machine.specs.declared.order.Class.TheVariants as classes
-use Rattle.session_machine.specs.declared.order.Work.{Work}
-use Rattle.session_machine.specs.declared.order.OrderBody.{OrderBody}
-use Rattle.session_machine.specs.declared.order.OrderBody.TheVariants as orders
-use Rattle.session_machine.specs.declared.outcome.Tag.TheVariants as tags
-use Rattle.session_machine.specs.declared.outcome.Outcome.{Outcome}
-use Rattle.session_machine.specs.declared.outcome.Outcome.TheVariants as outcomes
+use Rattle.session_machine.specs.declared.work.Verb.TheVariants as verbs
+use Rattle.session_machine.specs.declared.work.Class.{Class}
+use Rattle.session_machine.specs.declared.work.Class.TheVariants as classes
+use Rattle.session_machine.specs.declared.work.Work.{Work}
+use Rattle.session_orders.specs.declared.order.OrderBody.{OrderBody}
+use Rattle.session_orders.specs.declared.order.OrderBody.TheVariants as orders
+use Rattle.session_orders.specs.declared.outcome.Tag.TheVariants as tags
+use Rattle.session_orders.specs.declared.outcome.Outcome.{Outcome}
+use Rattle.session_orders.specs.declared.outcome.Outcome.TheVariants as outcomes
 use Rattle.session_machine.specs.declared.status.Status.{Status}
 use Rattle.session_machine.specs.declared.status.Status.TheVariants.{Idle, InBlock, Failed}
 use Rattle.session_machine.specs.declared.action.Action.{Action}
@@ -38,11 +41,10 @@ use Rattle.session_machine.specs.declared.machine.Session.{Session}
 use Rattle.session_machine.specs.declared.machine.Machine.{Machine}
 use Rattle.session_machine.specs.Codes.{moment_out_of_range, counts_spent, no_backend}
 use Rattle.session_machine.specs.Answers.{next_of, kept, first_other, goes_on, counts, reader}
-use Rattle.session_machine.specs.Classes.{class_in, same_class, is_classed}
-use Rattle.session_machine.specs.Allowed.{is_resting, fits_at_rest, may_order}
+use Rattle.session_machine.specs.Classes.{class_in, work_in}
 use Rattle.session_machine.specs.Rules.{primary, ended, released, begun_at, begun_behind, failing, refused_at, refused, stranded, stranded_in, started_as, is_moment, work_at, entering, stated, stated_at, moment_at, block_begun, committing, block_committed, rolled_back, block_rolled_back, settled, leaving, left_in, left_lost, left, ordered, error_of, done_with, refusal_of, ran, opened, locked, closed, decided, split, judged, asked, reading_at, chosen, read, looked, looked_at, ticket_of, counted_read, first_chosen, shown, snapshot_entered, snapshot_left, commit_entered, in_phase, with_view, granted, called, stage_posted, posted, taken, faulted, lost_one, parted, parted_at, detached, after, after_at}
 use Rattle.session_engine.specs.Handing.{handed_at, handed, gate_event}
-use Rattle.session_engine.specs.Sound.{is_read, is_select, is_classed_at, is_classed_in}
+use Rattle.session_engine.specs.Sound.{is_read, is_select, same_class, is_classed, is_classed_at, is_classed_in}
 use Rattle.session_engine.proofs.AtMoment.{classed_at}
 
 abbrev Keeps : Machine → Type 0
@@ -113,6 +115,20 @@ started_as_keeps s work (classes.SerialInsert table) own =
     serial_inserts work.statement.body table (first_true (same_class (class_in work.statement.body) (classes.SerialInsert table)) (tables_mask work.statement.body == work.tables) own)
 
 -- Orders.
+
+-- a statement is taken with its own class and its own tables
+same_itself : (class : Class) → same_class class class ≡ true
+same_itself classes.Read = refl
+same_itself classes.LockingRead = refl
+same_itself (classes.Write verbs.Insert) = refl
+same_itself (classes.Write verbs.Update) = refl
+same_itself (classes.Write verbs.Delete) = refl
+same_itself (classes.SerialInsert table) = eq-eqb table table refl
+
+work_classed : (checked : Checked) → is_classed (work_in checked) ≡ true
+work_classed checked =
+    let tables = tables_mask checked.body in
+    and_from (same_class (class_in checked.body) (class_in checked.body)) (tables == tables) (same_itself (class_in checked.body)) (eq-eqb tables tables refl)
 
 entering_keeps : (s : Session) (phase : GatePhase) (work : Work) → is_classed work ≡ true → Keeps (entering s phase work)
 entering_keeps s Out work own = own
@@ -210,19 +226,17 @@ left_keeps s (FinishDue ending) = refl
 left_keeps s (ReplyDue outcome) = leaving_keeps s s.gate
 left_keeps s EndDue = leaving_keeps s s.gate
 
-pub ordered_keeps : (s : Session) (p : Point) (moment : ℤ) (body : OrderBody) → may_order s p body ≡ true → is_classed_in (ordered s p moment body).point ≡ true
+pub ordered_keeps : (s : Session) (p : Point) (moment : ℤ) (body : OrderBody) → is_classed_in (ordered s p moment body).point ≡ true
 unfolding ordered
-ordered_keeps s p moment (orders.Statement work) may =
-    stated_at_keeps s (moment_at s.status s.gate s.moment moment) work
-    (first_true (is_classed work) (fits_at_rest (is_resting p) s.status s.gate (orders.Statement work)) may)
-ordered_keeps s p moment orders.Begin may = block_begun_keeps s moment s.status
-ordered_keeps s p moment orders.Commit may = block_committed_keeps s s.status
-ordered_keeps s p moment orders.Rollback may = block_rolled_back_keeps s s.status
-ordered_keeps s p moment orders.Settle may = settled_keeps s s.status
-ordered_keeps s p moment orders.ShowNodes may = refl
-ordered_keeps s p moment (orders.Recover b) may = refl
-ordered_keeps s p moment (orders.Refuse code name) may = refused_keeps false s (outcomes.Error code name)
-ordered_keeps s p moment orders.Leave may = left_keeps s p
+ordered_keeps s p moment (orders.Statement checked) = stated_at_keeps s (moment_at s.status s.gate s.moment moment) (work_in checked) (work_classed checked)
+ordered_keeps s p moment orders.Begin = block_begun_keeps s moment s.status
+ordered_keeps s p moment orders.Commit = block_committed_keeps s s.status
+ordered_keeps s p moment orders.Rollback = block_rolled_back_keeps s s.status
+ordered_keeps s p moment orders.Settle = settled_keeps s s.status
+ordered_keeps s p moment orders.ShowNodes = refl
+ordered_keeps s p moment (orders.Recover b) = refl
+ordered_keeps s p moment (orders.Refuse code name) = refused_keeps false s (outcomes.Error code name)
+ordered_keeps s p moment orders.Leave = left_keeps s p
 
 -- Where a chain's end leads.
 
@@ -485,8 +499,3 @@ carried m n is own = subst Keeps (sym is) own
 
 pub handed_own : (m : Machine) → is_classed_in m.point ≡ true → is_classed_in (handed m).point ≡ true
 handed_own m own = handed_keeps m.session m.point own
-
--- handed out or not
-pub own_or_kept : {E : Type 0} (r : Result Action E) (m n : Machine) → OnOk r (n ≡ handed m) → OnErr r (n ≡ m) → is_classed_in m.point ≡ true → is_classed_in n.point ≡ true
-own_or_kept (Ok action) m n given kept own = carried (handed m) n given (handed_own m own)
-own_or_kept (Err e) m n given kept own = carried m n kept own

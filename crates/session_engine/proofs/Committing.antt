@@ -1,6 +1,6 @@
 -- A commit that is entered goes on to its reply or its end.
 use Rattle.std.proofs.Common.{◌≡◌, ◌⊎◌, ◌+◌, ℕ, Bool, true, false, Some, None, refl, sym, subst, inl, inr}
-use Rattle.std.specs.Prelude.{Option, ◌&&◌}
+use Rattle.std.specs.Prelude.{Option}
 use Rattle.pool_base.specs.declared.backend_id.BackendId.{BackendId}
 use Rattle.pool_base.specs.declared.backend_set.BackendSet.{BackendSet}
 use Rattle.pool_base.specs.declared.gate_call.View.{View}
@@ -10,9 +10,9 @@ use Rattle.pool_base.specs.declared.gate_call.GateAnswer.{GateAnswer}
 use Rattle.pool_base.specs.declared.gate_call.GateAnswer.TheVariants.{Seen, Granted, Held, Spent}
 use Rattle.backend_trait.specs.declared.answer.Answer.{Answer}
 use Rattle.write_path.specs.declared.kind.ChainKind.TheVariants.{All}
-use Rattle.session_machine.specs.declared.order.OrderBody.{OrderBody}
-use Rattle.session_machine.specs.declared.order.OrderBody.TheVariants as orders
-use Rattle.session_machine.specs.declared.outcome.Outcome.{Outcome}
+use Rattle.session_orders.specs.declared.order.OrderBody.{OrderBody}
+use Rattle.session_orders.specs.declared.order.OrderBody.TheVariants as orders
+use Rattle.session_orders.specs.declared.outcome.Outcome.{Outcome}
 use Rattle.session_machine.specs.declared.status.Status.{Status}
 use Rattle.session_machine.specs.declared.action.Action.TheVariants as actions
 use Rattle.session_machine.specs.declared.action.SessionEvent.{SessionEvent}
@@ -30,7 +30,6 @@ use Rattle.session_machine.specs.declared.machine.Session.{Session}
 use Rattle.session_machine.specs.declared.machine.Machine.{Machine}
 use Rattle.session_machine.specs.Allowed.{MayHappen, may_order, fits_at_rest, is_resting, may_leave, answers_call}
 use Rattle.session_machine.specs.Answers.{next_of, kept, first_other, goes_on}
-use Rattle.session_machine.specs.Classes.{is_classed}
 use Rattle.session_machine.specs.Rules.{due, action_at, primary, ended, decided, split, judged, asked, looked_at, commit_entered, with_view, in_phase, granted, called, stage_posted, posted, taken, faulted, lost_one, parted, parted_at, detached, after, after_at}
 use Rattle.session_engine.specs.Sound.{wants_memory}
 use Rattle.session_engine.specs.Committing.{IsOfCommit, IsCommitting, IsOver}
@@ -301,15 +300,9 @@ unfit : (t : Bool) (status : Status) (phase : GatePhase) (body : OrderBody) → 
 unfit false status phase body rests fits = cc
 unfit true status phase body rests fits = cc
 
-second_true : (t u : Bool) → (t && u) ≡ true → u ≡ true
-second_true true u e = e
-second_true false u e = absurd (cc)
-
 no_order : (s : Session) (p : Point) (body : OrderBody) → is_resting p ≡ false → may_leave p ≡ false → may_order s p body ≡ true → ⊥
 no_order s p orders.Leave rests leaves may = cc
-no_order s p (orders.Statement work) rests leaves may =
-    unfit (is_resting p) s.status s.gate (orders.Statement work) rests
-    (second_true (is_classed work) (fits_at_rest (is_resting p) s.status s.gate (orders.Statement work)) may)
+no_order s p (orders.Statement checked) rests leaves may = unfit (is_resting p) s.status s.gate (orders.Statement checked) rests may
 no_order s p orders.Begin rests leaves may = unfit (is_resting p) s.status s.gate orders.Begin rests may
 no_order s p orders.Commit rests leaves may = unfit (is_resting p) s.status s.gate orders.Commit rests may
 no_order s p orders.Rollback rests leaves may = unfit (is_resting p) s.status s.gate orders.Rollback rests may
@@ -359,7 +352,7 @@ no_end s EndDue on ends = on
 pub goes_on_at : (m : Machine) (event : SessionEvent) → IsCommitting m.point → MayHappen m event → Goes (after m event)
 unfolding after_at
 goes_on_at m (events.Ordered order) on may =
-    absurd (no_order m.session m.point order.body (not_resting m.point on) (not_leaving m.point on) may)
+    absurd (no_order m.session m.point order.body (not_resting m.point on) (not_leaving m.point on) may.0)
 goes_on_at m (events.Called call answer) on may = called_on m.session m.point call answer on may.0 may.1
 goes_on_at m (events.Posted b request) on may = posted_on m.session m.point on
 goes_on_at m (events.Taken b answer) on may = taken_on m.session b answer m.point on

@@ -1,8 +1,7 @@
 -- Where want of memory comes, a session may leave, but for a serial insert that is under way.
-use Rattle.std.proofs.Common.{◌≡◌, Bool, true, false, Result, Ok, Err, IfErr, OnErr, refl, sym, subst}
+use Rattle.std.proofs.Common.{◌≡◌, Bool, true, false, Result, Ok, Err, IfErr, refl}
 use Rattle.std.specs.Prelude.{not}
 use Rattle.backend_trait.specs.declared.request.Request.TheVariants as requests
-use Rattle.session_machine.specs.declared.action.Action.{Action}
 use Rattle.session_machine.specs.declared.machine.Stage.TheVariants.{Opening, Reading, Running, Locking, Inserting, Committing, Closing, RollingBack}
 use Rattle.session_machine.specs.declared.machine.Point.{Point}
 use Rattle.session_machine.specs.declared.machine.Point.TheVariants.{Resting, EnterDue, LookDue, PostDue, Waiting, LostDue, SplitDue, ChooseDue, ShowDue, LeaveSnapshotDue, UnwindDue, EnterCommitDue, LeaveCommitDue, FinishDue, ReplyDue, EndDue}
@@ -48,8 +47,7 @@ want_leaves (FinishDue ending) classed wants idle = absurd (cc)
 want_leaves (ReplyDue outcome) classed wants idle = absurd (cc)
 want_leaves EndDue classed wants idle = absurd (cc)
 
-pub want_may_leave : {E : Type 0} (r : Result Action E) (m n : Machine) → is_classed_in m.point ≡ true → IfErr r (λ _. wants_memory m.point ≡ true) → OnErr r (n ≡ m)
-    → IfErr r (λ _. is_serial_posted n.point ≡ false → may_leave n.point ≡ true)
-want_may_leave (Ok action) m n classed wants kept = tt
-want_may_leave (Err e) m n classed wants kept =
-    subst (λ (x : Machine). is_serial_posted x.point ≡ false → may_leave x.point ≡ true) (sym kept) (want_leaves m.point classed wants)
+pub want_may_leave : {A E : Type 0} (r : Result A E) (m : Machine) → is_classed_in m.point ≡ true → IfErr r (λ _. wants_memory m.point ≡ true)
+    → IfErr r (λ _. is_serial_posted m.point ≡ false → may_leave m.point ≡ true)
+want_may_leave (Ok x) m classed wants = tt
+want_may_leave (Err e) m classed wants = want_leaves m.point classed wants

@@ -5,7 +5,7 @@ use Rattle.std.specs.List.{slice_get}
 use Rattle.pool_base.specs.declared.backend_id.BackendId.{BackendId}
 use Rattle.backend_trait.specs.declared.answer.Answer.{Answer}
 use Rattle.backend_trait.specs.declared.answer.Answer.TheVariants as answers
-use Rattle.session_machine.specs.declared.order.Work.{Work}
+use Rattle.session_machine.specs.declared.work.Work.{Work}
 use Rattle.session_machine.specs.declared.machine.Heard.{Heard}
 use Rattle.session_machine.specs.declared.machine.Point.TheVariants.{Resting}
 use Rattle.session_machine.specs.declared.machine.Session.{Session}

@@ -1,8 +1,9 @@
 pub mod Ones
 pub mod Soundness
 pub mod Events
-pub mod Whole
 pub mod Calls
+pub mod Asking
+pub mod Testing
 pub mod Hands
 pub mod Committing
 pub mod Giving

@@ -11,14 +11,14 @@ use Rattle.backend_trait.specs.declared.answer.Answer.{Answer}
 use Rattle.backend_trait.specs.declared.answer.Answer.TheVariants as answers
 use Rattle.write_path.specs.declared.kind.ChainKind.{ChainKind}
 use Rattle.write_path.specs.declared.kind.ChainKind.TheVariants.{All, StopAtRefusal}
-use Rattle.session_machine.specs.declared.order.Class.{Class}
-use Rattle.session_machine.specs.declared.order.Class.TheVariants as classes
-use Rattle.session_machine.specs.declared.order.Work.{Work}
-use Rattle.session_machine.specs.declared.order.OrderBody.{OrderBody}
-use Rattle.session_machine.specs.declared.order.OrderBody.TheVariants as orders
-use Rattle.session_machine.specs.declared.outcome.Tag.TheVariants as tags
-use Rattle.session_machine.specs.declared.outcome.Outcome.{Outcome}
-use Rattle.session_machine.specs.declared.outcome.Outcome.TheVariants as outcomes
+use Rattle.session_machine.specs.declared.work.Class.{Class}
+use Rattle.session_machine.specs.declared.work.Class.TheVariants as classes
+use Rattle.session_machine.specs.declared.work.Work.{Work}
+use Rattle.session_orders.specs.declared.order.OrderBody.{OrderBody}
+use Rattle.session_orders.specs.declared.order.OrderBody.TheVariants as orders
+use Rattle.session_orders.specs.declared.outcome.Tag.TheVariants as tags
+use Rattle.session_orders.specs.declared.outcome.Outcome.{Outcome}
+use Rattle.session_orders.specs.declared.outcome.Outcome.TheVariants as outcomes
 use Rattle.session_machine.specs.declared.status.Status.{Status}
 use Rattle.session_machine.specs.declared.status.Status.TheVariants.{Idle, InBlock, Failed}
 use Rattle.session_machine.specs.declared.machine.GatePhase.{GatePhase}
@@ -32,6 +32,7 @@ use Rattle.session_machine.specs.declared.machine.Point.{Point}
 use Rattle.session_machine.specs.declared.machine.Point.TheVariants.{Resting, EnterDue, LookDue, PostDue, Waiting, LostDue, SplitDue, ChooseDue, ShowDue, LeaveSnapshotDue, UnwindDue, EnterCommitDue, LeaveCommitDue, FinishDue, ReplyDue, EndDue}
 use Rattle.session_machine.specs.declared.machine.Session.{Session}
 use Rattle.session_machine.specs.Codes.{moment_out_of_range, counts_spent, no_backend}
+use Rattle.session_machine.specs.Classes.{work_in}
 use Rattle.session_machine.specs.Answers.{has_answered, is_open, first_open, is_stopped, next_of, all_backends, lowest, kept, first_other, goes_on, counts, reader}
 use Rattle.session_machine.specs.Rules.{due, primary, ended, released, begun, begun_at, begun_behind, failing, refused_at, refused, stranded, stranded_in, started_as, rewritten, entering, stated, stated_at, moment_at, block_begun, idle, committing, block_committed, rolled_back, block_rolled_back, settled, leaving, left_in, left_lost, left, ordered, error_of, done_with, refusal_of, ran, opened, locked, closed, decided, split, judged, asked, reading_at, chosen, read, looked, looked_at, ticket_of, counted_read, first_chosen, shown, snapshot_entered, snapshot_left, commit_entered, in_phase, with_view, granted, called, lost_one, parted, parted_at, detached}
 use Rattle.session_machine.proofs.Backends.{found_passes}
@@ -188,7 +189,7 @@ left_sound s EndDue sound = leaving_sound s s.gate sound.0
 
 pub ordered_sound : (s : Session) (p : Point) (moment : ℤ) (body : OrderBody) → IsSound (due s p) → IsSound (ordered s p moment body)
 unfolding ordered
-ordered_sound s p moment (orders.Statement work) sound = stated_at_sound s (moment_at s.status s.gate s.moment moment) work sound.0
+ordered_sound s p moment (orders.Statement checked) sound = stated_at_sound s (moment_at s.status s.gate s.moment moment) (work_in checked) sound.0
 ordered_sound s p moment orders.Begin sound = block_begun_sound s moment s.status sound.0
 ordered_sound s p moment orders.Commit sound = block_committed_sound s s.status sound.0
 ordered_sound s p moment orders.Rollback sound = block_rolled_back_sound s s.status sound.0

@@ -1,19 +1,19 @@
 -- A tidied session is due what the session is due, may take the same events, and leads where it leads.
-use Rattle.std.proofs.Common.{◌≡◌, ℕ, ℤ, Bool, true, false, List, [], ◌∷◌, Some, None, refl, sym, ◌∙◌, ap, subst, ◌↔◌}
+use Rattle.std.proofs.Common.{◌≡◌, ℕ, ℤ, true, false, List, [], ◌∷◌, Some, None, refl, sym, ◌∙◌, ap, subst, ◌↔◌}
 use Rattle.std.specs.Prelude.{Option}
 use Rattle.pool_base.specs.declared.backend_id.BackendId.{BackendId}
 use Rattle.pool_base.specs.declared.gate_call.View.{View}
 use Rattle.pool_base.specs.declared.gate_call.GateAnswer.{GateAnswer}
 use Rattle.pool_base.specs.declared.gate_call.GateAnswer.TheVariants.{Seen, Granted, Held, Spent}
 use Rattle.backend_trait.specs.declared.answer.Answer.{Answer}
-use Rattle.session_machine.specs.declared.order.Class.{Class}
-use Rattle.session_machine.specs.declared.order.Class.TheVariants as classes
-use Rattle.session_machine.specs.declared.order.Work.{Work}
-use Rattle.session_machine.specs.declared.order.OrderBody.{OrderBody}
-use Rattle.session_machine.specs.declared.order.OrderBody.TheVariants as orders
-use Rattle.session_machine.specs.declared.outcome.Tag.TheVariants as tags
-use Rattle.session_machine.specs.declared.outcome.Outcome.{Outcome}
-use Rattle.session_machine.specs.declared.outcome.Outcome.TheVariants as outcomes
+use Rattle.session_machine.specs.declared.work.Class.{Class}
+use Rattle.session_machine.specs.declared.work.Class.TheVariants as classes
+use Rattle.session_machine.specs.declared.work.Work.{Work}
+use Rattle.session_orders.specs.declared.order.OrderBody.{OrderBody}
+use Rattle.session_orders.specs.declared.order.OrderBody.TheVariants as orders
+use Rattle.session_orders.specs.declared.outcome.Tag.TheVariants as tags
+use Rattle.session_orders.specs.declared.outcome.Outcome.{Outcome}
+use Rattle.session_orders.specs.declared.outcome.Outcome.TheVariants as outcomes
 use Rattle.session_machine.specs.declared.status.Status.{Status}
 use Rattle.session_machine.specs.declared.status.Status.TheVariants.{Idle, InBlock, Failed}
 use Rattle.session_machine.specs.declared.action.SessionEvent.{SessionEvent}
@@ -28,6 +28,7 @@ use Rattle.session_machine.specs.declared.machine.Session.{Session}
 use Rattle.session_machine.specs.declared.machine.Machine.{Machine}
 use Rattle.session_machine.specs.Allowed.{MayHappen, may_order}
 use Rattle.session_machine.specs.Codes.{moment_out_of_range, counts_spent, no_backend}
+use Rattle.session_machine.specs.Classes.{work_in}
 use Rattle.session_machine.specs.Answers.{reader}
 use Rattle.session_machine.specs.Rules.{due, new_machine, primary, action_at, next_action, posted, taken, faulted, ended, released, failing, refused_at, stranded, started_as, rewritten, entering, stated, stated_at, moment_at, block_begun, committing, block_committed, rolled_back, block_rolled_back, settled, leaving, left, ordered, error_of, done_with, reading_at, chosen, first_chosen, ticket_of, counted_read, shown, snapshot_entered, snapshot_left, commit_entered, with_view, in_phase, granted, called, parted_at, detached, after, after_at}
 use Rattle.session_engine.specs.Handing.{handed}
@@ -238,7 +239,8 @@ left_alike s EndDue = leaving_alike s s.gate
 
 ordered_alike : (s : Session) (p : Point) (moment : ℤ) (body : OrderBody) → Alike (ordered (tidied_at s p).session p moment body) (ordered s p moment body)
 unfolding ordered
-ordered_alike s p moment (orders.Statement work) =
+ordered_alike s p moment (orders.Statement checked) =
+    let work = work_in checked in
     session_same (λ (x : Session). Alike (stated_at x (moment_at x.status x.gate x.moment moment) work) (stated_at s (moment_at s.status s.gate s.moment moment) work)) s p refl
     (stated_at_alike s (moment_at s.status s.gate s.moment moment) work)
 ordered_alike s p moment orders.Begin =
@@ -427,7 +429,7 @@ actions_tidied m list =
 -- The same events may happen.
 
 may_order_bare : (s : Session) (p : Point) (body : OrderBody) → may_order (bare s) p body ≡ may_order s p body
-may_order_bare s p (orders.Statement work) = refl
+may_order_bare s p (orders.Statement checked) = refl
 may_order_bare s p orders.Begin = refl
 may_order_bare s p orders.Commit = refl
 may_order_bare s p orders.Rollback = refl
@@ -456,7 +458,7 @@ action_bare s (ReplyDue outcome) = refl
 action_bare s EndDue = refl
 
 bare_may : (s : Session) (p : Point) (event : SessionEvent) → MayHappen (due s p) event → MayHappen (due (bare s) p) event
-bare_may s p (events.Ordered order) may = subst (λ (t : Bool). t ≡ true) (sym (may_order_bare s p order.body)) may
+bare_may s p (events.Ordered order) may = (may_order_bare s p order.body ∙ may.0, may.1)
 bare_may s p (events.Called call answer) may = (action_bare s p ∙ may.0, may.1)
 bare_may s p (events.Posted b request) may = action_bare s p ∙ may
 bare_may s p (events.Taken b answer) may = (action_bare s p ∙ may.0, may.1)
@@ -467,7 +469,7 @@ bare_may s p (events.Replied outcome status) may = action_bare s p ∙ may
 bare_may s p events.Ended may = action_bare s p ∙ may
 
 may_bare : (s : Session) (p : Point) (event : SessionEvent) → MayHappen (due (bare s) p) event → MayHappen (due s p) event
-may_bare s p (events.Ordered order) may = subst (λ (t : Bool). t ≡ true) (may_order_bare s p order.body) may
+may_bare s p (events.Ordered order) may = (sym (may_order_bare s p order.body) ∙ may.0, may.1)
 may_bare s p (events.Called call answer) may = (sym (action_bare s p) ∙ may.0, may.1)
 may_bare s p (events.Posted b request) may = sym (action_bare s p) ∙ may
 may_bare s p (events.Taken b answer) may = (sym (action_bare s p) ∙ may.0, may.1)

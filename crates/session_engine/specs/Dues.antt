@@ -1,8 +1,8 @@
 -- What is due, in the words of the session machine.
 use Rattle.std.specs.Prelude.{List, length, ⊤}
-use Rattle.session_machine.specs.declared.outcome.Tag.TheVariants as tags
-use Rattle.session_machine.specs.declared.outcome.Outcome.{Outcome}
-use Rattle.session_machine.specs.declared.outcome.Outcome.TheVariants as outcomes
+use Rattle.session_orders.specs.declared.outcome.Tag.TheVariants as tags
+use Rattle.session_orders.specs.declared.outcome.Outcome.{Outcome}
+use Rattle.session_orders.specs.declared.outcome.Outcome.TheVariants as outcomes
 use Rattle.session_machine.specs.declared.machine.Heard.{Heard}
 use Rattle.session_machine.specs.declared.machine.Point.{Point}
 use Rattle.session_machine.specs.declared.machine.Point.TheVariants as points
@@ -35,32 +35,7 @@ point_of heard (ReplyDue outcome) = points.ReplyDue outcome
 point_of heard (RowsDue best) = points.ReplyDue (rows_reply (rows_in (heard_at heard best).answer))
 point_of heard EndDue = points.EndDue
 
--- it stays due until it has taken place; a reply and an end take place as they are handed out
-abbrev pub IsStanding : Due → Type 0
-IsStanding (ReplyDue outcome) = ⊥
-IsStanding (RowsDue best) = ⊥
-IsStanding EndDue = ⊥
-IsStanding Resting = ⊤
-IsStanding (EnterDue work) = ⊤
-IsStanding (LookDue stage) = ⊤
-IsStanding (PostDue stage b) = ⊤
-IsStanding (Waiting stage b) = ⊤
-IsStanding (LostDue stage b before after) = ⊤
-IsStanding (SplitDue stage best own among more) = ⊤
-IsStanding (ChooseDue work) = ⊤
-IsStanding ShowDue = ⊤
-IsStanding (LeaveSnapshotDue work) = ⊤
-IsStanding (UnwindDue ending) = ⊤
-IsStanding EnterCommitDue = ⊤
-IsStanding (LeaveCommitDue ending) = ⊤
-IsStanding (FinishDue ending) = ⊤
-
--- a reply and an end
-abbrev pub IsOnce : Due → Type 0
-IsOnce (ReplyDue outcome) = ⊤
-IsOnce (RowsDue best) = ⊤
-IsOnce EndDue = ⊤
-IsOnce due = ⊥
+-- the kinds of what is due
 
 abbrev pub IsPosting : Due → Type 0
 IsPosting (PostDue stage b) = ⊤
@@ -70,12 +45,16 @@ abbrev pub IsWaiting : Due → Type 0
 IsWaiting (Waiting stage b) = ⊤
 IsWaiting due = ⊥
 
--- where the way of a client that is gone leads
-abbrev pub IsLeaving : Due → Type 0
-IsLeaving (LookDue stage) = ⊤
-IsLeaving (LostDue stage b before after) = ⊤
-IsLeaving (UnwindDue ending) = ⊤
-IsLeaving (LeaveCommitDue ending) = ⊤
-IsLeaving (FinishDue ending) = ⊤
-IsLeaving EndDue = ⊤
-IsLeaving due = ⊥
+abbrev pub IsParting : Due → Type 0
+IsParting (LostDue stage b before after) = ⊤
+IsParting (SplitDue stage best own among more) = ⊤
+IsParting due = ⊥
+
+abbrev pub IsReplying : Due → Type 0
+IsReplying (ReplyDue outcome) = ⊤
+IsReplying (RowsDue best) = ⊤
+IsReplying due = ⊥
+
+abbrev pub IsEnding : Due → Type 0
+IsEnding EndDue = ⊤
+IsEnding due = ⊥

@@ -1,7 +1,9 @@
--- What a call hands out, and where it leaves the session.
-use Rattle.std.specs.Prelude.{[], ⊤}
+-- What is due of a session, by its kind and its parts; and where a reply or an end that is handed out leaves it.
+use Rattle.std.specs.Prelude.{◌≡◌, [], ⊤}
 use Rattle.pool_base.specs.declared.gate_call.GateCall.TheVariants as calls
 use Rattle.pool_base.specs.declared.gate_call.GateAnswer.{GateAnswer}
+use Rattle.backend_trait.specs.declared.request.Request.{Request}
+use Rattle.session_machine.specs.declared.action.Cause.{Cause}
 use Rattle.session_machine.specs.declared.action.Action.{Action}
 use Rattle.session_machine.specs.declared.action.Action.TheVariants as actions
 use Rattle.session_machine.specs.declared.action.SessionEvent.{SessionEvent}
@@ -11,6 +13,8 @@ use Rattle.session_machine.specs.declared.machine.Point.TheVariants.{Resting, En
 use Rattle.session_machine.specs.declared.machine.Session.{Session}
 use Rattle.session_machine.specs.declared.machine.Machine.{Machine}
 use Rattle.session_machine.specs.Rules.{due, new_machine}
+use Rattle.session_engine.specs.declared.ask.Ask.{Ask}
+use Rattle.session_engine.specs.declared.ask.Ask.TheVariants as asks
 
 -- A reply that is handed out is given: the session is at rest, and drops the answers of the chain behind it. An end that is
 -- handed out has taken place: its number has a new machine.
@@ -47,6 +51,33 @@ gate_event (actions.WaitFor b) answer = events.Called calls.Look answer
 gate_event (actions.Reply outcome status) answer = events.Called calls.Look answer
 gate_event actions.End answer = events.Called calls.Look answer
 
+-- what is due, without its large parts
+abbrev pub asked_of : Action → Ask
+asked_of actions.Rest = asks.Rest
+asked_of (actions.Gate call) = asks.Gate call
+asked_of (actions.Detach b cause) = asks.Detach b
+asked_of (actions.Post b request) = asks.Post b
+asked_of (actions.WaitFor b) = asks.WaitFor b
+asked_of (actions.Reply outcome status) = asks.Reply
+asked_of actions.End = asks.End
+
 abbrev pub IsPost : Action → Type 0
 IsPost (actions.Post b request) = ⊤
 IsPost action = ⊥
+
+abbrev pub IsDetach : Action → Type 0
+IsDetach (actions.Detach b cause) = ⊤
+IsDetach action = ⊥
+
+abbrev pub IsReply : Action → Type 0
+IsReply (actions.Reply outcome status) = ⊤
+IsReply action = ⊥
+
+-- what is due is the post of that request, and: the detachment of a backend for that cause
+abbrev pub Posts : Action → Request → Type 0
+Posts (actions.Post b asked) request = request ≡ asked
+Posts action request = ⊥
+
+abbrev pub Detaches : Action → Cause → Type 0
+Detaches (actions.Detach b asked) cause = cause ≡ asked
+Detaches action cause = ⊥

@@ -3,6 +3,7 @@ pub mod Dues
 pub mod Meaning
 pub mod Handing
 pub mod Sound
+pub mod Testing
 pub mod Tidying
 pub mod Committing
 pub mod Cores

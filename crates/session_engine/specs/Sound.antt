@@ -1,8 +1,9 @@
 -- What holds wherever a session stands: each backend has answered its chain once at most, the one that is asked has not
 -- answered, rows stand only among the answers to a SELECT, and the statement under way has its own class.
-use Rattle.std.specs.Prelude.{◌≡◌, Bool, true, false, ◌&&◌, not, List, [], ◌∷◌, ⊤}
+use Rattle.std.specs.Prelude.{◌≡◌, Bool, true, false, ◌&&◌, ◌==◌, not, List, [], ◌∷◌, ⊤}
 use Rattle.catalogue.specs.declared.checked.CheckedBody.{CheckedBody}
 use Rattle.catalogue.specs.declared.checked.CheckedBody.TheVariants as body
+use Rattle.classifier.specs.Classes.{tables_mask}
 use Rattle.backend_trait.specs.declared.request.Request.{Request}
 use Rattle.backend_trait.specs.declared.request.Request.TheVariants as requests
 use Rattle.backend_trait.specs.declared.answer.Answer.{Answer}
@@ -13,10 +14,13 @@ use Rattle.session_machine.specs.declared.machine.Stage.TheVariants.{Opening, Re
 use Rattle.session_machine.specs.declared.machine.Point.{Point}
 use Rattle.session_machine.specs.declared.machine.Point.TheVariants.{Resting, EnterDue, LookDue, PostDue, Waiting, LostDue, SplitDue, ChooseDue, ShowDue, LeaveSnapshotDue, UnwindDue, EnterCommitDue, LeaveCommitDue, FinishDue, ReplyDue, EndDue}
 use Rattle.session_machine.specs.declared.machine.Machine.{Machine}
-use Rattle.session_machine.specs.declared.order.OrderBody.{OrderBody}
-use Rattle.session_machine.specs.declared.order.OrderBody.TheVariants as orders
+use Rattle.session_orders.specs.declared.order.OrderBody.{OrderBody}
+use Rattle.session_orders.specs.declared.order.OrderBody.TheVariants as orders
 use Rattle.session_machine.specs.Rules.{request_of, is_run}
-use Rattle.session_machine.specs.Classes.{is_classed}
+use Rattle.session_machine.specs.declared.work.Class.{Class}
+use Rattle.session_machine.specs.declared.work.Work.{Work}
+use Rattle.session_machine.specs.contracts.work.ClassPartialEq.TheImpl as class_eq
+use Rattle.session_machine.specs.Classes.{class_in}
 use Rattle.session_machine.specs.Answers.{has_answered}
 
 -- no backend has answered twice
@@ -116,7 +120,7 @@ wants_memory (FinishDue ending) = false
 wants_memory (ReplyDue outcome) = false
 wants_memory EndDue = false
 
--- a call that hands out wants memory for the copy of a statement, and for copies where rows stand among the answers that differ
+-- a request wants memory for the copy of a statement, a cause where rows stand among the answers that differ
 abbrev pub WantsCopies : List Heard → Point → Type 0
 WantsCopies heard Resting = ⊥
 WantsCopies heard (EnterDue work) = ⊥
@@ -141,10 +145,16 @@ is_serial_posted (PostDue (Inserting work posted) b) = posted
 is_serial_posted point = false
 
 abbrev pub is_statement : OrderBody → Bool
-is_statement (orders.Statement work) = true
+is_statement (orders.Statement checked) = true
 is_statement order = false
 
--- The statement under way was ordered with its own class: so that of a serial insert is no SELECT.
+-- The statement under way has its own class and its own tables: so that of a serial insert is no SELECT.
+
+abbrev pub same_class : Class → Class → Bool
+same_class = (class_eq.ghosts).eq
+
+abbrev pub is_classed : Work → Bool
+is_classed work = same_class (class_in work.statement.body) work.class && (tables_mask work.statement.body == work.tables)
 
 abbrev pub is_classed_at : Stage → Bool
 is_classed_at (Opening work) = is_classed work

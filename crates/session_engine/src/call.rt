@@ -8,7 +8,8 @@ use crate::choice::other_at;
 use crate::due::Due;
 use crate::standing::Standing;
 use pool_base::{BackendId, BackendSet, GateAnswer};
-use session_machine::{GatePhase, Outcome, Stage, Work, counts_spent};
+use session_machine::{GatePhase, Stage, Work, counts_spent};
+use session_orders::Outcome;
 use std::mem;
 
 impl Standing {

@@ -1,7 +1,8 @@
 //! What is due of a session.
 
 use pool_base::{BackendId, BackendSet};
-use session_machine::{Ending, Outcome, Stage, Work};
+use session_machine::{Ending, Stage, Work};
+use session_orders::Outcome;
 
 /// What is due. The answers that it speaks of are named by their places in the chain.
 #[derive(Drop)]

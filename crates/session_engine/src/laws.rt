@@ -9,7 +9,7 @@ ghost use Rattle.session_machine.specs.declared.machine.Point.{Point};
 ghost use Rattle.session_machine.specs.declared.machine.Point.TheVariants as points;
 ghost use Rattle.session_machine.specs.declared.machine.Machine.{Machine};
 ghost use Rattle.session_machine.specs.declared.machine.Session.{Session};
-ghost use Rattle.session_machine.specs.declared.outcome.Outcome.{Outcome};
+ghost use Rattle.session_orders.specs.declared.outcome.Outcome.{Outcome};
 ghost use Rattle.session_machine.specs.declared.status.Status.{Status};
 ghost use Rattle.session_machine.specs.Allowed.{MayHappen};
 ghost use Rattle.session_machine.specs.Rules.{due, after, next_action};

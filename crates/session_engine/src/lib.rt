@@ -1,8 +1,9 @@
-//! The session machine that the product runs: each call takes what has taken place, and hands out
-//! what is due.
+//! The session machine that the product runs: each call takes what has taken place, and what is due
+//! is asked for.
 #![tactic(auto)]
 
 mod answers;
+mod ask;
 mod call;
 mod chain;
 mod choice;
@@ -10,11 +11,13 @@ mod due;
 mod event;
 mod hand;
 mod laws;
+mod may;
 mod order;
 mod session;
 mod standing;
 
 pub use answers::Answers;
+pub use ask::Ask;
 pub use due::Due;
 pub use laws::{commit_wants_nothing, unread_answers_are_dropped};
 pub use session::Core;

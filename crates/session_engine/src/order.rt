@@ -1,19 +1,21 @@
 //! Where an order leads.
 ghost use Rattle.std.specs.Prelude.{◌≡◌, true, IfErr, OnOk, OnErr};
 ghost use Rattle.session_engine.specs.Meaning.{heard_in, session_of, machine_of};
-ghost use Rattle.session_engine.specs.Dues.{point_of, IsLeaving};
+ghost use Rattle.session_engine.specs.Dues.{point_of};
 ghost use Rattle.session_engine.specs.Sound.{is_statement};
 
 use crate::due::Due;
 use crate::standing::Standing;
 use pool_base::{BackendId, NoMemory};
 use session_machine::{
-    Ending, GatePhase, Order, OrderBody, Outcome, Stage, Status, Tag, Work, done_with, in_a_block,
-    moment_out_of_range, outside_a_block, rewritten,
+    Ending, GatePhase, Stage, Status, Work, done_with, in_a_block, moment_out_of_range,
+    outside_a_block, rewritten, work_of,
 };
+use session_orders::{Order, OrderBody, Outcome, Tag};
 use std::mem;
 
 impl Standing {
+    ghost use Rattle.session_machine.specs.Allowed.{HasItsBit};
     ghost use Rattle.session_machine.specs.Rules.{moment_at, entering, stated_at, block_begun, committing, block_committed, rolled_back, block_rolled_back, settled, leaving, left_in, left_lost, left, ordered};
 
     /// The moment of the transaction.
@@ -162,8 +164,7 @@ impl Standing {
 
     /// The client is gone.
     fn leave(&mut self)
-        ensures is { machine_of self.new ≡ leaving (session_of self.old) self.old.gate }
-        ensures goes { IsLeaving self.new.due }
+        ensures { machine_of self.new ≡ leaving (session_of self.old) self.old.gate }
     {
         match self.gate {
             GatePhase::Out => self.owe(Due::EndDue),
@@ -176,8 +177,7 @@ impl Standing {
     }
 
     fn leave_in(&mut self, stage: Stage)
-        ensures is { machine_of self.new ≡ left_in (session_of self.old) stage }
-        ensures goes { IsLeaving self.new.due }
+        ensures { machine_of self.new ≡ left_in (session_of self.old) stage }
     {
         match stage {
             Stage::Opening(_)
@@ -195,8 +195,7 @@ impl Standing {
 
     /// A backend was lost, and is detached first.
     fn leave_lost(&mut self, stage: Stage, b: BackendId, before: u64, after: u64)
-        ensures is { machine_of self.new ≡ left_lost (session_of self.old) stage b before after }
-        ensures goes { IsLeaving self.new.due }
+        ensures { machine_of self.new ≡ left_lost (session_of self.old) stage b before after }
     {
         match stage {
             Stage::Opening(_)
@@ -214,9 +213,8 @@ impl Standing {
 
     #[tactic(auto, unfolding(session_machine::specs::Rules::left))]
     fn leave_at(&mut self, due: Due)
-        ensures is { machine_of self.new ≡ left (session_of self.old)
+        ensures { machine_of self.new ≡ left (session_of self.old)
             (point_of (heard_in self.old) due) }
-        ensures goes { IsLeaving self.new.due }
     {
         match due {
             Due::LookDue(stage)
@@ -253,9 +251,8 @@ impl Standing {
 
     /// The client is gone, whatever was due.
     pub(crate) fn left(&mut self)
-        ensures is { machine_of self.new ≡ left (session_of self.old)
+        ensures { machine_of self.new ≡ left (session_of self.old)
             (point_of (heard_in self.old) self.old.due) }
-        ensures goes { IsLeaving self.new.due }
     {
         let due = mem::replace(&mut self.due, Due::Resting);
         self.leave_at(due);
@@ -264,6 +261,7 @@ impl Standing {
     /// An order.
     #[tactic(auto, unfolding(session_machine::specs::Rules::ordered))]
     pub(crate) fn ordered(&mut self, order: Order) -> Result<(), NoMemory>
+        requires { HasItsBit order.body }
         ensures led { OnOk result (machine_of self.new ≡ ordered (session_of self.old)
             (point_of (heard_in self.old) self.old.due) order.moment order.body) }
         ensures as_before { OnErr result (machine_of self.new ≡ machine_of self.old) }
@@ -271,9 +269,9 @@ impl Standing {
     {
         let Order { moment, body } = order;
         match body {
-            OrderBody::Statement(work) => {
+            OrderBody::Statement(checked) => {
                 let moment = self.moment_at(moment);
-                self.state_at(moment, work)?;
+                self.state_at(moment, work_of(checked))?;
             }
             OrderBody::Begin => self.begin_block(moment),
             OrderBody::Commit => self.commit_block(),

@@ -8,8 +8,9 @@ use crate::answers::Answers;
 use crate::due::Due;
 use pool_base::{BackendId, BackendSet, Code, NoMemory, SessionId, Text, View};
 use session_machine::{
-    Class, Ending, GatePhase, Outcome, ReadPolicy, Stage, Status, Work, lowest, no_backend,
+    Class, Ending, GatePhase, ReadPolicy, Stage, Status, Work, lowest, no_backend,
 };
+use session_orders::Outcome;
 use std::alloc::Global;
 use std::mem;
 

@@ -1,14 +1,15 @@
 -- Which events may happen at a session.
-use Rattle.std.specs.Prelude.{◌≡◌, Bool, true, false, ◌&&◌}
+use Rattle.std.specs.Prelude.{◌≡◌, Bool, true, false, ⊤}
 use Rattle.pool_base.specs.Outside.{Rose}
 use Rattle.pool_base.specs.declared.gate_call.GateCall.{GateCall}
 use Rattle.pool_base.specs.declared.gate_call.GateCall.TheVariants as calls
 use Rattle.pool_base.specs.declared.gate_call.GateAnswer.{GateAnswer}
 use Rattle.pool_base.specs.declared.gate_call.GateAnswer.TheVariants.{Seen, Granted, Held, Spent}
+use Rattle.classifier.specs.Classes.{WritesOneOf64}
 use Rattle.backend_trait.specs.declared.answer.Answer.{Answer}
 use Rattle.backend_trait.specs.Acts.{IsOf}
-use Rattle.session_machine.specs.declared.order.OrderBody.{OrderBody}
-use Rattle.session_machine.specs.declared.order.OrderBody.TheVariants as orders
+use Rattle.session_orders.specs.declared.order.OrderBody.{OrderBody}
+use Rattle.session_orders.specs.declared.order.OrderBody.TheVariants as orders
 use Rattle.session_machine.specs.declared.status.Status.{Status}
 use Rattle.session_machine.specs.declared.status.Status.TheVariants.{Idle, InBlock, Failed}
 use Rattle.session_machine.specs.declared.action.Action.TheVariants as actions
@@ -23,7 +24,6 @@ use Rattle.session_machine.specs.declared.machine.Point.TheVariants.{Resting, En
 use Rattle.session_machine.specs.declared.machine.Session.{Session}
 use Rattle.session_machine.specs.declared.machine.Machine.{Machine}
 use Rattle.session_machine.specs.Rules.{next_action, request_of}
-use Rattle.session_machine.specs.Classes.{is_classed}
 
 -- Orders come at rest, but for a Leave.
 
@@ -54,7 +54,7 @@ is_out InCommit = false
 -- a failed block takes its end alone; an implicit transaction that is live takes no BEGIN, COMMIT and ROLLBACK;
 -- a recovery takes Recover
 abbrev pub fits : Status → GatePhase → OrderBody → Bool
-fits Idle phase (orders.Statement work) = true
+fits Idle phase (orders.Statement checked) = true
 fits Idle phase orders.Begin = is_out phase
 fits Idle phase orders.Commit = is_out phase
 fits Idle phase orders.Rollback = is_out phase
@@ -63,7 +63,7 @@ fits Idle phase orders.ShowNodes = true
 fits Idle phase (orders.Recover b) = false
 fits Idle phase (orders.Refuse code name) = true
 fits Idle phase orders.Leave = true
-fits InBlock phase (orders.Statement work) = true
+fits InBlock phase (orders.Statement checked) = true
 fits InBlock phase orders.Begin = true
 fits InBlock phase orders.Commit = true
 fits InBlock phase orders.Rollback = true
@@ -72,7 +72,7 @@ fits InBlock phase orders.ShowNodes = true
 fits InBlock phase (orders.Recover b) = false
 fits InBlock phase (orders.Refuse code name) = true
 fits InBlock phase orders.Leave = true
-fits Failed phase (orders.Statement work) = false
+fits Failed phase (orders.Statement checked) = false
 fits Failed phase orders.Begin = false
 fits Failed phase orders.Commit = true
 fits Failed phase orders.Rollback = true
@@ -120,9 +120,8 @@ fits_at_rest true status phase body = fits status phase body
 
 abbrev pub may_order : Session → Point → OrderBody → Bool
 may_order session point orders.Leave = may_leave point
--- a statement is ordered with its own class and tables
-may_order session point (orders.Statement work) =
-    is_classed work && fits_at_rest (is_resting point) session.status session.gate (orders.Statement work)
+may_order session point (orders.Statement checked) =
+    fits_at_rest (is_resting point) session.status session.gate (orders.Statement checked)
 may_order session point orders.Begin = fits_at_rest (is_resting point) session.status session.gate orders.Begin
 may_order session point orders.Commit = fits_at_rest (is_resting point) session.status session.gate orders.Commit
 may_order session point orders.Rollback = fits_at_rest (is_resting point) session.status session.gate orders.Rollback
@@ -130,6 +129,22 @@ may_order session point orders.Settle = fits_at_rest (is_resting point) session.
 may_order session point orders.ShowNodes = fits_at_rest (is_resting point) session.status session.gate orders.ShowNodes
 may_order session point (orders.Recover b) = false
 may_order session point (orders.Refuse code name) = fits_at_rest (is_resting point) session.status session.gate (orders.Refuse code name)
+
+-- the table that a statement writes is one of the 64 that a catalogue may have
+abbrev pub HasItsBit : OrderBody → Type 0
+HasItsBit (orders.Statement checked) = WritesOneOf64 checked.body
+HasItsBit orders.Begin = ⊤
+HasItsBit orders.Commit = ⊤
+HasItsBit orders.Rollback = ⊤
+HasItsBit orders.Settle = ⊤
+HasItsBit orders.ShowNodes = ⊤
+HasItsBit (orders.Recover b) = ⊤
+HasItsBit (orders.Refuse code name) = ⊤
+HasItsBit orders.Leave = ⊤
+
+-- a session takes an order there
+abbrev pub TakesOrder : Machine → OrderBody → Type 0
+TakesOrder m body = (may_order m.session m.point body ≡ true) × HasItsBit body
 
 -- The gate's answers: a Look is seen, a snapshot is granted or spent, the other calls of a session are granted. A call that is
 -- held is tried again, and a detachment is an event of its own.
@@ -179,7 +194,7 @@ HasForm point answer = ⊥
 
 -- an event may happen where it is what is due, or is an order that the session takes there
 abbrev pub MayHappen : Machine → SessionEvent → Type 0
-MayHappen m (events.Ordered order) = may_order m.session m.point order.body ≡ true
+MayHappen m (events.Ordered order) = TakesOrder m order.body
 MayHappen m (events.Called call answer) = (next_action m ≡ actions.Gate call) × (answers_call call answer ≡ true)
 MayHappen m (events.Posted b request) = next_action m ≡ actions.Post b request
 MayHappen m (events.Taken b answer) = (next_action m ≡ actions.WaitFor b) × HasForm m.point answer

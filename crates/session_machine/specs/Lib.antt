@@ -1,6 +1,6 @@
 pub mod Codes
 pub mod Answers
-pub mod Rules
 pub mod Classes
+pub mod Rules
 pub mod Allowed
-pub mod Deciding
+pub mod Forms

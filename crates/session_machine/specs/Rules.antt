@@ -16,16 +16,16 @@ use Rattle.backend_trait.specs.declared.answer.Answer.TheVariants as answers
 use Rattle.write_path.specs.declared.kind.ChainKind.{ChainKind}
 use Rattle.write_path.specs.declared.kind.ChainKind.TheVariants.{All, StopAtRefusal}
 use Rattle.session_machine.specs.Codes.{in_a_block, outside_a_block, moment_out_of_range, counts_spent, no_backend}
-use Rattle.session_machine.specs.declared.order.Verb.TheVariants as verbs
-use Rattle.session_machine.specs.declared.order.Class.{Class}
-use Rattle.session_machine.specs.declared.order.Class.TheVariants as classes
-use Rattle.session_machine.specs.declared.order.Work.{Work}
-use Rattle.session_machine.specs.declared.order.OrderBody.{OrderBody}
-use Rattle.session_machine.specs.declared.order.OrderBody.TheVariants as orders
-use Rattle.session_machine.specs.declared.outcome.Tag.{Tag}
-use Rattle.session_machine.specs.declared.outcome.Tag.TheVariants as tags
-use Rattle.session_machine.specs.declared.outcome.Outcome.{Outcome}
-use Rattle.session_machine.specs.declared.outcome.Outcome.TheVariants as outcomes
+use Rattle.session_machine.specs.declared.work.Verb.TheVariants as verbs
+use Rattle.session_machine.specs.declared.work.Class.{Class}
+use Rattle.session_machine.specs.declared.work.Class.TheVariants as classes
+use Rattle.session_machine.specs.declared.work.Work.{Work}
+use Rattle.session_orders.specs.declared.order.OrderBody.{OrderBody}
+use Rattle.session_orders.specs.declared.order.OrderBody.TheVariants as orders
+use Rattle.session_orders.specs.declared.outcome.Tag.{Tag}
+use Rattle.session_orders.specs.declared.outcome.Tag.TheVariants as tags
+use Rattle.session_orders.specs.declared.outcome.Outcome.{Outcome}
+use Rattle.session_orders.specs.declared.outcome.Outcome.TheVariants as outcomes
 use Rattle.session_machine.specs.declared.status.Status.{Status}
 use Rattle.session_machine.specs.declared.status.Status.TheVariants.{Idle, InBlock, Failed}
 use Rattle.session_machine.specs.declared.action.Cause.TheVariants.{Fault, Differs}
@@ -45,6 +45,7 @@ use Rattle.session_machine.specs.declared.machine.Point.{Point}
 use Rattle.session_machine.specs.declared.machine.Point.TheVariants.{Resting, EnterDue, LookDue, PostDue, Waiting, LostDue, SplitDue, ChooseDue, ShowDue, LeaveSnapshotDue, UnwindDue, EnterCommitDue, LeaveCommitDue, FinishDue, ReplyDue, EndDue}
 use Rattle.session_machine.specs.declared.machine.Session.{Session}
 use Rattle.session_machine.specs.declared.machine.Machine.{Machine}
+use Rattle.session_machine.specs.Classes.{work_in}
 use Rattle.session_machine.specs.Answers.{lowest, next_of, kept, first_other, goes_on, reader, counts}
 
 -- A session, and what is due of it.
@@ -172,6 +173,12 @@ abbrev pub status_failed : Status → Status
 status_failed Idle = Idle
 status_failed InBlock = Failed
 status_failed Failed = Failed
+
+-- the letter by which a client is told of it
+abbrev pub status_byte : Status → ℕ
+status_byte Idle = 73
+status_byte InBlock = 84
+status_byte Failed = 69
 
 abbrev pub failing : Session → Session
 failing session = record session { status = status_failed session.status }
@@ -339,8 +346,8 @@ left session (ReplyDue outcome) = leaving session session.gate
 left session EndDue = leaving session session.gate
 
 unfoldable pub ordered : Session → Point → ℤ → OrderBody → Machine
-ordered session point moment (orders.Statement work) =
-    stated_at session (moment_at session.status session.gate session.moment moment) work
+ordered session point moment (orders.Statement checked) =
+    stated_at session (moment_at session.status session.gate session.moment moment) (work_in checked)
 ordered session point moment orders.Begin = block_begun session moment session.status
 ordered session point moment orders.Commit = block_committed session session.status
 ordered session point moment orders.Rollback = block_rolled_back session session.status

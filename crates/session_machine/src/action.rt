@@ -1,13 +1,12 @@
 //! What is due of a session, and what takes place at it.
 
-use crate::order::Order;
-use crate::outcome::Outcome;
 use crate::status::Status;
 use backend_trait::{Answer, Request};
 use pool_base::{BackendId, GateAnswer, GateCall};
+use session_orders::{Order, Outcome};
 
 /// Why a backend is detached.
-#[derive(PartialEq, Eq, Drop)]
+#[derive(Drop)]
 pub enum Cause {
     /// It was lost: its count of faults before and after the call that shows it.
     Fault { before: u64, after: u64 },

@@ -20,12 +20,12 @@
 ghost use Rattle.std.specs.Prelude.{◌≡◌};
 ghost use Rattle.session_machine.specs.Rules.{new_machine};
 
-use crate::order::Work;
-use crate::outcome::Outcome;
 use crate::status::Status;
+use crate::work::Work;
 use backend_trait::Answer;
 use pool_base::{BackendId, BackendSet, List, SessionId, View};
-use std::alloc::{AllocError, Global};
+use session_orders::Outcome;
+use std::alloc::Global;
 
 /// How the backend of a read is chosen: a weight for each backend by its number, whether reads are
 /// balanced, and whether each statement has its own ticket.
@@ -53,17 +53,6 @@ pub enum GatePhase {
 pub struct Heard {
     pub b: BackendId,
     pub answer: Answer,
-}
-
-impl Clone for Heard {
-    ghost is_clone = { λ heard copy. copy ≡ heard };
-
-    fn clone(&self) -> Result<Heard, AllocError> {
-        Ok(Heard {
-            b: self.b,
-            answer: self.answer.clone()?,
-        })
-    }
 }
 
 /// What stands at the end of an order.

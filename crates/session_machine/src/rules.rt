@@ -1,15 +1,14 @@
 //! The small words of the rules.
 ghost use Rattle.std.specs.Prelude.{◌≡◌, ◌↔◌, true, IfOk, IfErr, IsTrue};
 ghost use Rattle.pg_values.specs.Range.{IsMoment};
-ghost use Rattle.session_machine.specs.Deciding.{same_request};
 ghost use Rattle.session_machine.specs.Rules.{request_of, is_run, rewritten, work_at, tables_of, is_moment, done_with, tag_of, phase_changed, commit_outcome, stage_posted};
 
 use crate::machine::{GatePhase, Stage};
-use crate::order::{Class, Verb, Work};
-use crate::outcome::{Outcome, Tag};
 use crate::status::Status;
+use crate::work::{Class, Verb, Work};
 use backend_trait::{Answer, Request};
 use pool_base::{Boxed, Code, NoMemory};
+use session_orders::{Outcome, Tag};
 use sql_copies::checked_copied;
 use time_rewrite::{RewriteFault, rewrite};
 
@@ -27,24 +26,6 @@ pub fn request_of(stage: &Stage) -> Result<Request, NoMemory>
         Stage::Committing | Stage::Closing => Request::Commit,
         Stage::RollingBack(_) => Request::Rollback,
     })
-}
-
-/// Whether a request is what a stage asks.
-pub fn asks(stage: &Stage, request: &Request) -> bool
-    ensures { result ≡ same_request (request_of stage.now) request.now }
-{
-    match stage {
-        Stage::Opening(_) => matches!(request, Request::TakeSnapshot),
-        Stage::Reading(work, _) | Stage::Running(work) | Stage::Inserting(work, _) => {
-            match request {
-                Request::Run(statement) => *work.statement.get() == *statement,
-                _ => false,
-            }
-        }
-        Stage::Locking(_, table) => matches!(request, Request::Lock(asked) if *table == *asked),
-        Stage::Committing | Stage::Closing => matches!(request, Request::Commit),
-        Stage::RollingBack(_) => matches!(request, Request::Rollback),
-    }
 }
 
 /// A statement at a moment of the years 1 to 9999.

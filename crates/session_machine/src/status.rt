@@ -1,6 +1,6 @@
 //! What a client sees of its session.
 ghost use Rattle.std.specs.Prelude.{◌≡◌};
-ghost use Rattle.session_machine.specs.Rules.{status_failed};
+ghost use Rattle.session_machine.specs.Rules.{status_byte, status_failed};
 
 /// The status of a session at a reply.
 ///
@@ -27,6 +27,19 @@ impl Status {
         match self {
             Status::Idle => Status::Idle,
             Status::InBlock | Status::Failed => Status::Failed,
+        }
+    }
+
+    /// The letter by which a client is told of it: `I`, `T` or `E`.
+    ///
+    /// Source: PostgreSQL, Frontend/Backend Protocol, "Message Formats", ReadyForQuery.
+    pub fn byte(self) -> u8
+        ensures { result ≡ status_byte self }
+    {
+        match self {
+            Status::Idle => b'I',
+            Status::InBlock => b'T',
+            Status::Failed => b'E',
         }
     }
 }

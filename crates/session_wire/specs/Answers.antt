@@ -1,9 +1,9 @@
 -- Which outcomes may answer an order, and what a wire does at the outcome of its last order.
 use Rattle.std.specs.Prelude.{◌≡◌, ◌≤◌, ℕ, Bool, true, false, List, [], ◌++◌, Option, Some, None, length, codes, bytes_eq, nat_eq, if◌then◌else◌}
 use Rattle.pool_base.specs.declared.code.Code.{Code}
-use Rattle.wire_orders.specs.declared.outcome.Outcome.{Outcome}
-use Rattle.wire_orders.specs.declared.outcome.Outcome.TheVariants as outcome
-use Rattle.wire_orders.specs.declared.outcome.Tag.TheVariants as tag
+use Rattle.session_orders.specs.declared.outcome.Outcome.{Outcome}
+use Rattle.session_orders.specs.declared.outcome.Outcome.TheVariants as outcome
+use Rattle.session_orders.specs.declared.outcome.Tag.TheVariants as tag
 use Rattle.wire_reply.specs.declared.report.Severity.TheVariants.{Error}
 use Rattle.wire_reply.specs.declared.saying.Saying.{Saying}
 use Rattle.wire_reply.specs.Codes.{of_backend}

@@ -1,7 +1,7 @@
 -- What a wire does at each message of a client that was let in.
 use Rattle.std.specs.Prelude.{◌≡◌, Bool, true, false, [], Some}
-use Rattle.wire_orders.specs.declared.order.OrderBody.{OrderBody}
-use Rattle.wire_orders.specs.declared.order.OrderBody.TheVariants as orders
+use Rattle.session_orders.specs.declared.order.OrderBody.{OrderBody}
+use Rattle.session_orders.specs.declared.order.OrderBody.TheVariants as orders
 use Rattle.wire_session.specs.declared.session.Session.{Session}
 use Rattle.wire_session.specs.declared.refusal.Refusal.{Refusal}
 use Rattle.session_wire.specs.declared.due.Due.TheVariants as due

@@ -3,7 +3,7 @@ use Rattle.std.specs.Prelude.{◌≡◌, ℕ, Bool, true, false, List, [], ◌�
 use Rattle.std.specs.List.{list_any}
 use Rattle.pg_messages.specs.declared.server.ServerMessage.TheVariants.{Empty}
 use Rattle.sql_tree.specs.declared.statement.Statement.{Statement}
-use Rattle.wire_orders.specs.declared.order.OrderBody.{OrderBody}
+use Rattle.session_orders.specs.declared.order.OrderBody.{OrderBody}
 use Rattle.wire_query.specs.declared.reading.Reading.{Reading}
 use Rattle.wire_query.specs.declared.reading.Reading.TheVariants as reading
 use Rattle.wire_query.specs.Texts.{IsReading, is_control}

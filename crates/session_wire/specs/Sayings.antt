@@ -1,9 +1,9 @@
 -- What is told of an outcome, and the room that is made for it.
 use Rattle.std.specs.Prelude.{◌≡◌, ◌≤◌, ◌+◌, ℕ, Bool, true, false, List, [], ◌++◌, Option, Some, None, vec_len, vec_capacity}
 use Rattle.pool_base.specs.declared.code.Code.{Code}
-use Rattle.wire_orders.specs.declared.order.OrderBody.{OrderBody}
-use Rattle.wire_orders.specs.declared.order.OrderBody.TheVariants as orders
-use Rattle.wire_orders.specs.declared.outcome.Tag.{Tag}
+use Rattle.session_orders.specs.declared.order.OrderBody.{OrderBody}
+use Rattle.session_orders.specs.declared.order.OrderBody.TheVariants as orders
+use Rattle.session_orders.specs.declared.outcome.Tag.{Tag}
 use Rattle.wire_reply.specs.declared.report.Severity.TheVariants.{Error, Warning}
 use Rattle.wire_reply.specs.Codes.{of_backend}
 use Rattle.wire_reply.specs.Replies.{report_bytes, text_with, complete_bytes}

@@ -6,15 +6,16 @@ ghost use Rattle.wire_session.specs.Kept.{HasNone};
 ghost use Rattle.session_wire.specs.Sayings.{HasRoom};
 ghost use Rattle.session_wire.specs.Shown.{shown};
 ghost use Rattle.session_wire.specs.declared.due.Due.TheVariants as dues;
-ghost use Rattle.wire_orders.specs.declared.outcome.Outcome.TheVariants.{Rows, Nodes, Error as Failed};
+ghost use Rattle.session_orders.specs.declared.outcome.Outcome.TheVariants.{Rows, Nodes, Error as Failed};
 
 use crate::due::Due;
 use crate::nodes::nodes_bytes;
 use crate::wire::Wire;
 use pool_base::{BackendSet, Code, List, NoMemory, Text};
 use pool_config::Config;
+use session_orders::{Outcome, Tag};
+use sql_eval::Row;
 use wire_extended::{advance, keep_rows, next_rows};
-use wire_orders::{Outcome, Row, Tag};
 use wire_reply::{Saying, of_backend, rows_bytes};
 
 impl Wire {

@@ -9,7 +9,7 @@ use crate::due::Due;
 use crate::wire::Wire;
 use catalogue::Catalogue;
 use pool_base::NoMemory;
-use wire_orders::OrderBody;
+use session_orders::OrderBody;
 use wire_query::{Asked, ask};
 
 /// So many bytes an outcome without rows takes at most.

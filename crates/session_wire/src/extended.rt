@@ -10,11 +10,11 @@ use crate::wire::Wire;
 use catalogue::Catalogue;
 use pg_messages::{ClientMessage, ServerMessage};
 use pool_base::{List, NoMemory};
+use session_orders::OrderBody;
 use wire_extended::{
     Binding, Executed, Replied, advance, bind_portal, describe_portal, describe_statement, execute,
     parse,
 };
-use wire_orders::OrderBody;
 use wire_reply::message_bytes;
 use wire_session::Refusal;
 

@@ -1,6 +1,7 @@
 //! A session's client: its bytes, in whatever pieces they come, to orders, and outcomes to bytes.
 #![tactic(auto)]
 
+mod allowed;
 mod answering;
 mod asking;
 mod due;
@@ -12,5 +13,6 @@ mod nodes;
 mod output;
 mod wire;
 
+pub use allowed::may_answer;
 pub use laws::pieces_are_one;
 pub use wire::{Wire, WireStep};

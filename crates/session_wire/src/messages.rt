@@ -23,8 +23,8 @@ use crate::wire::{Stage, Wire, WireStep};
 use catalogue::Catalogue;
 use pg_messages::{ClientMessage, Read, ServerMessage, StartMessage, read_client, read_start};
 use pool_base::{Code, List, NoMemory, Text};
+use session_orders::{Order, OrderBody};
 use sql_tree::Statement;
-use wire_orders::{Order, OrderBody};
 use wire_query::{Reading, is_control, read_text};
 use wire_reply::{Saying, Severity, message_bytes};
 use wire_session::{Refusal, not_in_profile};
@@ -52,7 +52,7 @@ impl Wire {
         }
     }
 
-    /// One step: an order, the end, or one message more.
+    /// One step: an order, the end, or one message more; nothing while an outcome is awaited.
     fn one(&mut self, tables: &Catalogue, moment: i64) -> Result<Option<WireStep>, NoMemory>
         requires within { IsWithin tables.now }
         ensures takes { OnOk result (Takes (shown self.old) (shown self.new)) }
@@ -64,6 +64,9 @@ impl Wire {
         ensures room { (o : _) → IfOk result (λ step. step ≡ Some (Ordered o) → IsTrue (ends o.body)
             → HasRoom self.new.output) }
     {
+        if self.due.is_some() {
+            return Ok(Some(WireStep::NeedOutcome));
+        }
         match self.stage {
             Stage::Closed { refused } => Ok(Some(WireStep::Close { refused })),
             Stage::Leaving { refused } => {

@@ -6,8 +6,8 @@ ghost use Rattle.wire_reply.specs.declared.report.Severity.TheVariants.{Error};
 ghost use Rattle.session_wire.specs.Sayings.{Grows, HasRoom, warned, done_bytes, said_bytes};
 
 use pool_base::{Code, NoMemory};
+use session_orders::Tag;
 use std::alloc::Global;
-use wire_orders::Tag;
 use wire_reply::{
     READY_ROOM, REPORT_ROOM, Saying, Severity, TAG_ROOM, fixed_tag, of_backend, put_complete,
     put_ready, put_report, tag_text,

@@ -10,9 +10,9 @@ use catalogue::Catalogue;
 use pg_messages::Pair;
 use pool_base::{List, NoMemory, SessionId};
 use pool_config::Config;
+use session_orders::{Order, OrderBody, Outcome};
 use sql_tree::Statement;
 use std::alloc::Global;
-use wire_orders::{Order, OrderBody, Outcome};
 use wire_session::Session;
 
 /// What comes next of a session.
@@ -21,6 +21,8 @@ pub enum WireStep {
     Order(Order),
     /// What was fed is taken, up to a message that is not whole yet.
     NeedInput,
+    /// The last order has no outcome yet.
+    NeedOutcome,
     /// The session is over; with a FATAL error or without.
     Close { refused: bool },
 }

@@ -1,8 +1,8 @@
 -- What Execute leads to.
 use Rattle.std.specs.Prelude.{◌≡◌, ℕ, Bool, true, false, List, [], Option, Some, None, codes}
 use Rattle.pg_messages.specs.declared.server.ServerMessage.TheVariants as message
-use Rattle.wire_orders.specs.declared.order.OrderBody.{OrderBody}
-use Rattle.wire_orders.specs.declared.order.OrderBody.TheVariants as orders
+use Rattle.session_orders.specs.declared.order.OrderBody.{OrderBody}
+use Rattle.session_orders.specs.declared.order.OrderBody.TheVariants as orders
 use Rattle.wire_reply.specs.Rows.{IsMessage}
 use Rattle.wire_reply.specs.declared.saying.Saying.TheVariants.{Aborted, CannotRun, NoPortal}
 use Rattle.wire_session.specs.declared.portals.Portal.{Portal}

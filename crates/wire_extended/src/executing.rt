@@ -9,9 +9,10 @@ ghost use Rattle.wire_extended.specs.Executing.{IsDenied, IsGiven, IsOrdered, Lo
 
 use pg_messages::ServerMessage;
 use pool_base::{Code, List, NoMemory};
+use session_orders::{OrderBody, Tag};
+use sql_eval::Row;
 use std::alloc::Global;
 use std::mem;
-use wire_orders::{OrderBody, Row, Tag};
 use wire_query::aborted;
 use wire_reply::{Saying, message_bytes, row_bytes, tag_text};
 use wire_session::{Control, Portal, PortalState, Refusal, Session, not_in_profile, refused};

@@ -7,8 +7,8 @@ use Rattle.catalogue.specs.declared.checked.Checked.{Checked}
 use Rattle.catalogue.specs.declared.checked.ColumnDesc.{ColumnDesc}
 use Rattle.pg_messages.specs.declared.server.ServerMessage.TheVariants.{RowDescription}
 use Rattle.wire_reply.specs.Rows.{IsMessage, fields_from}
-use Rattle.wire_orders.specs.declared.order.OrderBody.{OrderBody}
-use Rattle.wire_orders.specs.declared.order.OrderBody.TheVariants as orders
+use Rattle.session_orders.specs.declared.order.OrderBody.{OrderBody}
+use Rattle.session_orders.specs.declared.order.OrderBody.TheVariants as orders
 use Rattle.wire_reply.specs.declared.saying.Saying.TheVariants.{Aborted}
 use Rattle.wire_session.specs.declared.refusal.Refusal.{Refusal}
 use Rattle.wire_session.specs.Refusals.{Says, IsNotTaken}

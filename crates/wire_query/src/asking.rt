@@ -9,9 +9,9 @@ ghost use Rattle.wire_query.specs.Asking.{IsOrder, IsRefused, IsBarred, IsStatem
 use crate::checking::{Verdict, judged};
 use catalogue::{Catalogue, Checked, ColumnDesc};
 use pool_base::{Boxed, Code, List, NoMemory};
+use session_orders::OrderBody;
 use sql_tree::Statement;
 use std::alloc::Global;
-use wire_orders::OrderBody;
 use wire_reply::{Saying, description_bytes};
 use wire_session::{Refusal, not_in_profile, refused};
 

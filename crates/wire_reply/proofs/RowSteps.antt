@@ -1,6 +1,6 @@
 -- One row more of a result.
 use Rattle.std.proofs.Common.{◌≡◌, ℕ, suc, ◌<◌, ◌+◌, List, [], ◌∷◌, ◌++◌, length, drop, get_or, sym, ap, subst, refl, ◌∙◌, append_assoc, drop-cons, add-one}
-use Rattle.wire_orders.specs.declared.outcome.Row.{Row}
+use Rattle.sql_eval.specs.declared.row.Row.{Row}
 use Rattle.wire_reply.specs.Rows.{IsRow, AreRows}
 
 pub rows_step : (f : List ℕ) (rows : List Row) (i : ℕ) (row : Row) (made one : List ℕ)

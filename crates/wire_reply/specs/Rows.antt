@@ -11,7 +11,7 @@ use Rattle.pg_messages.specs.declared.server.ServerMessage.{ServerMessage}
 use Rattle.pg_messages.specs.declared.server.ServerMessage.TheVariants.{RowDescription, NoData, DataRow}
 use Rattle.pg_messages.specs.Server.{spelling, Fits}
 use Rattle.pg_values.specs.Range.{IsInRange}
-use Rattle.wire_orders.specs.declared.outcome.Row.{Row}
+use Rattle.sql_eval.specs.declared.row.Row.{Row}
 use Rattle.catalogue.specs.declared.checked.ColumnDesc.{ColumnDesc}
 
 -- with no format all are texts, with one all have that one, else each has its own

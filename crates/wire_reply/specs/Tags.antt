@@ -1,8 +1,8 @@
 -- The tags of statements that are done.
 use Rattle.std.specs.Prelude.{ℕ, Bool, true, false, List, ◌++◌, codes}
 use Rattle.std.specs.Fmt.{decimal}
-use Rattle.wire_orders.specs.declared.outcome.Tag.{Tag}
-use Rattle.wire_orders.specs.declared.outcome.Tag.TheVariants.{Select, Insert, Update, Delete, Begin, Commit, Rollback, Show, Recover}
+use Rattle.session_orders.specs.declared.outcome.Tag.{Tag}
+use Rattle.session_orders.specs.declared.outcome.Tag.TheVariants.{Select, Insert, Update, Delete, Begin, Commit, Rollback, Show, Recover}
 
 abbrev pub tag_text : Tag → List ℕ
 tag_text (Select n) = codes "SELECT " ++ decimal n

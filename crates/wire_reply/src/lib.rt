@@ -4,6 +4,7 @@
 mod codes;
 mod fields;
 mod formats;
+mod range;
 mod report;
 mod rows;
 mod saying;
@@ -12,6 +13,7 @@ mod tags;
 pub use codes::{of_backend, of_check};
 pub use fields::fields_of;
 pub use formats::format_at;
+pub use range::are_in_range;
 pub use report::{
     READY_ROOM, REPORT_ROOM, Severity, TAG_ROOM, put_bytes, put_complete, put_ready, put_report,
 };

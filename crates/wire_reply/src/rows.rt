@@ -9,8 +9,8 @@ use catalogue::ColumnDesc;
 use pg_messages::{ServerMessage, server_fits, write_server};
 use pg_values::{Value, binary_of, text_of};
 use pool_base::{List, NoMemory};
+use sql_eval::Row;
 use std::alloc::Global;
-use wire_orders::Row;
 
 /// A value in its format; None is null.
 fn cell_of(alloc: Global, value: &Value, format: u16) -> Result<Option<List<u8>>, NoMemory>

@@ -4,8 +4,8 @@ ghost use Rattle.std.specs.Fmt.{decimal};
 ghost use Rattle.wire_reply.specs.Tags.{tag_text, is_fixed};
 
 use pool_base::{NoMemory, Text};
+use session_orders::Tag;
 use std::alloc::Global;
-use wire_orders::Tag;
 
 /// A verb and a count.
 fn counted(alloc: Global, verb: &str, count: u64) -> Result<Text, NoMemory>

@@ -7,7 +7,7 @@ use Rattle.session_engine.proofs.Calls.{faulted_is, waiting, led}
 use Rattle.session_engine.proofs.session.Core.backend_lost.Goals as goal
 
 pub faulted-requires : goal.faulted-requires
-faulted-requires c = waiting (session_of c.args.self.now.standing) c.args.self.now.standing.due c.args.b c.requires.may.0
+faulted-requires c = waiting (session_of c.args.self.now.standing) c.args.self.now.standing.due c.args.b c.requires.0
 
 pub invariant_of-self : goal.invariant_of-self
 invariant_of-self c =
@@ -15,10 +15,9 @@ invariant_of-self c =
     record {
       sound =
           ∥∥₁_map c.args.self.now.sound
-          (λ sound. led _ _ c.faulted.ensures.state (faulted_sound m.session c.args.before c.args.after m.point sound));
-      classed = carried _ _ c.faulted.ensures.state (faulted_keeps m.session c.args.before c.args.after m.point c.args.self.now.classed);
+          (λ sound. led _ _ c.faulted.ensures (faulted_sound m.session c.args.before c.args.after m.point sound));
+      classed = carried _ _ c.faulted.ensures (faulted_keeps m.session c.args.before c.args.after m.point c.args.self.now.classed);
     }
 
-pub returns-clause-state : goal.returns-clause-state
-returns-clause-state c =
-    c.faulted.ensures.state ∙ faulted_is (machine_of c.args.self.now.standing) c.args.b c.args.before c.args.after
+pub returns : goal.returns
+returns c = c.faulted.ensures ∙ faulted_is (machine_of c.args.self.now.standing) c.args.b c.args.before c.args.after

@@ -7,15 +7,15 @@ use Rattle.session_engine.proofs.Classes.{posted_keeps, carried}
 use Rattle.session_engine.proofs.session.Core.posted.Goals as goal
 
 pub posted-requires : goal.posted-requires
-posted-requires c = posting (session_of c.args.self.now.standing) c.args.self.now.standing.due c.requires.may
+posted-requires c = posting (session_of c.args.self.now.standing) c.args.self.now.standing.due c.requires
 
 pub invariant_of-self : goal.invariant_of-self
 invariant_of-self c =
     let m = machine_of c.args.self.now.standing in
     record {
-      sound = ∥∥₁_map c.args.self.now.sound (λ sound. led _ _ c.posted.ensures.state (posted_sound m.session m.point sound));
-      classed = carried _ _ c.posted.ensures.state (posted_keeps m.session m.point c.args.self.now.classed);
+      sound = ∥∥₁_map c.args.self.now.sound (λ sound. led _ _ c.posted.ensures (posted_sound m.session m.point sound));
+      classed = carried _ _ c.posted.ensures (posted_keeps m.session m.point c.args.self.now.classed);
     }
 
-pub returns-clause-state : goal.returns-clause-state
-returns-clause-state c = λ b request. c.posted.ensures.state ∙ posted_is (machine_of c.args.self.now.standing) b request
+pub returns : goal.returns
+returns c = λ b request. c.posted.ensures ∙ posted_is (machine_of c.args.self.now.standing) b request

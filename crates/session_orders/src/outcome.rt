@@ -1,12 +1,6 @@
 //! What becomes of an order.
-use pg_values::Value;
 use pool_base::{BackendSet, Code, List, Text};
-
-/// A row: one value for each column.
-#[derive(Drop)]
-pub struct Row {
-    pub cells: List<Value>,
-}
+use sql_eval::Row;
 
 /// The tag of a statement that is done, with its count where it has one.
 #[derive(Clone, Copy, PartialEq, Eq)]

@@ -6,4 +6,4 @@ mod order;
 mod outcome;
 
 pub use order::{Order, OrderBody};
-pub use outcome::{Outcome, Row, Tag};
+pub use outcome::{Outcome, Tag};

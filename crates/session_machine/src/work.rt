@@ -1,7 +1,7 @@
-//! What a session is ordered to do.
+//! A statement with its class and its tables.
 
 use backend_trait::Checked;
-use pool_base::{Boxed, Code, Text};
+use pool_base::Boxed;
 
 /// The verb of a write.
 #[derive(Clone, Copy, PartialEq, Eq)]
@@ -30,31 +30,4 @@ pub struct Work {
     pub statement: Boxed<Checked>,
     pub class: Class,
     pub tables: u64,
-}
-
-/// What is ordered.
-#[derive(Drop)]
-pub enum OrderBody {
-    Statement(Work),
-    Begin,
-    Commit,
-    Rollback,
-    /// The end of a client's text or of its pipeline: an implicit transaction commits.
-    Settle,
-    ShowNodes,
-    /// Brings a backend back. A recovery takes this order, never a session.
-    Recover(u8),
-    /// The client was refused before the session was asked: its code, and the name in its text.
-    Refuse { code: Code, name: Text },
-    /// The client is gone.
-    Leave,
-}
-
-/// An order with its moment.
-///
-/// Units: microseconds since 2000-01-01 00:00 UTC.
-#[derive(Drop)]
-pub struct Order {
-    pub moment: i64,
-    pub body: OrderBody,
 }
