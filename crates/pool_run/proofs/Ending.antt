@@ -1,15 +1,15 @@
 -- What each stage says of the end of the run.
-use Rattle.std.proofs.Common.{◌≡◌, ◌≢◌, ℕ, ◌<◌, ◌≤◌, length, true, List, [], refl, subst}
+use Rattle.std.proofs.Common.{◌≡◌, ◌≢◌, ℕ, ◌<◌, ◌≤◌, length, true, List, [], refl, sym, subst}
 use Rattle.std.specs.Prelude.{Option, Some, Err}
 use Rattle.pool_base.specs.Outside.{Appends}
-use Rattle.pool_base.proofs.Sinking.{rose_after, front_nothing}
+use Rattle.pool_base.proofs.Sinking.{rose_after, front_nothing, appends_nothing}
 use Rattle.backend_trait.specs.Rows.{Rows}
 use Rattle.backend_trait.specs.Store.{Store}
 use Rattle.pgproto.specs.Line.{Line}
 use Rattle.play.specs.Script.{IsSession, first_scene}
 use Rattle.play.specs.Transcript.{ArePlayedInPart, none_beyond}
 use Rattle.pool_run.specs.declared.status.Status.{Status}
-use Rattle.pool_run.specs.declared.status.Status.TheVariants.{Done, NoCommand, Refused, ScriptRefused, FilesFailed, SinkFailed, NoMemory, NotBuilt}
+use Rattle.pool_run.specs.declared.status.Status.TheVariants.{Done, NoCommand, Refused, ScriptRefused, FilesFailed, SinkFailed, NoMemory, NotBuilt, Stopped, NoneLeft}
 use Rattle.pool_base.specs.Outside.{Told}
 use Rattle.pool_command.specs.declared.command.Command.{Command}
 use Rattle.pool_config.specs.declared.config.Config.{Config}
@@ -22,9 +22,10 @@ use Rattle.schema.specs.declared.catalogue.TableDef.{TableDef}
 use Rattle.pool_run.specs.declared.schemas.SchemaStop.{SchemaStop}
 use Rattle.pool_run.specs.declared.schemas.SchemaStop.TheVariants as schemas
 use Rattle.pool_run.specs.Schemas.{IsSchemaAnswer, schema_too_long, bad_schema_line}
-use Rattle.pool_run.specs.Texts.{IsBuilt, IsRead, config_name, schema_name, is_plain}
+use Rattle.pool_run.specs.Texts.{IsBuilt, IsSeveral, IsRead, config_name, schema_name, is_plain, is_play}
+use Rattle.pool_run.specs.Ways.{AreSingle, AreKeeping}
 use Rattle.pool_run.specs.Reading.{IsFault}
-use Rattle.pool_run.specs.Ends.{Outside, outside, Says, IsSchemaRefusal, NoCommandEnds, RefusedEnds, UnbuiltEnds, UnreadEnds, ScriptEnds, no_command, not_built, fault_line}
+use Rattle.pool_run.specs.Ends.{Outside, outside, Grows, Says, IsSchemaRefusal, NoCommandEnds, RefusedEnds, UnbuiltEnds, UnreadEnds, ScriptEnds, no_command, not_built, fault_line}
 use Rattle.pool_run.specs.Ends.{ScriptStageEnds, script_unread, script_read, SchemaEnds, schema_stands, schema_refused, schema_unparsed, RestEnds, schema_unread, schema_read, ConfigEnds, configured, faulty, unparsed, CommandEnds, read}
 
 pub said : (s : Status) (bytes : List ℕ) (a b : Option (List ℕ)) (n m : ℕ) → s ≢ SinkFailed → Appends a b bytes → Says s s bytes a b n m
@@ -36,6 +37,8 @@ said FilesFailed bytes a b n m other p = (refl, p)
 said SinkFailed bytes a b n m other p = absurd (other refl)
 said NoMemory bytes a b n m other p = (refl, p)
 said NotBuilt bytes a b n m other p = (refl, p)
+said Stopped bytes a b n m other p = (refl, p)
+said NoneLeft bytes a b n m other p = (refl, p)
 
 pub said_no_command : (s : Status) (a b : Option (List ℕ)) (n m : ℕ) (x y : List Store) → Says NoCommand s no_command a b n m → NoCommandEnds s (outside n m a b x y)
 said_no_command Done a b n m x y p = let e : NoCommand ≡ Done = p.0 in absurd (cc)
@@ -46,6 +49,8 @@ said_no_command FilesFailed a b n m x y p = let e : NoCommand ≡ FilesFailed = 
 said_no_command SinkFailed a b n m x y p = p
 said_no_command NoMemory a b n m x y p = let e : NoCommand ≡ NoMemory = p.0 in absurd (cc)
 said_no_command NotBuilt a b n m x y p = let e : NoCommand ≡ NotBuilt = p.0 in absurd (cc)
+said_no_command Stopped a b n m x y p = let e : NoCommand ≡ Stopped = p.0 in absurd (cc)
+said_no_command NoneLeft a b n m x y p = let e : NoCommand ≡ NoneLeft = p.0 in absurd (cc)
 
 pub said_unbuilt : (s : Status) (a b : Option (List ℕ)) (n m : ℕ) (x y : List Store) → Says NotBuilt s not_built a b n m → UnbuiltEnds s (outside n m a b x y)
 said_unbuilt Done a b n m x y p = let e : NotBuilt ≡ Done = p.0 in absurd (cc)
@@ -56,6 +61,8 @@ said_unbuilt FilesFailed a b n m x y p = let e : NotBuilt ≡ FilesFailed = p.0 
 said_unbuilt SinkFailed a b n m x y p = p
 said_unbuilt NoMemory a b n m x y p = let e : NotBuilt ≡ NoMemory = p.0 in absurd (cc)
 said_unbuilt NotBuilt a b n m x y p = p.1
+said_unbuilt Stopped a b n m x y p = let e : NotBuilt ≡ Stopped = p.0 in absurd (cc)
+said_unbuilt NoneLeft a b n m x y p = let e : NotBuilt ≡ NoneLeft = p.0 in absurd (cc)
 
 pub said_refused : (s : Status) (bytes : List ℕ) (a b : Option (List ℕ)) (n m : ℕ) (x y : List Store) → Says Refused s bytes a b n m → RefusedEnds Refused bytes s (outside n m a b x y)
 said_refused Done bytes a b n m x y p = let e : Refused ≡ Done = p.0 in absurd (cc)
@@ -66,6 +73,8 @@ said_refused FilesFailed bytes a b n m x y p = let e : Refused ≡ FilesFailed =
 said_refused SinkFailed bytes a b n m x y p = p
 said_refused NoMemory bytes a b n m x y p = let e : Refused ≡ NoMemory = p.0 in absurd (cc)
 said_refused NotBuilt bytes a b n m x y p = let e : Refused ≡ NotBuilt = p.0 in absurd (cc)
+said_refused Stopped bytes a b n m x y p = let e : Refused ≡ Stopped = p.0 in absurd (cc)
+said_refused NoneLeft bytes a b n m x y p = let e : Refused ≡ NoneLeft = p.0 in absurd (cc)
 
 pub said_script_refused : (s : Status) (bytes : List ℕ) (a b : Option (List ℕ)) (n m : ℕ) (x y : List Store) → Says ScriptRefused s bytes a b n m → RefusedEnds ScriptRefused bytes s (outside n m a b x y)
 said_script_refused Done bytes a b n m x y p = let e : ScriptRefused ≡ Done = p.0 in absurd (cc)
@@ -76,6 +85,8 @@ said_script_refused FilesFailed bytes a b n m x y p = let e : ScriptRefused ≡ 
 said_script_refused SinkFailed bytes a b n m x y p = p
 said_script_refused NoMemory bytes a b n m x y p = let e : ScriptRefused ≡ NoMemory = p.0 in absurd (cc)
 said_script_refused NotBuilt bytes a b n m x y p = let e : ScriptRefused ≡ NotBuilt = p.0 in absurd (cc)
+said_script_refused Stopped bytes a b n m x y p = let e : ScriptRefused ≡ Stopped = p.0 in absurd (cc)
+said_script_refused NoneLeft bytes a b n m x y p = let e : ScriptRefused ≡ NoneLeft = p.0 in absurd (cc)
 
 pub fault_after : (s : Status) (a b c : ℕ) → a ≤ b → IsFault b c s → IsFault a c s
 fault_after Done a b c h p = p
@@ -86,6 +97,8 @@ fault_after FilesFailed a b c h p = rose_after a b c h p
 fault_after SinkFailed a b c h p = p
 fault_after NoMemory a b c h p = tt
 fault_after NotBuilt a b c h p = p
+fault_after Stopped a b c h p = p
+fault_after NoneLeft a b c h p = p
 
 unread_after : (s : Status) (a b c : ℕ) (o : Outside) → a ≤ b → UnreadEnds b c s o → UnreadEnds a c s o
 unread_after Done a b c o h p = p
@@ -96,6 +109,8 @@ unread_after FilesFailed a b c o h p = (rose_after a b c h p.0, p.1)
 unread_after SinkFailed a b c o h p = p
 unread_after NoMemory a b c o h p = p
 unread_after NotBuilt a b c o h p = p
+unread_after Stopped a b c o h p = p
+unread_after NoneLeft a b c o h p = p
 
 -- the same of an earlier count
 script_after : (contents : List ℕ → Told) (a b c : ℕ) (command : Command) (config : Config) (tables : List TableDef) (s : Status) (o : Outside) → a ≤ b
@@ -180,8 +195,19 @@ ends_from count tables lines FilesFailed n m a b x y z p = p
 ends_from count tables lines SinkFailed n m a b x y z p = p
 ends_from count tables lines NoMemory n m a b x y z p = p
 ends_from count tables lines NotBuilt n m a b x y z p = p
+ends_from count tables lines Stopped n m a b x y z p = p
+ends_from count tables lines NoneLeft n m a b x y z p = p
 
 -- what is built is asked for
 pub is_built : (command : Command) (config : Config) (script : Option (List ℕ)) (lines : List Line) → (is_plain command ≡ true) × ((0 < length config.nodes) × (length config.nodes ≤ 8)) → IsReadAs script lines
-    → IsSession lines → IsBuilt command config script lines
-is_built command config script lines b reads is = record { plain = b.0; some_backend = b.1.0; few_backends = b.1.1; reads = reads; session = is }
+    → IsSession lines → AreSingle lines → IsBuilt command config script lines
+is_built command config script lines b reads is single = record { plain = b.0; some_backend = b.1.0; few_backends = b.1.1; reads = reads; session = is; single = single }
+
+-- sessions are asked for
+pub are_sessions : (command : Command) (config : Config) (script : Option (List ℕ)) (lines : List Line) → (is_play command ≡ true) × ((0 < length config.nodes) × (length config.nodes ≤ 8)) → IsReadAs script lines
+    → AreKeeping lines → IsSeveral command config script lines
+are_sessions command config script lines b reads keeping = record { plays = b.0; some_backend = b.1.0; few_backends = b.1.1; reads = reads; keeping = keeping }
+
+-- nothing was written
+pub grows_none : (o : Outside) → o.has ≡ o.had → Grows o
+grows_none o same = ([], subst (λ (b : Option (List ℕ)). Appends o.had b []) (sym same) (appends_nothing o.had))

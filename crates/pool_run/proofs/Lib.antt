@@ -1,8 +1,10 @@
 pub mod Shelves
 pub mod Preparing
 pub mod Ending
+pub mod Tables
 pub mod Stages
 pub mod Touching
 pub mod Numbers
 pub mod ScriptNumbers
 pub mod ScriptReading
+pub mod ServingLemmas

@@ -1,7 +1,8 @@
 -- What each number says.
-use Rattle.std.proofs.Common.{◌≡◌, ◌⊎◌, ◌≤◌, ℕ, Bool, List, length, refl, sym, subst, ap, ◌∙◌, inl, inr, arith}
+use Rattle.std.proofs.Common.{◌≡◌, ◌⊎◌, ◌≤◌, ℕ, Bool, true, false, List, length, refl, sym, subst, ap, ◌∙◌, inl, inr, arith}
 use Rattle.std.specs.Prelude.{Option, Some, None}
 use Rattle.pool_base.specs.Outside.{Rose, Told, content, IsTold, IsLonger}
+use Rattle.pgproto.specs.Line.{Line}
 use Rattle.pgproto.specs.Script.{IsScript}
 use Rattle.pool_command.specs.Command.{command_of}
 use Rattle.pool_command.specs.declared.command.Command.{Command}
@@ -10,12 +11,14 @@ use Rattle.pool_config.specs.declared.config.Config.{Config}
 use Rattle.pool_config.specs.Configuration.{IsConfiguration}
 use Rattle.pool_run.specs.Status.{code_of}
 use Rattle.pool_run.specs.declared.status.Status.{Status}
-use Rattle.pool_run.specs.declared.status.Status.TheVariants.{Done, NoCommand, Refused, ScriptRefused, FilesFailed, SinkFailed, NoMemory, NotBuilt}
-use Rattle.pool_run.specs.Texts.{IsRead, config_name, schema_name}
+use Rattle.pool_run.specs.declared.status.Status.TheVariants.{Done, NoCommand, Refused, ScriptRefused, FilesFailed, SinkFailed, NoMemory, NotBuilt, Stopped, NoneLeft}
+use Rattle.pool_run.specs.Scripts.{lines_in}
+use Rattle.pool_run.specs.Texts.{IsRead, IsBuilt, IsSeveral, config_name, schema_name, is_plain}
+use Rattle.pool_run.specs.Ways.{SaysOneClient}
 use Rattle.schema.specs.declared.catalogue.TableDef.{TableDef}
 use Rattle.schema.specs.Reading.{Says}
 use Rattle.pool_run.specs.Schemas.{IsSchemaRead, SaysNoTables, SchemaCause, long_schema, has_faulty_line, IsRefusedSchema}
-use Rattle.pool_run.specs.Ends.{Outside, NoCommandEnds, RefusedEnds, UnreadEnds, UnbuiltEnds, ScriptEnds, TextsEnds, refused, built, unbuilt, unchecked, ScriptStageEnds, script_unread, script_read, SchemaEnds, schema_stands, schema_refused, schema_unparsed, RestEnds, schema_unread, schema_read, SaysNone}
+use Rattle.pool_run.specs.Ends.{Outside, NoCommandEnds, RefusedEnds, UnreadEnds, UnbuiltEnds, ScriptEnds, SeveralEnds, TextsEnds, refused, built, several, unbuilt, unchecked, ScriptStageEnds, script_unread, script_read, SchemaEnds, schema_stands, schema_refused, schema_unparsed, RestEnds, schema_unread, schema_read, SaysNone}
 use Rattle.pool_run.specs.Ends.{ConfigEnds, configured, faulty, unparsed, CommandEnds, unread, long, read, WordsEnd, Returns, Played}
 use Rattle.pool_run.specs.Ends.{IsRefusedText, Cause, too_long, has_fault, PlayedOver, RefusedCause, by_config, by_schema, TextIsRefused, config_too_long, fault_line}
 
@@ -29,6 +32,8 @@ is_script_refused FilesFailed h = cc
 is_script_refused SinkFailed h = cc
 is_script_refused NoMemory h = cc
 is_script_refused NotBuilt h = cc
+is_script_refused Stopped h = cc
+is_script_refused NoneLeft h = cc
 
 pub is_done : (s : Status) → code_of s ≡ 0 → s ≡ Done
 is_done Done h = refl
@@ -39,6 +44,8 @@ is_done FilesFailed h = cc
 is_done SinkFailed h = cc
 is_done NoMemory h = cc
 is_done NotBuilt h = cc
+is_done Stopped h = cc
+is_done NoneLeft h = cc
 
 pub is_no_command : (s : Status) → code_of s ≡ 1 → s ≡ NoCommand
 is_no_command NoCommand h = refl
@@ -49,6 +56,8 @@ is_no_command FilesFailed h = cc
 is_no_command SinkFailed h = cc
 is_no_command NoMemory h = cc
 is_no_command NotBuilt h = cc
+is_no_command Stopped h = cc
+is_no_command NoneLeft h = cc
 
 pub is_refused : (s : Status) → code_of s ≡ 2 → s ≡ Refused
 is_refused Refused h = refl
@@ -59,6 +68,8 @@ is_refused FilesFailed h = cc
 is_refused SinkFailed h = cc
 is_refused NoMemory h = cc
 is_refused NotBuilt h = cc
+is_refused Stopped h = cc
+is_refused NoneLeft h = cc
 
 pub is_files : (s : Status) → code_of s ≡ 4 → s ≡ FilesFailed
 is_files FilesFailed h = refl
@@ -69,6 +80,8 @@ is_files ScriptRefused h = cc
 is_files SinkFailed h = cc
 is_files NoMemory h = cc
 is_files NotBuilt h = cc
+is_files Stopped h = cc
+is_files NoneLeft h = cc
 
 pub is_sink : (s : Status) → code_of s ≡ 5 → s ≡ SinkFailed
 is_sink SinkFailed h = refl
@@ -79,12 +92,15 @@ is_sink ScriptRefused h = cc
 is_sink FilesFailed h = cc
 is_sink NoMemory h = cc
 is_sink NotBuilt h = cc
+is_sink Stopped h = cc
+is_sink NoneLeft h = cc
 
 -- status 4
 files_texts : (command : Command) (config : Config) (tables : List TableDef) (script : Option (List ℕ)) (s : Status) (o : Outside) → s ≡ FilesFailed → TextsEnds command config tables script s o → ⊥
 files_texts command config tables script s o is (refused bytes why rows f) = subst (λ s. RefusedEnds ScriptRefused bytes s o) is f
 files_texts command config tables script s o is (built lines b f) = subst (λ s. ScriptEnds (length config.nodes) tables lines s o) is f
-files_texts command config tables script s o is (unbuilt stands none kept f) = subst (λ s. UnbuiltEnds s o) is f
+files_texts command config tables script s o is (several lines b none f) = subst (λ s. SeveralEnds lines s o) is f
+files_texts command config tables script s o is (unbuilt stands none others kept f) = subst (λ s. UnbuiltEnds s o) is f
 files_texts command config tables script s o is (unchecked memory same kept) = let never : FilesFailed ≡ NoMemory = sym is ∙ memory in absurd (cc)
 
 files_script : (contents : List ℕ → Told) (x y : ℕ) (command : Command) (config : Config) (tables : List TableDef) (s : Status) (o : Outside) → s ≡ FilesFailed → ScriptStageEnds contents x y command config tables s o → Rose x y
@@ -121,7 +137,8 @@ files_rose words contents x y number o r four = files_words (command_of words) c
 sink_texts : (command : Command) (config : Config) (tables : List TableDef) (script : Option (List ℕ)) (s : Status) (o : Outside) → s ≡ SinkFailed → TextsEnds command config tables script s o → Rose o.faults_before o.faults_after
 sink_texts command config tables script s o is (refused bytes why rows f) = (subst (λ s. RefusedEnds ScriptRefused bytes s o) is f).0
 sink_texts command config tables script s o is (built lines b f) = (subst (λ s. ScriptEnds (length config.nodes) tables lines s o) is f).0
-sink_texts command config tables script s o is (unbuilt stands none kept f) = (subst (λ s. UnbuiltEnds s o) is f).0
+sink_texts command config tables script s o is (several lines b none f) = (subst (λ s. SeveralEnds lines s o) is f).0
+sink_texts command config tables script s o is (unbuilt stands none others kept f) = (subst (λ s. UnbuiltEnds s o) is f).0
 sink_texts command config tables script s o is (unchecked memory same kept) = let never : SinkFailed ≡ NoMemory = sym is ∙ memory in absurd (cc)
 
 sink_script : (contents : List ℕ → Told) (x y : ℕ) (command : Command) (config : Config) (tables : List TableDef) (s : Status) (o : Outside) → s ≡ SinkFailed → ScriptStageEnds contents x y command config tables s o → Rose o.faults_before o.faults_after
@@ -158,7 +175,8 @@ sink_rose words contents x y number o r five = sink_words (command_of words) con
 none_texts : (command : Command) (config : Config) (tables : List TableDef) (script : Option (List ℕ)) (s : Status) (o : Outside) → s ≡ NoCommand → TextsEnds command config tables script s o → ⊥
 none_texts command config tables script s o is (refused bytes why rows f) = subst (λ s. RefusedEnds ScriptRefused bytes s o) is f
 none_texts command config tables script s o is (built lines b f) = subst (λ s. ScriptEnds (length config.nodes) tables lines s o) is f
-none_texts command config tables script s o is (unbuilt stands none kept f) = subst (λ s. UnbuiltEnds s o) is f
+none_texts command config tables script s o is (several lines b none f) = subst (λ s. SeveralEnds lines s o) is f
+none_texts command config tables script s o is (unbuilt stands none others kept f) = subst (λ s. UnbuiltEnds s o) is f
 none_texts command config tables script s o is (unchecked memory same kept) = let never : NoCommand ≡ NoMemory = sym is ∙ memory in absurd (cc)
 
 none_script : (contents : List ℕ → Told) (x y : ℕ) (command : Command) (config : Config) (tables : List TableDef) (s : Status) (o : Outside) → s ≡ NoCommand → ScriptStageEnds contents x y command config tables s o → ⊥
@@ -200,6 +218,8 @@ no_command_ends Refused o e = absurd e
 no_command_ends ScriptRefused o e = absurd e
 no_command_ends FilesFailed o e = absurd e
 no_command_ends NotBuilt o e = absurd e
+no_command_ends Stopped o e = absurd e
+no_command_ends NoneLeft o e = absurd e
 
 pub no_command_always : (words : List (List ℕ)) (contents : List ℕ → Told) (x y number : ℕ) (o : Outside) → Returns words contents x y number o → command_of words ≡ None
     → (number ≡ 1) ⊎ (((number ≡ 5) × Rose o.faults_before o.faults_after) ⊎ (number ≡ 7))
@@ -211,7 +231,8 @@ no_command_always words contents x y number o r is =
 refused_texts : (command : Command) (config : Config) (tables : List TableDef) (script : Option (List ℕ)) (s : Status) (o : Outside) → s ≡ Refused → TextsEnds command config tables script s o → ⊥
 refused_texts command config tables script s o is (refused bytes why rows f) = let e : RefusedEnds ScriptRefused bytes Refused o = subst (λ s. RefusedEnds ScriptRefused bytes s o) is f in let never : ScriptRefused ≡ Refused = e.0 in absurd (cc)
 refused_texts command config tables script s o is (built lines b f) = subst (λ s. ScriptEnds (length config.nodes) tables lines s o) is f
-refused_texts command config tables script s o is (unbuilt stands none kept f) = subst (λ s. UnbuiltEnds s o) is f
+refused_texts command config tables script s o is (several lines b none f) = subst (λ s. SeveralEnds lines s o) is f
+refused_texts command config tables script s o is (unbuilt stands none others kept f) = subst (λ s. UnbuiltEnds s o) is f
 refused_texts command config tables script s o is (unchecked memory same kept) = let never : Refused ≡ NoMemory = sym is ∙ memory in absurd (cc)
 
 refused_script : (contents : List ℕ → Told) (x y : ℕ) (command : Command) (config : Config) (tables : List TableDef) (s : Status) (o : Outside) → s ≡ Refused → ScriptStageEnds contents x y command config tables s o → ⊥
@@ -290,6 +311,8 @@ unread_refuses x y FilesFailed o e = inr (inl (refl, e.0))
 unread_refuses x y SinkFailed o e = absurd e
 unread_refuses x y NoMemory o e = inr (inr (inr refl))
 unread_refuses x y NotBuilt o e = absurd e
+unread_refuses x y Stopped o e = absurd e
+unread_refuses x y NoneLeft o e = absurd e
 
 line_refuses : (x y : ℕ) (bytes : List ℕ) (s : Status) (o : Outside) → RefusedEnds Refused bytes s o → Refuses x y (code_of s) o
 line_refuses x y bytes Done o e = absurd e
@@ -300,6 +323,8 @@ line_refuses x y bytes FilesFailed o e = absurd e
 line_refuses x y bytes SinkFailed o e = inr (inr (inl (refl, e.0)))
 line_refuses x y bytes NoMemory o e = inr (inr (inr refl))
 line_refuses x y bytes NotBuilt o e = absurd e
+line_refuses x y bytes Stopped o e = absurd e
+line_refuses x y bytes NoneLeft o e = absurd e
 
 -- a text that is refused says no configuration that was read
 none_said : (text : List ℕ) (config : Config) → length text ≤ 65536 → IsConfiguration text config → IsRefusedText text → ⊥
@@ -363,14 +388,29 @@ schema_refuses words contents x y number o r command text named tells is =
     subst (λ n. Refuses x y n o) (sym r.is) (command_schema_comes contents x y command text r.status o tells is (subst (λ c. WordsEnd c contents x y r.status o) named r.ends))
 
 -- status 0
-done_texts : (command : Command) (config : Config) (tables : List TableDef) (script : Option (List ℕ)) (text : List ℕ) (s : Status) (o : Outside) → s ≡ Done → script ≡ Some text → TextsEnds command config tables script s o → PlayedOver config tables text o
-done_texts command config tables script text s o is tells (refused bytes why rows f) = absurd (subst (λ s. RefusedEnds ScriptRefused bytes s o) is f)
-done_texts command config tables script text s o is tells (built lines b f) =
+-- a text of one client's single statements is not played as sessions
+no_sessions : (command : Command) (config : Config) (script : Option (List ℕ)) (lines : List Line) (text : List ℕ) → is_plain command ≡ true → SaysOneClient text → script ≡ Some text → IsSeveral command config script lines
+    → ((found : List Line) → IsBuilt command config script found → ⊥) → ⊥
+no_sessions command config script lines text plain one tells b none =
+    let same : b.reads.text ≡ text = (let e : Some b.reads.text ≡ Some text = sym b.reads.is ∙ tells in cc) in
+    none one.lines (record {
+      plain = plain;
+      some_backend = b.some_backend;
+      few_backends = b.few_backends;
+      reads = record { text = text; is = tells; few = subst (λ t. lines_in t ≤ 20000) same b.reads.few; says = one.says };
+      session = one.session;
+      single = one.single;
+    })
+
+done_texts : (command : Command) (config : Config) (tables : List TableDef) (script : Option (List ℕ)) (text : List ℕ) (s : Status) (o : Outside) → is_plain command ≡ true → SaysOneClient text → s ≡ Done → script ≡ Some text → TextsEnds command config tables script s o → PlayedOver config tables text o
+done_texts command config tables script text s o plain one is tells (refused bytes why rows f) = absurd (subst (λ s. RefusedEnds ScriptRefused bytes s o) is f)
+done_texts command config tables script text s o plain one is tells (built lines b f) =
     let ends : ScriptEnds (length config.nodes) tables lines Done o = subst (λ s. ScriptEnds (length config.nodes) tables lines s o) is f in
     let same : b.reads.text ≡ text = (let e : Some b.reads.text ≡ Some text = sym b.reads.is ∙ tells in cc) in
     record { lines = lines; says = subst (λ t. IsScript t lines) same b.reads.says; one = b.session; some = b.some_backend; left = ends.0; wrote = ends.1; rows = ends.2 }
-done_texts command config tables script text s o is tells (unbuilt stands none kept f) = absurd (subst (λ s. UnbuiltEnds s o) is f)
-done_texts command config tables script text s o is tells (unchecked memory same kept) = let never : Done ≡ NoMemory = sym is ∙ memory in absurd (cc)
+done_texts command config tables script text s o plain one is tells (several lines b none f) = absurd (no_sessions command config script lines text plain one tells b none)
+done_texts command config tables script text s o plain one is tells (unbuilt stands none others kept f) = absurd (subst (λ s. UnbuiltEnds s o) is f)
+done_texts command config tables script text s o plain one is tells (unchecked memory same kept) = let never : Done ≡ NoMemory = sym is ∙ memory in absurd (cc)
 
 read_some : (told : Told) (limit : ℕ) (got : Option (List ℕ)) (text : List ℕ) → told ≡ content text → (got ≡ None → ⊥) → IsRead told limit got → got ≡ Some text
 read_some told limit None text is some r = absurd (some refl)
@@ -379,15 +419,16 @@ read_some told limit (Some bytes) text is some r = ap Some (subst (λ t. IsTold 
 some_script : (command : Command) (config : Config) (tables : List TableDef) (script : Option (List ℕ)) (s : Status) (o : Outside) → s ≡ Done → TextsEnds command config tables script s o → script ≡ None → ⊥
 some_script command config tables script s o is (refused bytes why rows f) none = subst (λ s. RefusedEnds ScriptRefused bytes s o) is f
 some_script command config tables script s o is (built lines b f) none = let never : None ≡ Some b.reads.text = sym none ∙ b.reads.is in absurd (cc)
-some_script command config tables script s o is (unbuilt stands nothing kept f) none = subst (λ s. UnbuiltEnds s o) is f
+some_script command config tables script s o is (several lines b nothing f) none = let never : None ≡ Some b.reads.text = sym none ∙ b.reads.is in absurd (cc)
+some_script command config tables script s o is (unbuilt stands nothing others kept f) none = subst (λ s. UnbuiltEnds s o) is f
 some_script command config tables script s o is (unchecked memory same kept) none = let never : Done ≡ NoMemory = sym is ∙ memory in absurd (cc)
 
 -- the command plays a script of that name
-done_script : (contents : List ℕ → Told) (x y : ℕ) (a b c : List ℕ) (journal : Bool) (config : Config) (tables : List TableDef) (text : List ℕ) (s : Status) (o : Outside) → s ≡ Done → contents c ≡ content text
-    → ScriptStageEnds contents x y (Play a b c journal) config tables s o → PlayedOver config tables text o
-done_script contents x y a b c journal config tables text s o is tells (script_unread kept e) = absurd (subst (λ s. UnreadEnds x y s o) is e)
-done_script contents x y a b c journal config tables text s o is tells (script_read script e f) =
-    done_texts (Play a b c journal) config tables script text s o is (read_some (contents c) 4194304 script text tells (some_script (Play a b c journal) config tables script s o is f) e) f
+done_script : (contents : List ℕ → Told) (x y : ℕ) (a b c : List ℕ) (config : Config) (tables : List TableDef) (text : List ℕ) (s : Status) (o : Outside) → SaysOneClient text → s ≡ Done → contents c ≡ content text
+    → ScriptStageEnds contents x y (Play a b c false) config tables s o → PlayedOver config tables text o
+done_script contents x y a b c config tables text s o one is tells (script_unread kept e) = absurd (subst (λ s. UnreadEnds x y s o) is e)
+done_script contents x y a b c config tables text s o one is tells (script_read script e f) =
+    done_texts (Play a b c false) config tables script text s o refl one is (read_some (contents c) 4194304 script text tells (some_script (Play a b c false) config tables script s o is f) e) f
 
 -- over the tables of the schema
 record Tabled (schema_told : Told) (config : Config) (text : List ℕ) (o : Outside) : Type 0 where
@@ -397,22 +438,22 @@ record Tabled (schema_told : Told) (config : Config) (text : List ℕ) (o : Outs
   says_tables : Says schema_text tables
   over : PlayedOver config tables text o
 
-done_schema : (contents : List ℕ → Told) (x y : ℕ) (a b c : List ℕ) (journal : Bool) (config : Config) (schema : Option (List ℕ)) (text : List ℕ) (s : Status) (o : Outside) → s ≡ Done → contents c ≡ content text
-    → IsRead (contents b) 262144 schema → SchemaEnds contents x y (Play a b c journal) config schema s o → Tabled (contents b) config text o
-done_schema contents x y a b c journal config schema text s o is tells was (schema_stands tables says e) = record {
+done_schema : (contents : List ℕ → Told) (x y : ℕ) (a b c : List ℕ) (config : Config) (schema : Option (List ℕ)) (text : List ℕ) (s : Status) (o : Outside) → SaysOneClient text → s ≡ Done → contents c ≡ content text
+    → IsRead (contents b) 262144 schema → SchemaEnds contents x y (Play a b c false) config schema s o → Tabled (contents b) config text o
+done_schema contents x y a b c config schema text s o one is tells was (schema_stands tables says e) = record {
   schema_text = says.text;
   tells_schema = (subst (IsRead (contents b) 262144) says.is was).0;
   tables = tables;
   says_tables = says.says;
-  over = done_script contents x y a b c journal config tables text s o is tells e;
+  over = done_script contents x y a b c config tables text s o one is tells e;
 }
-done_schema contents x y a b c journal config schema text s o is tells was (schema_refused bytes why rows e) = absurd (subst (λ s. RefusedEnds Refused bytes s o) is e)
-done_schema contents x y a b c journal config schema text s o is tells was (schema_unparsed memory same kept) = let never : Done ≡ NoMemory = sym is ∙ memory in absurd (cc)
+done_schema contents x y a b c config schema text s o one is tells was (schema_refused bytes why rows e) = absurd (subst (λ s. RefusedEnds Refused bytes s o) is e)
+done_schema contents x y a b c config schema text s o one is tells was (schema_unparsed memory same kept) = let never : Done ≡ NoMemory = sym is ∙ memory in absurd (cc)
 
-done_rest : (contents : List ℕ → Told) (x y : ℕ) (a b c : List ℕ) (journal : Bool) (config : Config) (text : List ℕ) (s : Status) (o : Outside) → s ≡ Done → contents c ≡ content text
-    → RestEnds contents x y (Play a b c journal) config s o → Tabled (contents b) config text o
-done_rest contents x y a b c journal config text s o is tells (schema_unread kept e) = absurd (subst (λ s. UnreadEnds x y s o) is e)
-done_rest contents x y a b c journal config text s o is tells (schema_read schema d e) = done_schema contents x y a b c journal config schema text s o is tells d e
+done_rest : (contents : List ℕ → Told) (x y : ℕ) (a b c : List ℕ) (config : Config) (text : List ℕ) (s : Status) (o : Outside) → SaysOneClient text → s ≡ Done → contents c ≡ content text
+    → RestEnds contents x y (Play a b c false) config s o → Tabled (contents b) config text o
+done_rest contents x y a b c config text s o one is tells (schema_unread kept e) = absurd (subst (λ s. UnreadEnds x y s o) is e)
+done_rest contents x y a b c config text s o one is tells (schema_read schema d e) = done_schema contents x y a b c config schema text s o one is tells d e
 
 played_so : (config_told schema_told : Told) (got : List ℕ) (config : Config) (text : List ℕ) (o : Outside) → IsTold config_told got → IsConfiguration got config → Tabled schema_told config text o → Played config_told schema_told text o
 played_so config_told schema_told got config text o told said t = record {
@@ -427,20 +468,20 @@ played_so config_told schema_told got config text o told said t = record {
   over = t.over;
 }
 
-done_config : (contents : List ℕ → Told) (x y : ℕ) (a b c : List ℕ) (journal : Bool) (got text : List ℕ) (s : Status) (o : Outside) → s ≡ Done → contents c ≡ content text → IsTold (contents a) got
-    → ConfigEnds contents x y (Play a b c journal) got s o → Played (contents a) (contents b) text o
-done_config contents x y a b c journal got text s o is tells read_so (configured config said e) =
-    played_so (contents a) (contents b) got config text o read_so said (done_rest contents x y a b c journal config text s o is tells e)
-done_config contents x y a b c journal got text s o is tells read_so (faulty fault first none rows e) = absurd (subst (λ s. RefusedEnds Refused (fault_line fault) s o) is e)
-done_config contents x y a b c journal got text s o is tells read_so (unparsed memory same kept) = let never : Done ≡ NoMemory = sym is ∙ memory in absurd (cc)
+done_config : (contents : List ℕ → Told) (x y : ℕ) (a b c : List ℕ) (got text : List ℕ) (s : Status) (o : Outside) → SaysOneClient text → s ≡ Done → contents c ≡ content text → IsTold (contents a) got
+    → ConfigEnds contents x y (Play a b c false) got s o → Played (contents a) (contents b) text o
+done_config contents x y a b c got text s o one is tells read_so (configured config said e) =
+    played_so (contents a) (contents b) got config text o read_so said (done_rest contents x y a b c config text s o one is tells e)
+done_config contents x y a b c got text s o one is tells read_so (faulty fault first none rows e) = absurd (subst (λ s. RefusedEnds Refused (fault_line fault) s o) is e)
+done_config contents x y a b c got text s o one is tells read_so (unparsed memory same kept) = let never : Done ≡ NoMemory = sym is ∙ memory in absurd (cc)
 
-done_command : (contents : List ℕ → Told) (x y : ℕ) (a b c : List ℕ) (journal : Bool) (text : List ℕ) (s : Status) (o : Outside) → s ≡ Done → contents c ≡ content text
-    → CommandEnds contents x y (Play a b c journal) s o → Played (contents a) (contents b) text o
-done_command contents x y a b c journal text s o is tells (unread kept e) = absurd (subst (λ s. UnreadEnds x y s o) is e)
-done_command contents x y a b c journal text s o is tells (long d rows e) = absurd (subst (λ s. RefusedEnds Refused config_too_long s o) is e)
-done_command contents x y a b c journal text s o is tells (read got d e) = done_config contents x y a b c journal got text s o is tells d.0 e
+done_command : (contents : List ℕ → Told) (x y : ℕ) (a b c : List ℕ) (text : List ℕ) (s : Status) (o : Outside) → SaysOneClient text → s ≡ Done → contents c ≡ content text
+    → CommandEnds contents x y (Play a b c false) s o → Played (contents a) (contents b) text o
+done_command contents x y a b c text s o one is tells (unread kept e) = absurd (subst (λ s. UnreadEnds x y s o) is e)
+done_command contents x y a b c text s o one is tells (long d rows e) = absurd (subst (λ s. RefusedEnds Refused config_too_long s o) is e)
+done_command contents x y a b c text s o one is tells (read got d e) = done_config contents x y a b c got text s o one is tells d.0 e
 
 pub played : (words : List (List ℕ)) (contents : List ℕ → Told) (x y number : ℕ) (o : Outside) → Returns words contents x y number o → number ≡ 0
-    → (config schema script text : List ℕ) (journal : Bool) → command_of words ≡ Some (Play config schema script journal) → contents script ≡ content text → Played (contents config) (contents schema) text o
-played words contents x y number o r zero_is config schema script text journal is tells =
-    done_command contents x y config schema script journal text r.status o (is_done r.status (sym r.is ∙ zero_is)) tells (subst (λ c. WordsEnd c contents x y r.status o) is r.ends)
+    → (config schema script text : List ℕ) → command_of words ≡ Some (Play config schema script false) → contents script ≡ content text → SaysOneClient text → Played (contents config) (contents schema) text o
+played words contents x y number o r zero_is config schema script text is tells one =
+    done_command contents x y config schema script text r.status o one (is_done r.status (sym r.is ∙ zero_is)) tells (subst (λ c. WordsEnd c contents x y r.status o) is r.ends)

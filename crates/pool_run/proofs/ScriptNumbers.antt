@@ -11,10 +11,10 @@ use Rattle.pool_config.specs.declared.config.Config.{Config}
 use Rattle.schema.specs.declared.catalogue.TableDef.{TableDef}
 use Rattle.pool_run.specs.Status.{code_of}
 use Rattle.pool_run.specs.declared.status.Status.{Status}
-use Rattle.pool_run.specs.declared.status.Status.TheVariants.{Done, NoCommand, Refused, ScriptRefused, FilesFailed, SinkFailed, NoMemory, NotBuilt}
+use Rattle.pool_run.specs.declared.status.Status.TheVariants.{Done, NoCommand, Refused, ScriptRefused, FilesFailed, SinkFailed, NoMemory, NotBuilt, Stopped, NoneLeft}
 use Rattle.pool_run.specs.Scripts.{ScriptCause, long_text, many_lines, has_bad_line, without, with, IsReadAs, IsRefusedScript, SaysNoScript, lines_in}
 use Rattle.pool_run.specs.Texts.{IsRead, IsScriptRead}
-use Rattle.pool_run.specs.Ends.{Outside, NoCommandEnds, RefusedEnds, UnreadEnds, UnbuiltEnds, ScriptEnds, TextsEnds, refused, built, unbuilt, unchecked, ScriptStageEnds, script_unread, script_read, SchemaEnds, schema_stands, schema_refused, schema_unparsed, RestEnds, schema_unread, schema_read}
+use Rattle.pool_run.specs.Ends.{Outside, NoCommandEnds, RefusedEnds, UnreadEnds, UnbuiltEnds, ScriptEnds, SeveralEnds, TextsEnds, refused, built, several, unbuilt, unchecked, ScriptStageEnds, script_unread, script_read, SchemaEnds, schema_stands, schema_refused, schema_unparsed, RestEnds, schema_unread, schema_read}
 use Rattle.pool_run.specs.Ends.{ConfigEnds, configured, faulty, unparsed, CommandEnds, unread, long, read, WordsEnd, Returns, ScriptIsRefused, config_too_long, fault_line}
 use Rattle.pool_run.proofs.Numbers.{is_script_refused}
 
@@ -24,7 +24,8 @@ texts_refused : (words : List (List ℕ)) (contents : List ℕ → Told) (comman
 texts_refused words contents command config tables script s o named is r (refused bytes why rows f) =
     record { command = command; is = named; script = script; read = r; bytes = bytes; cause = why; wrote = (subst (λ s. RefusedEnds ScriptRefused bytes s o) is f).1; rows = rows }
 texts_refused words contents command config tables script s o named is r (built lines b f) = absurd (subst (λ s. ScriptEnds (length config.nodes) tables lines s o) is f)
-texts_refused words contents command config tables script s o named is r (unbuilt stands none kept f) = absurd (subst (λ s. UnbuiltEnds s o) is f)
+texts_refused words contents command config tables script s o named is r (several lines b none f) = absurd (subst (λ s. SeveralEnds lines s o) is f)
+texts_refused words contents command config tables script s o named is r (unbuilt stands none others kept f) = absurd (subst (λ s. UnbuiltEnds s o) is f)
 texts_refused words contents command config tables script s o named is r (unchecked memory same kept) = let never : ScriptRefused ≡ NoMemory = sym is ∙ memory in absurd (cc)
 
 -- a configuration or a schema that is refused has another number
@@ -97,6 +98,8 @@ unread_comes x y FilesFailed o e = inr (inr (inl (refl, e.0)))
 unread_comes x y SinkFailed o e = absurd e
 unread_comes x y NoMemory o e = inr (inr (inr (inr refl)))
 unread_comes x y NotBuilt o e = absurd e
+unread_comes x y Stopped o e = absurd e
+unread_comes x y NoneLeft o e = absurd e
 
 line_comes : (x y : ℕ) (wanted : Status) (bytes : List ℕ) (s : Status) (o : Outside) → RefusedEnds wanted bytes s o → RefusesScript x y (code_of s) o
 line_comes x y wanted bytes Done o e = absurd e
@@ -107,6 +110,8 @@ line_comes x y wanted bytes FilesFailed o e = absurd e
 line_comes x y wanted bytes SinkFailed o e = inr (inr (inr (inl (refl, e.0))))
 line_comes x y wanted bytes NoMemory o e = inr (inr (inr (inr refl)))
 line_comes x y wanted bytes NotBuilt o e = absurd e
+line_comes x y wanted bytes Stopped o e = absurd e
+line_comes x y wanted bytes NoneLeft o e = absurd e
 
 -- a text that is refused is read as no lines
 none_read : (told : Told) (script : Option (List ℕ)) (text : List ℕ) (lines : List Line) → told ≡ content text → IsRefusedScript text → IsRead told 4194304 script → IsReadAs script lines → ⊥
@@ -123,8 +128,9 @@ texts_come : (x y : ℕ) (a b : List ℕ) (name : List ℕ) (journal : Bool) (to
     → TextsEnds (Play a b name journal) config tables script s o → RefusesScript x y (code_of s) o
 texts_come x y a b name journal told config tables script text s o is why r (refused bytes cause rows f) = line_comes x y ScriptRefused bytes s o f
 texts_come x y a b name journal told config tables script text s o is why r (built lines t f) = absurd (none_read told script text lines is why r t.reads)
-texts_come x y a b name journal told config tables script text s o is why r (unbuilt (without never) none kept f) = absurd (cc)
-texts_come x y a b name journal told config tables script text s o is why r (unbuilt (with lines reads) none kept f) = absurd (none_read told script text lines is why r reads)
+texts_come x y a b name journal told config tables script text s o is why r (several lines t none f) = absurd (none_read told script text lines is why r t.reads)
+texts_come x y a b name journal told config tables script text s o is why r (unbuilt (without never) none others kept f) = absurd (cc)
+texts_come x y a b name journal told config tables script text s o is why r (unbuilt (with lines reads) none others kept f) = absurd (none_read told script text lines is why r reads)
 texts_come x y a b name journal told config tables script text s o is why r (unchecked memory same kept) = inr (inr (inr (inr (ap code_of memory))))
 
 script_comes : (contents : List ℕ → Told) (x y : ℕ) (a b name : List ℕ) (journal : Bool) (config : Config) (tables : List TableDef) (text : List ℕ) (s : Status) (o : Outside) → contents name ≡ content text → IsRefusedScript text

@@ -14,7 +14,8 @@ use Rattle.pool_config.specs.declared.config.Config.{Config}
 use Rattle.pool_run.specs.declared.scripts.ScriptStop.{ScriptStop}
 use Rattle.pool_run.specs.declared.scripts.ScriptStop.TheVariants.{TooLong, BadLine}
 use Rattle.pool_run.specs.Scripts.{IsAnswer, IsReading, ScriptCause, SaysNoScript, bad_line, script_too_long, has_script, lines_in}
-use Rattle.pool_run.specs.Texts.{IsBuilt, is_plain}
+use Rattle.pool_run.specs.Texts.{IsBuilt, IsSeveral, is_plain, is_play}
+use Rattle.pool_run.specs.Ways.{AreSingle, AreKeeping}
 
 -- one text has one reading
 pub reading : (script : Option (List ℕ)) (text : List ℕ) (lines : List Line) → script ≡ Some text → lines_in text ≤ 20000 → IsScript text lines → ((found : List Line) → IsScript text found → lines ≡ found) → IsReading script lines
@@ -36,8 +37,25 @@ Others command config = (is_plain command ≡ true) × ((0 < length config.nodes
 pub others_of : (command : Command) (config : Config) (script : Option (List ℕ)) (lines : List Line) → IsBuilt command config script lines → Others command config
 others_of command config script lines b = (b.plain, (b.some_backend, b.few_backends))
 
+-- no script of sessions without a script
+pub no_sessions_without : (command : Command) (config : Config) (script : Option (List ℕ)) → has_script command ≡ false → (lines : List Line) → IsSeveral command config script lines → ⊥
+no_sessions_without (Play x y z journal) config script none lines b = absurd (false≢true (sym none))
+no_sessions_without (Generate x y number size) config script none lines b = false≢true b.plays
+no_sessions_without (Serve x y) config script none lines b = false≢true b.plays
+
 pub session_of : (command : Command) (config : Config) (script : Option (List ℕ)) (lines found : List Line) → IsReading script lines → IsBuilt command config script found → IsSession lines
 session_of command config script lines found r b = subst IsSession (sym (r.only found b.reads)) b.session
+
+pub single_of : (command : Command) (config : Config) (script : Option (List ℕ)) (lines found : List Line) → IsReading script lines → IsBuilt command config script found → AreSingle lines
+single_of command config script lines found r b = subst AreSingle (sym (r.only found b.reads)) b.single
+
+-- what else is built of sessions, and that no line loses a backend
+pub session_others_of : (command : Command) (config : Config) (script : Option (List ℕ)) (lines : List Line) → IsSeveral command config script lines
+    → (is_play command ≡ true) × ((0 < length config.nodes) × (length config.nodes ≤ 8))
+session_others_of command config script lines b = (b.plays, (b.some_backend, b.few_backends))
+
+pub keeping_of : (command : Command) (config : Config) (script : Option (List ℕ)) (lines found : List Line) → IsReading script lines → IsSeveral command config script found → AreKeeping lines
+keeping_of command config script lines found r b = subst AreKeeping (sym (r.only found b.reads)) b.keeping
 
 -- the reader's answer, at each of its forms
 pub too_long_at : (command : Command) (script : Option (List ℕ)) (stop : ScriptStop) → stop ≡ TooLong → IsAnswer command script (Err stop) → ScriptCause command script script_too_long

@@ -7,7 +7,7 @@ use Rattle.pool_config.specs.declared.config.Config.{Config}
 use Rattle.pool_run.specs.declared.scripts.ScriptStop.{ScriptStop}
 use Rattle.pool_run.specs.declared.scripts.ScriptStop.TheVariants as scripts
 use Rattle.pool_run.specs.declared.status.Status.{Status}
-use Rattle.pool_run.specs.declared.status.Status.TheVariants.{Done, NoCommand, Refused, ScriptRefused, FilesFailed, SinkFailed, NoMemory, NotBuilt}
+use Rattle.pool_run.specs.declared.status.Status.TheVariants.{Done, NoCommand, Refused, ScriptRefused, FilesFailed, SinkFailed, NoMemory, NotBuilt, Stopped, NoneLeft}
 use Rattle.pool_run.specs.Ends.{Outside, Untouched, NoCommandEnds, UnreadEnds, WordsEnd, TextsEnds, refused, unchecked, unread}
 use Rattle.pool_run.specs.Plan.{IsScriptRefusal}
 use Rattle.pool_run.specs.Reading.{IsFault}
@@ -24,6 +24,8 @@ unread_as FilesFailed before after o same p = (p, same)
 unread_as SinkFailed before after o same p = p
 unread_as NoMemory before after o same p = same
 unread_as NotBuilt before after o same p = p
+unread_as Stopped before after o same p = p
+unread_as NoneLeft before after o same p = p
 
 pub unread_stops : (wanted s : Status) (before after : ℕ) (o : Outside) → IsFault before after wanted → (s ≡ wanted) × (o.has ≡ o.had) → UnreadEnds before after s o
 unread_stops wanted s before after o fault (is, same) = subst (λ (t : Status). UnreadEnds before after t o) (sym is) (unread_as wanted before after o same fault)

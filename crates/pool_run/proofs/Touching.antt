@@ -10,28 +10,43 @@ use Rattle.schema.specs.declared.catalogue.TableDef.{TableDef}
 use Rattle.backend_trait.specs.Store.{Store}
 use Rattle.pool_run.specs.Status.{code_of}
 use Rattle.pool_run.specs.declared.status.Status.{Status}
-use Rattle.pool_run.specs.declared.status.Status.TheVariants.{Done, NoCommand, Refused, ScriptRefused, FilesFailed, SinkFailed, NoMemory, NotBuilt}
-use Rattle.pool_run.specs.Ends.{Outside, outside, Untouched, ScriptEnds, TextsEnds, refused, built, unbuilt, unchecked, ScriptStageEnds, script_unread, script_read, SchemaEnds, schema_stands, schema_refused, schema_unparsed}
+use Rattle.pool_run.specs.declared.status.Status.TheVariants.{Done, NoCommand, Refused, ScriptRefused, FilesFailed, SinkFailed, NoMemory, NotBuilt, Stopped, NoneLeft}
+use Rattle.pool_run.specs.Ends.{Outside, outside, Untouched, ScriptEnds, SeveralEnds, TextsEnds, refused, built, several, unbuilt, unchecked, ScriptStageEnds, script_unread, script_read, SchemaEnds, schema_stands, schema_refused, schema_unparsed}
 use Rattle.pool_run.specs.Ends.{RestEnds, schema_unread, schema_read, ConfigEnds, configured, faulty, unparsed, CommandEnds, unread, long, read, WordsEnd, Returns}
 
 -- a script was played, to its end or in part
 abbrev Touches : Status → Type 0
-Touches s = (code_of s ≡ 0) ⊎ ((code_of s ≡ 5) ⊎ (code_of s ≡ 7))
+Touches s = (code_of s ≡ 0) ⊎ ((code_of s ≡ 5) ⊎ ((code_of s ≡ 7) ⊎ ((code_of s ≡ 10) ⊎ (code_of s ≡ 6))))
 
 script_touches : (count : ℕ) (tables : List TableDef) (lines : List Line) (s : Status) (o : Outside) → ScriptEnds count tables lines s o → Touches s
 script_touches count tables lines Done o e = inl refl
 script_touches count tables lines SinkFailed o e = inr (inl refl)
-script_touches count tables lines NoMemory o e = inr (inr refl)
+script_touches count tables lines NoMemory o e = inr (inr (inl refl))
 script_touches count tables lines NoCommand o e = absurd e
 script_touches count tables lines Refused o e = absurd e
 script_touches count tables lines ScriptRefused o e = absurd e
 script_touches count tables lines FilesFailed o e = absurd e
 script_touches count tables lines NotBuilt o e = absurd e
+script_touches count tables lines Stopped o e = absurd e
+script_touches count tables lines NoneLeft o e = absurd e
+
+several_touches : (lines : List Line) (s : Status) (o : Outside) → SeveralEnds lines s o → Touches s
+several_touches lines Done o e = inl refl
+several_touches lines SinkFailed o e = inr (inl refl)
+several_touches lines NoMemory o e = inr (inr (inl refl))
+several_touches lines Stopped o e = inr (inr (inr (inl refl)))
+several_touches lines NoneLeft o e = inr (inr (inr (inr refl)))
+several_touches lines NoCommand o e = absurd e
+several_touches lines Refused o e = absurd e
+several_touches lines ScriptRefused o e = absurd e
+several_touches lines FilesFailed o e = absurd e
+several_touches lines NotBuilt o e = absurd e
 
 texts_touch : (command : Command) (config : Config) (tables : List TableDef) (script : Option (List ℕ)) (s : Status) (o : Outside) → TextsEnds command config tables script s o → Touches s ⊎ Untouched o
 texts_touch command config tables script s o (refused bytes why kept f) = inr kept
 texts_touch command config tables script s o (built lines b f) = inl (script_touches (length config.nodes) tables lines s o f)
-texts_touch command config tables script s o (unbuilt stands none kept f) = inr kept
+texts_touch command config tables script s o (several lines b none f) = inl (several_touches lines s o f)
+texts_touch command config tables script s o (unbuilt stands none others kept f) = inr kept
 texts_touch command config tables script s o (unchecked memory same kept) = inr kept
 
 script_stage_touches : (contents : List ℕ → Told) (x y : ℕ) (command : Command) (config : Config) (tables : List TableDef) (s : Status) (o : Outside) → ScriptStageEnds contents x y command config tables s o → Touches s ⊎ Untouched o
@@ -61,14 +76,16 @@ words_touch : (command : Option Command) (contents : List ℕ → Told) (x y : �
 words_touch None contents x y s o e = inr e.0
 words_touch (Some command) contents x y s o e = command_touches contents x y command s o e
 
--- another number than 0, 5 and 7 tells that no store was touched
-pub untouched : (words : List (List ℕ)) (contents : List ℕ → Told) (x y number : ℕ) (o : Outside) → Returns words contents x y number o → number ≢ 0 → number ≢ 5 → number ≢ 7 → Untouched o
-untouched words contents x y number o r not_done not_sink not_memory =
+-- another number than 0, 5, 6, 7 and 10 tells that no store was touched
+pub untouched : (words : List (List ℕ)) (contents : List ℕ → Told) (x y number : ℕ) (o : Outside) → Returns words contents x y number o → number ≢ 0 → number ≢ 5 → number ≢ 6 → number ≢ 7 → number ≢ 10 → Untouched o
+untouched words contents x y number o r not_done not_sink not_none not_memory not_stopped =
     let why : Touches r.status ⊎ Untouched o = words_touch (command_of words) contents x y r.status o r.ends in
     elim why as (λ w. Untouched o) [
       | inl (inl done) ↦ absurd (not_done (r.is ∙ done))
       | inl (inr (inl sink)) ↦ absurd (not_sink (r.is ∙ sink))
-      | inl (inr (inr memory)) ↦ absurd (not_memory (r.is ∙ memory))
+      | inl (inr (inr (inl memory))) ↦ absurd (not_memory (r.is ∙ memory))
+      | inl (inr (inr (inr (inl stopped)))) ↦ absurd (not_stopped (r.is ∙ stopped))
+      | inl (inr (inr (inr (inr none)))) ↦ absurd (not_none (r.is ∙ none))
       | inr kept ↦ kept
     ]
 

@@ -7,6 +7,7 @@ use Rattle.pgproto.specs.Line.{Line}
 use Rattle.pgproto.specs.Script.{IsScript}
 use Rattle.play.specs.Script.{IsSession}
 use Rattle.play.specs.Transcript.{ArePlayed, ArePlayedInPart}
+use Rattle.session_player.specs.Written.{Grew, ArePlayed as AreSpoken}
 use Rattle.pool_run.specs.declared.status.Status.{Status}
 use Rattle.pool_command.specs.declared.command.Command.{Command}
 use Rattle.pool_command.specs.Command.{command_of}
@@ -14,7 +15,7 @@ use Rattle.pool_config.specs.declared.config.Config.{Config}
 use Rattle.pool_config.specs.declared.fault.ConfigFault.{ConfigFault}
 use Rattle.pool_config.specs.Configuration.{IsConfiguration, IsFault}
 use Rattle.pool_config.specs.Printed.{shown}
-use Rattle.pool_run.specs.declared.status.Status.TheVariants.{Done, NoCommand, Refused, ScriptRefused, FilesFailed, SinkFailed, NoMemory, NotBuilt}
+use Rattle.pool_run.specs.declared.status.Status.TheVariants.{Done, NoCommand, Refused, ScriptRefused, FilesFailed, SinkFailed, NoMemory, NotBuilt, Stopped, NoneLeft}
 use Rattle.schema.specs.declared.catalogue.TableDef.{TableDef}
 use Rattle.pool_run.specs.Status.{code_of}
 use Rattle.pool_run.specs.declared.schemas.SchemaStop.{SchemaStop}
@@ -23,7 +24,7 @@ use Rattle.schema.specs.Reading.{Says as SaysTables}
 use Rattle.pool_run.specs.Schemas.{IsSchemaRead, SchemaCause, schema_too_long, bad_schema_line}
 use Rattle.pool_run.specs.Scripts.{ScriptCause, Stands}
 use Rattle.pool_run.specs.Shelf.{HaveRows}
-use Rattle.pool_run.specs.Texts.{config_name, schema_name, IsRead, IsScriptRead, IsBuilt, line}
+use Rattle.pool_run.specs.Texts.{config_name, schema_name, IsRead, IsScriptRead, IsBuilt, IsSeveral, line}
 
 abbrev pub no_command : List ℕ
 no_command = line (codes "pool: the words are no command")
@@ -67,6 +68,8 @@ NoCommandEnds FilesFailed o = ⊥
 NoCommandEnds SinkFailed o = Fails o no_command
 NoCommandEnds NoMemory o = o.has ≡ o.had
 NoCommandEnds NotBuilt o = ⊥
+NoCommandEnds Stopped o = ⊥
+NoCommandEnds NoneLeft o = ⊥
 
 -- a text that was read is refused with this status, and this line says why; memory may be refused before it is written
 abbrev pub RefusedEnds : Status → List ℕ → Status → Outside → Type 0
@@ -78,6 +81,8 @@ RefusedEnds wanted bytes FilesFailed o = ⊥
 RefusedEnds wanted bytes SinkFailed o = Fails o bytes
 RefusedEnds wanted bytes NoMemory o = o.has ≡ o.had
 RefusedEnds wanted bytes NotBuilt o = ⊥
+RefusedEnds wanted bytes Stopped o = ⊥
+RefusedEnds wanted bytes NoneLeft o = ⊥
 
 -- a text was not read, or memory was refused before
 abbrev pub UnreadEnds : ℕ → ℕ → Status → Outside → Type 0
@@ -89,6 +94,8 @@ UnreadEnds before after FilesFailed o = Rose before after × (o.has ≡ o.had)
 UnreadEnds before after SinkFailed o = ⊥
 UnreadEnds before after NoMemory o = o.has ≡ o.had
 UnreadEnds before after NotBuilt o = ⊥
+UnreadEnds before after Stopped o = ⊥
+UnreadEnds before after NoneLeft o = ⊥
 
 -- the texts ask for what is not built
 abbrev pub UnbuiltEnds : Status → Outside → Type 0
@@ -100,6 +107,8 @@ UnbuiltEnds FilesFailed o = ⊥
 UnbuiltEnds SinkFailed o = Fails o not_built
 UnbuiltEnds NoMemory o = ⊥
 UnbuiltEnds NotBuilt o = Appends o.had o.has not_built
+UnbuiltEnds Stopped o = ⊥
+UnbuiltEnds NoneLeft o = ⊥
 
 -- the script is played over so many backends of these tables
 abbrev pub ScriptEnds : ℕ → List TableDef → List Line → Status → Outside → Type 0
@@ -111,6 +120,26 @@ ScriptEnds count tables lines FilesFailed o = ⊥
 ScriptEnds count tables lines SinkFailed o = Rose o.faults_before o.faults_after × ArePlayedInPart tables lines no_rows o.had o.has
 ScriptEnds count tables lines NoMemory o = ArePlayedInPart tables lines no_rows o.had o.has
 ScriptEnds count tables lines NotBuilt o = ⊥
+ScriptEnds count tables lines Stopped o = ⊥
+ScriptEnds count tables lines NoneLeft o = ⊥
+
+-- what was written stands behind what was there
+abbrev pub Grows : Outside → Type 0
+Grows o = Grew o.had o.has
+
+-- a script of sessions is played: each line has its echo, in order, and behind it what is told; where a check inside the pool fails,
+-- the pool stops itself
+abbrev pub SeveralEnds : List Line → Status → Outside → Type 0
+SeveralEnds lines Done o = AreSpoken lines o.had o.has
+SeveralEnds lines NoCommand o = ⊥
+SeveralEnds lines Refused o = ⊥
+SeveralEnds lines ScriptRefused o = ⊥
+SeveralEnds lines FilesFailed o = ⊥
+SeveralEnds lines SinkFailed o = Rose o.faults_before o.faults_after × Grows o
+SeveralEnds lines NoMemory o = Grows o
+SeveralEnds lines NotBuilt o = ⊥
+SeveralEnds lines Stopped o = Grows o
+SeveralEnds lines NoneLeft o = AreSpoken lines o.had o.has
 
 -- a script of this text was played to its end over these tables and the backends of the configuration: what was written is the transcript of
 -- one store, and each backend has its rows
@@ -135,11 +164,13 @@ pub record Played (config_told schema_told : Told) (text : List ℕ) (o : Outsid
   pub says_tables : SaysTables schema_text tables
   pub over : PlayedOver config tables text o
 
--- all texts of the command were read, and the schema says these tables: the script is refused and nothing else is done, it is played, or it stands and asks for what is not built
+-- all texts of the command were read, and the schema says these tables: the script is refused and nothing else is done, it is played as one client's
+-- statements or as sessions, or it stands and asks for what is not built
 pub data TextsEnds (command : Command) (config : Config) (tables : List TableDef) (script : Option (List ℕ)) (status : Status) (o : Outside) : Type 0 where
   refused : (bytes : List ℕ) → ScriptCause command script bytes → Untouched o → RefusedEnds ScriptRefused bytes status o → TextsEnds command config tables script status o
   built : (lines : List Line) → IsBuilt command config script lines → ScriptEnds (length config.nodes) tables lines status o → TextsEnds command config tables script status o
-  unbuilt : Stands command script → ((lines : List Line) → IsBuilt command config script lines → ⊥) → Untouched o → UnbuiltEnds status o → TextsEnds command config tables script status o
+  several : (lines : List Line) → IsSeveral command config script lines → ((found : List Line) → IsBuilt command config script found → ⊥) → SeveralEnds lines status o → TextsEnds command config tables script status o
+  unbuilt : Stands command script → ((lines : List Line) → IsBuilt command config script lines → ⊥) → ((lines : List Line) → IsSeveral command config script lines → ⊥) → Untouched o → UnbuiltEnds status o → TextsEnds command config tables script status o
   unchecked : status ≡ NoMemory → o.has ≡ o.had → Untouched o → TextsEnds command config tables script status o
 
 -- the schema stands: the script was read, if the command has one, or it was not
@@ -232,6 +263,8 @@ Says wanted ScriptRefused bytes old new before after = (wanted ≡ ScriptRefused
 Says wanted FilesFailed bytes old new before after = (wanted ≡ FilesFailed) × Appends old new bytes
 Says wanted NoMemory bytes old new before after = (wanted ≡ NoMemory) × Appends old new bytes
 Says wanted NotBuilt bytes old new before after = (wanted ≡ NotBuilt) × Appends old new bytes
+Says wanted Stopped bytes old new before after = (wanted ≡ Stopped) × Appends old new bytes
+Says wanted NoneLeft bytes old new before after = (wanted ≡ NoneLeft) × Appends old new bytes
 
 -- what the refusal of a schema comes to
 abbrev pub IsSchemaRefusal : SchemaStop → Status → Outside → Type 0

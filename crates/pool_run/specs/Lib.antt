@@ -2,7 +2,9 @@ pub mod Status
 pub mod Schemas
 pub mod Scripts
 pub mod Texts
+pub mod Ways
 pub mod Reading
 pub mod Shelf
 pub mod Ends
 pub mod Plan
+pub mod Serving

@@ -1,29 +1,37 @@
 -- What a run is to do once its words and its texts were read, and how it then ends.
-use Rattle.std.specs.Prelude.{◌≡◌, ◌≢◌, ◌<◌, ◌≤◌, ℕ, List, Result, Ok, Err, map}
+use Rattle.std.specs.Prelude.{◌≡◌, ◌≢◌, ◌<◌, ◌≤◌, ℕ, List, Result, Ok, Err, length, map}
 use Rattle.std.specs.List.{AllByRecursion}
-use Rattle.pgproto.specs.Line.{line_of}
 use Rattle.pgproto.specs.Spelling.{IsOfGrammar}
-use Rattle.pgproto.specs.declared.line.ScriptLine.{ScriptLine}
+use Rattle.pgproto.specs.Line.{Line, line_of}
 use Rattle.play.specs.Script.{IsSession}
+use Rattle.pool_config.specs.Configuration.{IsAllowed}
 use Rattle.pool_config.specs.declared.fault.ConfigFault.{ConfigFault}
 use Rattle.pool_config.specs.declared.fault.ConfigFault.TheVariants as faults
+use Rattle.pool_run.specs.declared.plan.Lines.{Lines}
 use Rattle.pool_run.specs.declared.plan.Plan.{Plan}
 use Rattle.pool_run.specs.declared.plan.Stop.{Stop}
 use Rattle.pool_run.specs.declared.plan.Stop.TheVariants as stops
+use Rattle.pool_run.specs.declared.plan.Way.{Way}
+use Rattle.pool_run.specs.declared.plan.Way.TheVariants.{OneClient, Sessions}
 use Rattle.pool_run.specs.declared.scripts.ScriptStop.{ScriptStop}
 use Rattle.pool_run.specs.declared.scripts.ScriptStop.TheVariants as scripts
 use Rattle.pool_run.specs.declared.status.Status.{Status}
 use Rattle.pool_run.specs.declared.status.Status.TheVariants.{Refused, ScriptRefused, NoMemory}
-use Rattle.pool_run.specs.Ends.{Outside, Untouched, NoCommandEnds, RefusedEnds, UnbuiltEnds, ScriptEnds, IsSchemaRefusal, config_too_long, fault_line}
+use Rattle.pool_run.specs.Ends.{Outside, Untouched, NoCommandEnds, RefusedEnds, UnbuiltEnds, ScriptEnds, SeveralEnds, IsSchemaRefusal, config_too_long, fault_line}
 use Rattle.pool_run.specs.Scripts.{script_too_long, bad_line}
 use Rattle.schema.specs.declared.catalogue.TableDef.{TableDef}
 use Rattle.schema_print.specs.Allowed.{AreAllowed}
 use Rattle.schema_print.specs.Printed.{AreInRange}
 
--- what may be played: lines of the grammar that are one session
-pub record IsPlayable (lines : List ScriptLine) : Type 0 where
-  pub grammar : AllByRecursion IsOfGrammar (map line_of lines)
-  pub session : IsSession (map line_of lines)
+-- lines that may be played so
+abbrev pub FitsWay : Way → List Line → Type 0
+FitsWay OneClient lines = IsSession lines
+FitsWay (Sessions journal) lines = Unit {0}
+
+-- what may be played: lines of the grammar, and one client's where they are played as such
+pub record IsPlayable (lines : Lines) : Type 0 where
+  pub grammar : AllByRecursion IsOfGrammar (map line_of lines.script)
+  pub fits : FitsWay lines.way (map line_of lines.script)
 
 -- so many backends are played
 pub record IsFew (count : ℕ) : Type 0 where
@@ -32,10 +40,11 @@ pub record IsFew (count : ℕ) : Type 0 where
 
 -- a plan that can be carried out
 pub record IsSound (plan : Plan) : Type 0 where
-  pub playable : IsPlayable plan.script
+  pub configured : IsAllowed plan.config
+  pub playable : IsPlayable plan.lines
   pub in_range : AreInRange plan.catalogue
   pub allowed : AreAllowed plan.catalogue
-  pub count : IsFew plan.count
+  pub count : IsFew (length plan.config.nodes)
 
 -- the fault of a configuration is told; want of memory is no fault of its text
 pub record IsFaultRefusal (fault : ConfigFault) (status : Status) (o : Outside) : Type 0 where
@@ -58,14 +67,19 @@ StopEnds (stops.Schema stop) status o = IsSchemaRefusal stop status o
 StopEnds (stops.Script stop) status o = IsScriptRefusal stop status o
 StopEnds stops.NotBuilt status o = UnbuiltEnds status o
 
+-- how lines end that are played so
+abbrev pub WayEnds : Way → ℕ → List TableDef → List Line → Status → Outside → Type 0
+WayEnds OneClient count tables lines status o = ScriptEnds count tables lines status o
+WayEnds (Sessions journal) count tables lines status o = SeveralEnds lines status o
+
 -- how a run ends that is to do this
 abbrev pub PlanEnds : Result Plan Stop → Status → Outside → Type 0
-PlanEnds (Ok plan) status o = ScriptEnds plan.count plan.catalogue (map line_of plan.script) status o
+PlanEnds (Ok plan) status o = WayEnds plan.lines.way (length plan.config.nodes) plan.catalogue (map line_of plan.lines.script) status o
 PlanEnds (Err stop) status o = Untouched o × StopEnds stop status o
 
 -- the same of lines, with a number of backends and tables
-abbrev pub LinesEnd : ℕ → List TableDef → Result (List ScriptLine) Stop → Status → Outside → Type 0
-LinesEnd count tables (Ok lines) status o = ScriptEnds count tables (map line_of lines) status o
+abbrev pub LinesEnd : ℕ → List TableDef → Result Lines Stop → Status → Outside → Type 0
+LinesEnd count tables (Ok lines) status o = WayEnds lines.way count tables (map line_of lines.script) status o
 LinesEnd count tables (Err stop) status o = Untouched o × StopEnds stop status o
 
 -- an end of what is to be done is an end of that kind
@@ -73,5 +87,5 @@ abbrev pub Leads : Result Plan Stop → (Status → Outside → Type 0) → Type
 Leads asked Kind = (status : Status) (o : Outside) → PlanEnds asked status o → Kind status o
 
 -- the same of lines, over any tables
-abbrev pub LinesLead : ℕ → Result (List ScriptLine) Stop → (List TableDef → Status → Outside → Type 0) → Type 0
+abbrev pub LinesLead : ℕ → Result Lines Stop → (List TableDef → Status → Outside → Type 0) → Type 0
 LinesLead count asked Kind = (tables : List TableDef) (status : Status) (o : Outside) → LinesEnd count tables asked status o → Kind tables status o

@@ -7,6 +7,7 @@ use Rattle.pool_command.specs.declared.command.Command.{Command}
 use Rattle.pool_command.specs.declared.command.Command.TheVariants.{Play, Generate, Serve}
 use Rattle.pool_config.specs.declared.config.Config.{Config}
 use Rattle.pool_run.specs.Scripts.{IsReadAs}
+use Rattle.pool_run.specs.Ways.{AreSingle, AreKeeping}
 
 -- the file of the configuration
 abbrev pub config_name : Command → List ℕ
@@ -40,10 +41,25 @@ is_plain (Play config schema script journal) = not journal
 is_plain (Generate config schema number size) = false
 is_plain (Serve config schema) = false
 
--- what is built is asked for: a script that is one session, over one to eight backends, without the journal
+-- whether a script is played
+abbrev pub is_play : Command → Bool
+is_play (Play config schema script journal) = true
+is_play (Generate config schema number size) = false
+is_play (Serve config schema) = false
+
+-- a script of one client that sends single statements is played, over one to eight backends, without the journal
 pub record IsBuilt (command : Command) (config : Config) (script : Option (List ℕ)) (lines : List Line) : Type 0 where
   pub plain : is_plain command ≡ true
   pub some_backend : 0 < length config.nodes
   pub few_backends : length config.nodes ≤ 8
   pub reads : IsReadAs script lines
   pub session : IsSession lines
+  pub single : AreSingle lines
+
+-- a script in which no backend is lost is played, over one to eight backends
+pub record IsSeveral (command : Command) (config : Config) (script : Option (List ℕ)) (lines : List Line) : Type 0 where
+  pub plays : is_play command ≡ true
+  pub some_backend : 0 < length config.nodes
+  pub few_backends : length config.nodes ≤ 8
+  pub reads : IsReadAs script lines
+  pub keeping : AreKeeping lines

@@ -1,19 +1,24 @@
 //! From the words to what a run is to do.
-ghost use Rattle.std.specs.Prelude.{◌≡◌, ◌≤◌, IsTrue, ◌↔◌, ◌<◌, true, length, map, IfOk, IfSome};
+ghost use Rattle.std.specs.Prelude.{◌≡◌, ◌≤◌, IsTrue, IsSome, ◌↔◌, ◌<◌, true, length, map, IfOk, IfSome};
 ghost use Rattle.pgproto.specs.Line.{line_of};
 ghost use Rattle.play.specs.Script.{IsSession};
+ghost use Rattle.pool_config.specs.Configuration.{IsAllowed};
 ghost use Rattle.pool_run.specs.Ends.{CommandEnds, ConfigEnds, Ends, RestEnds, SchemaEnds, ScriptStageEnds, TextsEnds};
 ghost use Rattle.pool_run.specs.Plan.{IsFew, IsPlayable, IsSound, Leads, LinesEnd, LinesLead};
 ghost use Rattle.pool_run.specs.Scripts.{IsReading};
-ghost use Rattle.pool_run.specs.Texts.{is_plain};
+ghost use Rattle.pool_run.specs.Texts.{is_plain, is_play};
+ghost use Rattle.pool_run.specs.Ways.{AreKeeping, AreSingle};
 ghost use Rattle.schema_print.specs.Allowed.{AreAllowed};
 ghost use Rattle.schema_print.specs.Printed.{AreInRange};
 
-use crate::plan::{Plan, Stop};
+use crate::plan::{Lines, Plan, Stop, Way};
 use crate::schemas::read_tables;
 use crate::scripts::read_lines;
 use crate::status::Status;
-use crate::texts::{are_built, read_config, read_schema_text, read_script_text};
+use crate::texts::{
+    are_built, are_few, journal_of, read_config, read_schema_text, read_script_text,
+};
+use crate::ways::{are_keeping, are_single};
 use pgproto::{Script, ScriptLine, lines_of_grammar};
 use play::is_session;
 use pool_base::{Files, List};
@@ -61,7 +66,7 @@ fn ask_config<F: Files>(
 {
     match parse_config(alloc, text) {
         Err(fault) => Err(Stop::Config(fault)),
-        Ok(config) => ask_rest(alloc, command, &config, files),
+        Ok(config) => ask_rest(alloc, command, config, files),
     }
 }
 
@@ -69,11 +74,12 @@ fn ask_config<F: Files>(
 fn ask_rest<F: Files>(
     alloc: Global,
     command: &Command,
-    config: &Config,
+    config: Config,
     files: &mut F,
 ) -> Result<Plan, Stop>
+    requires configured { IsAllowed config }
     ensures ends { Leads result (RestEnds (F.contents files.old) (F.fault_count files.old)
-        (F.fault_count files.new) command.now config.now) }
+        (F.fault_count files.new) command.now config) }
     ensures sound { IfOk result IsSound }
 {
     match read_schema_text(alloc, command, files) {
@@ -86,44 +92,47 @@ fn ask_rest<F: Files>(
 fn ask_schema<F: Files>(
     alloc: Global,
     command: &Command,
-    config: &Config,
+    config: Config,
     schema: &Option<List<u8>>,
     files: &mut F,
 ) -> Result<Plan, Stop>
+    requires configured { IsAllowed config }
     requires short { IfSome schema.now (λ text. length text ≤ 262144) }
     ensures ends { Leads result (SchemaEnds (F.contents files.old) (F.fault_count files.old)
-        (F.fault_count files.new) command.now config.now schema.now) }
+        (F.fault_count files.new) command.now config schema.now) }
     ensures sound { IfOk result IsSound }
 {
     match read_tables(alloc, schema) {
         Err(stop) => Err(Stop::Schema(stop)),
         Ok(catalogue) => {
-            let script = ask_script(alloc, command, config, files);
-            with_tables(config.nodes.len(), catalogue, script)
+            let lines = ask_script(alloc, command, &config, files);
+            with_tables(config, catalogue, lines)
         }
     }
 }
 
-/// The plan to play a script over so many backends of these tables.
+/// The plan to play lines over backends of these tables.
 fn with_tables(
-    count: usize,
+    config: Config,
     catalogue: Catalogue,
-    script: Result<Script, Stop>,
+    lines: Result<Lines, Stop>,
 ) -> Result<Plan, Stop>
+    requires configured { IsAllowed config }
     requires in_range { AreInRange catalogue }
     requires allowed { AreAllowed catalogue }
-    requires playable { IfOk script IsPlayable }
-    requires few { IfOk script (λ _. IsFew count) }
-    ensures ends { Leads result (LinesEnd count catalogue script) }
+    requires playable { IfOk lines IsPlayable }
+    requires few { IfOk lines (λ _. IsFew (length config.nodes)) }
+    ensures ends { Leads result (LinesEnd (length config.nodes) catalogue lines) }
     ensures sound { IfOk result IsSound }
 {
-    match script {
-        Ok(script) => Ok(Plan {
-            count,
+    match lines {
+        Ok(lines) => Ok(Plan {
+            config,
             catalogue,
-            script,
+            lines,
         }),
         Err(stop) => {
+            drop(config);
             drop(catalogue);
             Err(stop)
         }
@@ -136,7 +145,7 @@ fn ask_script<F: Files>(
     command: &Command,
     config: &Config,
     files: &mut F,
-) -> Result<Script, Stop>
+) -> Result<Lines, Stop>
     ensures ends { LinesLead (length config.now.nodes) result (ScriptStageEnds
         (F.contents files.old) (F.fault_count files.old) (F.fault_count files.new)
         command.now config.now) }
@@ -155,7 +164,7 @@ fn ask_lines(
     command: &Command,
     config: &Config,
     script: &Option<List<u8>>,
-) -> Result<Script, Stop>
+) -> Result<Lines, Stop>
     requires short { IfSome script.now (λ text. length text ≤ 4194304) }
     ensures ends { LinesLead (length config.now.nodes) result (λ tables. TextsEnds command.now
         config.now tables script.now) }
@@ -169,32 +178,56 @@ fn ask_lines(
     }
 }
 
-/// The lines, if all that was read asks for what is built.
+/// The lines and how they are played, if all that was read asks for what is built.
 fn built_lines(
     alloc: Global,
     command: &Command,
     config: &Config,
     script: &Option<List<u8>>,
     lines: Script,
-) -> Result<Script, Stop>
+) -> Result<Lines, Stop>
     requires read { IsReading script.now (map line_of lines) }
     ensures ends { LinesLead (length config.now.nodes) result (λ tables. TextsEnds command.now
         config.now tables script.now) }
     ensures playable { IfOk result IsPlayable }
     ensures few { IfOk result (λ _. IsFew (length config.now.nodes)) }
 {
-    if !is_built(alloc, command, config, lines.as_slice()) {
-        return Err(Stop::NotBuilt);
+    if is_built(alloc, command, config, lines.as_slice()) {
+        lines_of_grammar();
+        return Ok(Lines {
+            script: lines,
+            way: Way::OneClient,
+        });
     }
-    lines_of_grammar();
-    Ok(lines)
+    match sessions_of(command, config, lines.as_slice()) {
+        Some(journal) => {
+            lines_of_grammar();
+            Ok(Lines {
+                script: lines,
+                way: Way::Sessions { journal },
+            })
+        }
+        None => Err(Stop::NotBuilt),
+    }
 }
 
-/// Whether all that was read asks for what is built.
+/// Whether all that was read asks for sessions, as they are built: then whether with their journal.
+fn sessions_of(command: &Command, config: &Config, lines: &[ScriptLine]) -> Option<bool>
+    ensures { IsSome result ↔ (((is_play command.now ≡ true)
+        × ((0 < length config.now.nodes) × (length config.now.nodes ≤ 8)))
+        × AreKeeping (map line_of lines.now)) }
+{
+    if !are_few(config.nodes.len()) || !are_keeping(lines) {
+        return None;
+    }
+    journal_of(command)
+}
+
+/// Whether all that was read asks for one client's single statements.
 fn is_built(alloc: Global, command: &Command, config: &Config, lines: &[ScriptLine]) -> bool
     ensures { IsTrue result ↔ (((is_plain command.now ≡ true)
         × ((0 < length config.now.nodes) × (length config.now.nodes ≤ 8)))
-        × IsSession (map line_of lines.now)) }
+        × (IsSession (map line_of lines.now) × AreSingle (map line_of lines.now))) }
 {
-    are_built(command, config) && is_session(alloc, lines)
+    are_built(command, config) && is_session(alloc, lines) && are_single(lines)
 }

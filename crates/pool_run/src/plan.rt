@@ -3,16 +3,31 @@ use crate::schemas::SchemaStop;
 use crate::scripts::ScriptStop;
 use crate::status::Status;
 use pgproto::Script;
-use pool_config::ConfigFault;
+use pool_config::{Config, ConfigFault};
 use schema::Catalogue;
 
-/// A script that is to be played.
+/// How a script is played.
+#[derive(Clone, Copy)]
+pub enum Way {
+    /// As the single statements of one client.
+    OneClient,
+    /// As sessions over the wire; with their journal, or without.
+    Sessions { journal: bool },
+}
+
+/// Lines that are to be played, and how.
+#[derive(Drop)]
+pub struct Lines {
+    pub script: Script,
+    pub way: Way,
+}
+
+/// A script that is to be played, over the backends of a configuration.
 #[derive(Drop)]
 pub struct Plan {
-    /// How many backends play it.
-    pub count: usize,
+    pub config: Config,
     pub catalogue: Catalogue,
-    pub script: Script,
+    pub lines: Lines,
 }
 
 /// Why no script is played.

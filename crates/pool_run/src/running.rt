@@ -1,5 +1,5 @@
 //! From the words to the status: what a run is to do is asked, and carried out.
-ghost use Rattle.std.specs.Prelude.{◌≡◌, ◌<◌, ◌≤◌, length, map, take, IfOk, OnOk};
+ghost use Rattle.std.specs.Prelude.{◌≡◌, ◌<◌, ◌≤◌, length, map, take, Ok, IfOk, OnOk};
 ghost use Rattle.std.specs.List.{AllByRecursion};
 ghost use Rattle.pgproto.specs.Line.{line_of};
 ghost use Rattle.pgproto.specs.Spelling.{IsOfGrammar};
@@ -14,7 +14,8 @@ ghost use Rattle.pool_run.specs.Shelf.{AreBackends, AreFresh, ArePrepared};
 
 use crate::asking::ask;
 use crate::backends::Backends;
-use crate::plan::{Plan, Stop};
+use crate::plan::{Plan, Stop, Way};
+use crate::sessions::run_sessions;
 use crate::status::Status;
 use crate::telling::tell;
 use backend_trait::{Answer, Backend};
@@ -62,11 +63,38 @@ fn carry_out<O: Sink, B: Backend>(
         (map B.meaning shelf.new.items)) }
 {
     match asked {
-        Ok(plan) => {
-            let script = plan.script.as_slice();
-            run_script(alloc, &plan.catalogue, script, plan.count, out, shelf)
-        }
+        Ok(plan) => run_plan(alloc, plan, out, shelf),
         Err(stop) => tell(alloc, stop, out),
+    }
+}
+
+/// Plays the script that is to be played, as it is to be played.
+fn run_plan<O: Sink, B: Backend>(
+    alloc: Global,
+    plan: &Plan,
+    out: &mut O,
+    shelf: &mut Vec<B>,
+) -> Status
+    requires sound { IsSound plan.now }
+    requires enough { 8 ≤ length shelf.old.items }
+    requires fresh { AreFresh B.meaning B.is_honest B.is_prompt B.is_steady shelf.old.items }
+    ensures { PlanEnds (Ok plan.now) result (outside (O.fault_count out.old) (O.fault_count out.new)
+        (O.taken out.old) (O.taken out.new) (map B.meaning shelf.old.items)
+        (map B.meaning shelf.new.items)) }
+{
+    match plan.lines.way {
+        Way::OneClient => {
+            let script = plan.lines.script.as_slice();
+            run_script(
+                alloc,
+                &plan.catalogue,
+                script,
+                plan.config.nodes.len(),
+                out,
+                shelf,
+            )
+        }
+        Way::Sessions { journal } => run_sessions(alloc, plan, journal, out, shelf),
     }
 }
 
@@ -102,7 +130,7 @@ fn run_script<O: Sink, B: Backend>(
 }
 
 /// Gives the first boxes of a shelf the tables.
-fn prepare_first<B: Backend>(
+pub(crate) fn prepare_first<B: Backend>(
     shelf: &mut [B],
     count: usize,
     catalogue: &Catalogue,

@@ -21,6 +21,10 @@ pub enum Status {
     NoMemory,
     /// The words and the texts ask for what is not built yet.
     NotBuilt,
+    /// A check inside the pool failed, and it stopped itself.
+    Stopped,
+    /// The script was played to its end, and no backend is attached.
+    NoneLeft,
 }
 
 impl Status {
@@ -37,6 +41,8 @@ impl Status {
             Status::SinkFailed => 5,
             Status::NoMemory => 7,
             Status::NotBuilt => 9,
+            Status::Stopped => 10,
+            Status::NoneLeft => 6,
         }
     }
 }

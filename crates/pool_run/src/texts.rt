@@ -1,6 +1,6 @@
 //! The texts that a command names, and what is built.
-ghost use Rattle.std.specs.Prelude.{◌≡◌, ◌<◌, ◌≤◌, IsTrue, ◌↔◌, IfOk, IfErr, IfSome, length, true, string_bytes};
-ghost use Rattle.pool_run.specs.Texts.{config_name, schema_name, is_plain, IsRead, IsScriptRead};
+ghost use Rattle.std.specs.Prelude.{◌≡◌, ◌<◌, ◌≤◌, IsTrue, ◌↔◌, IfOk, IfErr, IfSome, IsSome, length, true, string_bytes};
+ghost use Rattle.pool_run.specs.Texts.{config_name, schema_name, is_plain, is_play, IsRead, IsScriptRead};
 ghost use Rattle.pool_run.specs.Reading.{IsFault};
 ghost use Rattle.pool_run.specs.Ends.{fault_line};
 
@@ -121,10 +121,20 @@ pub fn are_built(command: &Command, config: &Config) -> bool
 }
 
 /// Whether so many backends are built: one to eight.
-fn are_few(count: usize) -> bool
+pub fn are_few(count: usize) -> bool
     ensures { IsTrue result ↔ ((0 < count) × (count ≤ 8)) }
 {
     0 < count && count <= 8
+}
+
+/// How the command plays a script: with its journal, or without. None: it plays none.
+pub fn journal_of(command: &Command) -> Option<bool>
+    ensures { IsSome result ↔ (is_play command.now ≡ true) }
+{
+    match command {
+        Command::Play { journal, .. } => Some(*journal),
+        Command::Generate { .. } | Command::Serve { .. } => None,
+    }
 }
 
 /// Whether the command is to play a script without its journal.

@@ -1,11 +1,12 @@
 //! The top call.
-ghost use Rattle.std.specs.Prelude.{◌≡◌, ◌≢◌, ◌≤◌, ◌⊎◌, ℕ, Bool, List as Sequence, Some, None, All, true, length, map};
+ghost use Rattle.std.specs.Prelude.{◌≡◌, ◌≢◌, ◌≤◌, ◌⊎◌, ℕ, Bool, List as Sequence, Some, None, All, true, length, map, false};
 ghost use Rattle.pool_base.specs.Outside.{Rose, content};
 ghost use Rattle.backend_trait.specs.Store.{blank};
 ghost use Rattle.pool_command.specs.Command.{command_of};
 ghost use Rattle.pool_command.specs.declared.command.Command.{Command};
 ghost use Rattle.pool_command.specs.declared.command.Command.TheVariants.{Play};
 ghost use Rattle.pool_run.specs.Texts.{config_name, schema_name};
+ghost use Rattle.pool_run.specs.Ways.{SaysOneClient};
 ghost use Rattle.pool_run.specs.Schemas.{IsRefusedSchema};
 ghost use Rattle.pool_run.specs.Scripts.{IsRefusedScript};
 ghost use Rattle.pool_run.specs.Ends.{outside, Returns, Played, TextIsRefused, IsRefusedText, ScriptIsRefused};
@@ -37,11 +38,11 @@ pub fn pool_run<F: Files, O: Sink>(
         (O.taken out.new) (map (λ x. meaning x) shelf.old.items)
         (map (λ x. meaning x) shelf.new.items)) }
 
-    // Status 0: the transcript of one store for the script that the file contains, and each
-    // backend, the first boxes, has the rows that it leaves.
-    ensures played { result ≡ 0 → (config schema script text : Sequence ℕ) (journal : Bool)
-        → command_of (map (λ w. w.now) words.now) ≡ Some (Play config schema script journal)
-        → F.contents files.old script ≡ content text
+    // Status 0, where the script that the file contains is one client's single statements: the
+    // transcript of one store, and each backend, the first boxes, has the rows that it leaves.
+    ensures played { result ≡ 0 → (config schema script text : Sequence ℕ)
+        → command_of (map (λ w. w.now) words.now) ≡ Some (Play config schema script false)
+        → F.contents files.old script ≡ content text → SaysOneClient text
         → Played (F.contents files.old config) (F.contents files.old schema) text
         (outside (O.fault_count out.old) (O.fault_count out.new) (O.taken out.old) (O.taken out.new)
         (map (λ x. meaning x) shelf.old.items) (map (λ x. meaning x) shelf.new.items)) }
@@ -93,7 +94,7 @@ pub fn pool_run<F: Files, O: Sink>(
         ⊎ (((result ≡ 5) × Rose (O.fault_count out.old) (O.fault_count out.new))
         ⊎ (result ≡ 7)))) }
     // Statuses 1, 2, 3, 4 and 9: no box was touched.
-    ensures untouched { result ≢ 0 → result ≢ 5 → result ≢ 7
+    ensures untouched { result ≢ 0 → result ≢ 5 → result ≢ 6 → result ≢ 7 → result ≢ 10
         → map (λ x. meaning x) shelf.new.items ≡ map (λ x. meaning x) shelf.old.items }
     // Status 4 and 5: only where the count rose.
     ensures files { result ≡ 4 → Rose (F.fault_count files.old) (F.fault_count files.new) }

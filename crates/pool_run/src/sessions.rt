@@ -1,0 +1,130 @@
+//! A script of sessions is played over the first boxes of a shelf.
+ghost use Rattle.std.specs.Prelude.{◌≡◌, ◌≤◌, ◌⊎◌, List as Sequence, length, map, take};
+ghost use Rattle.backend_trait.specs.Store.{Store};
+ghost use Rattle.pool_run.specs.declared.status.Status.TheVariants.{Done, NoneLeft};
+ghost use Rattle.pgproto.specs.Line.{line_of};
+ghost use Rattle.pool_run.specs.Ends.{outside, SeveralEnds};
+ghost use Rattle.pool_run.specs.Plan.{IsSound};
+ghost use Rattle.pool_run.specs.Shelf.{AreFresh, ArePrepared};
+
+use crate::plan::Plan;
+use crate::running::prepare_first;
+use crate::status::Status;
+use backend_trait::Backend;
+use pool_base::{BackendSet, List, NoMemory, Sink};
+use schema::Catalogue;
+use session_player::{PlayFault, play};
+use session_seat::{Journal, Setting, World};
+use sql_copies::catalogue_copied;
+use std::alloc::Global;
+use std::mem;
+
+/// Plays the script of a plan as sessions, over as many boxes as the configuration has backends.
+#[tactic(auto, using(crate::proofs::Ending::grows_none))]
+pub(crate) fn run_sessions<O: Sink, B: Backend>(
+    alloc: Global,
+    plan: &Plan,
+    journal: bool,
+    out: &mut O,
+    shelf: &mut Vec<B>,
+) -> Status
+    requires sound { IsSound plan.now }
+    requires enough { 8 ≤ length shelf.old.items }
+    requires fresh { AreFresh B.meaning B.is_honest B.is_prompt B.is_steady shelf.old.items }
+    ensures { SeveralEnds (map line_of plan.now.lines.script) result
+        (outside (O.fault_count out.old) (O.fault_count out.new)
+        (O.taken out.old) (O.taken out.new) (map B.meaning shelf.old.items)
+        (map B.meaning shelf.new.items)) }
+{
+    let count = plan.config.nodes.len();
+    match prepare_first(shelf.as_mut_slice(), count, &plan.catalogue) {
+        Err(NoMemory) => Status::NoMemory,
+        Ok(()) => match catalogue_copied(alloc, &plan.catalogue) {
+            Err(NoMemory) => Status::NoMemory,
+            Ok(tables) => play_sessions(alloc, plan, tables, journal, out, shelf),
+        },
+    }
+}
+
+/// The journal, where one is to be kept.
+fn journal_at(alloc: Global, is_kept: bool) -> Journal {
+    if is_kept {
+        Journal::On(List::new(alloc))
+    } else {
+        Journal::Off
+    }
+}
+
+/// Plays the script of a plan over boxes that have their tables.
+fn play_sessions<O: Sink, B: Backend>(
+    alloc: Global,
+    plan: &Plan,
+    tables: Catalogue,
+    journal: bool,
+    out: &mut O,
+    shelf: &mut Vec<B>,
+) -> Status
+    requires sound { IsSound plan.now }
+    requires same { tables ≡ plan.now.catalogue }
+    requires enough { length plan.now.config.nodes ≤ length shelf.old.items }
+    requires each { ArePrepared B.meaning B.is_honest B.is_prompt B.is_steady plan.now.catalogue
+        (take (length plan.now.config.nodes) shelf.old.items) }
+    ensures { SeveralEnds (map line_of plan.now.lines.script) result
+        (outside (O.fault_count out.old) (O.fault_count out.new)
+        (O.taken out.old) (O.taken out.new) (map B.meaning shelf.old.items)
+        (map B.meaning shelf.new.items)) }
+{
+    let held = mem::replace(shelf, Vec::new(alloc));
+    let mut worlds = Vec::new(alloc);
+    if worlds
+        .push(World::new(tables, held, plan.config.nodes.len()))
+        .is_err()
+    {
+        return Status::NoMemory;
+    }
+    let status = play_in(alloc, plan, journal, out, &mut worlds[0]);
+    if let Some(world) = worlds.pop() {
+        *shelf = world.into_shelf();
+    }
+    status
+}
+
+/// Plays the script of a plan in a world.
+#[tactic(auto, using(crate::proofs::Tables::within_of))]
+fn play_in<O: Sink, B: Backend>(
+    alloc: Global,
+    plan: &Plan,
+    journal: bool,
+    out: &mut O,
+    world: &mut World<B>,
+) -> Status
+    requires sound { IsSound plan.now }
+    ensures { (before after : Sequence Store) → SeveralEnds (map line_of plan.now.lines.script)
+        result (outside (O.fault_count out.old) (O.fault_count out.new) (O.taken out.old)
+        (O.taken out.new) before after) }
+{
+    let setting = Setting {
+        alloc,
+        tables: &plan.catalogue,
+        config: &plan.config,
+        moment: 0,
+    };
+    let script = plan.lines.script.as_slice();
+    match play(setting, script, world, journal_at(alloc, journal), out) {
+        Ok(attached) => ended(attached),
+        Err(PlayFault::NoMemory) => Status::NoMemory,
+        Err(PlayFault::SinkFailed) => Status::SinkFailed,
+        Err(PlayFault::Stopped) => Status::Stopped,
+    }
+}
+
+/// How a script ends that was played to its end, by the backends that are attached then.
+fn ended(attached: BackendSet) -> Status
+    ensures { (result ≡ Done) ⊎ (result ≡ NoneLeft) }
+{
+    if attached.is_empty() {
+        Status::NoneLeft
+    } else {
+        Status::Done
+    }
+}

@@ -1,0 +1,4 @@
+pub mod Walking
+pub mod Placing
+pub mod Telling
+pub mod Fed

@@ -1,0 +1,39 @@
+-- Lines that are walked from their front.
+use Rattle.std.proofs.Common.{◌≡◌, ℕ, ◌<◌, ◌≤◌, ◌+◌, suc, zero, List, [], ◌∷◌, ◌++◌, map, take, length, drop, get_or, add-one, refl, sym, ap, ◌∙◌, subst, arith}
+use Rattle.std.specs.List.{AllByRecursion}
+use Rattle.std.proofs.lemmas.List.{take_more, map-append}
+
+drop_suc : {A : Type 0} (xs : List A) (i : ℕ) (x : A) → i < length xs → x ≡ get_or xs i x → drop i xs ≡ x ∷ drop (suc i) xs
+drop_suc [] i x below is = absurd (omega arith)
+drop_suc (y ∷ xs) zero x below is = ap (λ z. z ∷ xs) (sym is)
+drop_suc (y ∷ xs) (suc i) x below is = drop_suc xs i x (omega arith) is
+
+pub drop_here : {A : Type 0} (xs : List A) (i : ℕ) (x : A) → i < length xs → x ≡ get_or xs i x → drop i xs ≡ x ∷ drop (i + 1) xs
+drop_here xs i x below is = rw add-one (drop_suc xs i x below is)
+
+-- one more of the lines was walked
+pub taken : {A L : Type 0} (f : A → L) (xs : List A) (i : ℕ) (x : A) → i < length xs → x ≡ get_or xs i x → map f (take (i + 1) xs) ≡ map f (take i xs) ++ f x ∷ []
+taken f xs i x below is =
+    ap (map f) (take_more xs i x below ∙ ap (λ y. take i xs ++ y ∷ []) (sym is)) ∙ map-append f (take i xs) (x ∷ [])
+
+pub taken_all : {A : Type 0} (xs : List A) (i : ℕ) → length xs ≤ i → take i xs ≡ xs
+taken_all [] zero past = refl
+taken_all [] (suc i) past = refl
+taken_all (x ∷ xs) zero past = absurd (omega arith)
+taken_all (x ∷ xs) (suc i) past = ap (λ z. x ∷ z) (taken_all xs i (omega arith))
+
+-- what holds of all lines that are left holds of the next, and of all behind it
+pub here_of : {A L : Type 0} (f : A → L) (P : L → Type 0) (xs : List A) (i : ℕ) (x : A) → i < length xs → x ≡ get_or xs i x
+    → AllByRecursion P (map f (drop i xs)) → P (f x) × AllByRecursion P (map f (drop (i + 1) xs))
+here_of f P xs i x below is all = subst (λ z. AllByRecursion P (map f z)) (drop_here xs i x below is) all
+
+-- what holds of all lines holds of all that are left
+pub all_left : {A L : Type 0} (f : A → L) (P : L → Type 0) (xs : List A) (i : ℕ) → AllByRecursion P (map f xs) → AllByRecursion P (map f (drop i xs))
+all_left f P xs zero all = all
+all_left f P [] (suc i) all = tt
+all_left f P (x ∷ xs) (suc i) all = all_left f P xs i all.1
+
+-- what holds of the lines that were walked and of one more
+pub all_more : {A L : Type 0} (f : A → L) (P : L → Type 0) (xs : List A) (x : A) → AllByRecursion P (map f xs) → P (f x) → AllByRecursion P (map f xs ++ f x ∷ [])
+all_more f P [] x all here = (here, tt)
+all_more f P (y ∷ xs) x all here = (all.0, all_more f P xs x all.1 here)

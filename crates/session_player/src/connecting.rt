@@ -1,0 +1,162 @@
+//! What a line does, before the rounds behind it.
+ghost use Rattle.std.specs.Prelude.{◌≡◌, ℕ, length, IfOk};
+ghost use Rattle.pgproto.specs.Line.{line_of};
+ghost use Rattle.pgproto.specs.Spelling.{IsOfGrammar};
+ghost use Rattle.session_player.specs.Deeds.{CanBeSent};
+ghost use Rattle.session_player.specs.Slots.{IsPlaced};
+
+use crate::deed::Wish;
+use crate::feeding::{Cut, feed, sent_of};
+use crate::slots::{Client, Seats, Slot, is_taken, place_of, put};
+use backend_trait::Backend;
+use pgproto::{Mark, ScriptLine};
+use pool_base::{BackendId, NoMemory, SessionId};
+use session_seat::{
+    Book, Seat, Setting, StepFault, Turn, World, note_loss, policy_of, put_no_place,
+};
+use std::alloc::Global;
+
+/// The first message of a session: version 3.0, user `pool`, database `pool`.
+const START: [u8; 33] = [
+    0, 0, 0, 33, 0, 3, 0, 0, b'u', b's', b'e', b'r', 0, b'p', b'o', b'o', b'l', 0, b'd', b'a',
+    b't', b'a', b'b', b'a', b's', b'e', 0, b'p', b'o', b'o', b'l', 0, 0,
+];
+
+/// What is played behind a line.
+#[derive(Clone, Copy)]
+pub(crate) enum Then {
+    Rounds,
+    /// This session alone, up to the mark.
+    Alone(SessionId, Mark),
+    Nothing,
+}
+
+/// A client connects, where its number is free and a place is left.
+pub(crate) fn connect(
+    setting: Setting,
+    s: SessionId,
+    cut: Cut,
+    seats: &mut Seats,
+    book: &mut Book,
+) -> Result<Then, StepFault> {
+    let place = place_of(s);
+    if is_taken(&seats.slots[place]) {
+        book.say_of(setting.alloc, s, "busy")?;
+        return Ok(Then::Rounds);
+    }
+    if seats.taken() >= setting.config.children as usize {
+        put_no_place(setting.alloc, s, book)?;
+        return Ok(Then::Rounds);
+    }
+    let client = client_of(setting, s, cut)?;
+    put(&mut seats.slots[place], client);
+    Ok(Then::Rounds)
+}
+
+/// A client that has sent the first message of its session.
+fn client_of(setting: Setting, s: SessionId, cut: Cut) -> Result<Client, StepFault>
+    ensures { IfOk result (λ client. client.seat.s ≡ s) }
+{
+    let mut seat = Seat::new(setting.alloc, s, policy_of(setting.config))?;
+    match feed(&mut seat.wire, cut, &START) {
+        Ok(()) => Ok(Client { seat, rests: false }),
+        Err(fault) => {
+            drop(seat);
+            Err(StepFault::from(fault))
+        }
+    }
+}
+
+/// Does what is asked of a session, but for steps; where it is not connected, that is told.
+pub(crate) fn address(
+    alloc: Global,
+    s: SessionId,
+    wish: Wish,
+    cut: Cut,
+    seats: &mut Seats,
+    book: &mut Book,
+) -> Result<Then, StepFault>
+    requires { CanBeSent wish }
+{
+    let place = place_of(s);
+    if !grant(alloc, &mut seats.slots[place], wish, cut)? {
+        book.say_of(alloc, s, "gone")?;
+    }
+    Ok(then_of(s, wish))
+}
+
+/// Does what is asked of a session, but for steps. The answer: whether it is connected.
+fn grant(alloc: Global, slot: &mut Slot, wish: Wish, cut: Cut) -> Result<bool, NoMemory>
+    requires { CanBeSent wish }
+    ensures { (before : ℕ) → IsPlaced before slot.old → IsPlaced before slot.new }
+{
+    match slot {
+        Slot::Free => Ok(false),
+        Slot::Taken(client) => {
+            grant_client(alloc, client, wish, cut)?;
+            Ok(true)
+        }
+    }
+}
+
+fn grant_client(alloc: Global, client: &mut Client, wish: Wish, cut: Cut) -> Result<(), NoMemory>
+    requires { CanBeSent wish }
+    ensures { client.new.seat.s ≡ client.old.seat.s }
+{
+    match wish {
+        Wish::Hold => {
+            client.seat.turn = Turn::Held;
+            Ok(())
+        }
+        Wish::Go => {
+            client.seat.turn = Turn::Free;
+            Ok(())
+        }
+        Wish::Until(_) => Ok(()),
+        Wish::Send(line) => send(alloc, client, line, cut),
+    }
+}
+
+/// The client of a session sends what a line says.
+fn send(alloc: Global, client: &mut Client, line: &ScriptLine, cut: Cut) -> Result<(), NoMemory>
+    requires { IsOfGrammar (line_of line.now) }
+    ensures { client.new.seat.s ≡ client.old.seat.s }
+{
+    let bytes = sent_of(alloc, line)?;
+    client.rests = false;
+    feed(&mut client.seat.wire, cut, bytes.as_slice())
+}
+
+/// What is played behind a line that asks this of a session, whether it is connected or not.
+fn then_of(s: SessionId, wish: Wish) -> Then {
+    match wish {
+        Wish::Hold => Then::Nothing,
+        Wish::Until(mark) => Then::Alone(s, mark),
+        Wish::Go | Wish::Send(_) => Then::Rounds,
+    }
+}
+
+/// A backend is lost, where the configuration has it.
+pub(crate) fn lose<B: Backend>(
+    setting: Setting,
+    b: BackendId,
+    world: &mut World<B>,
+    book: &mut Book,
+) -> Result<Then, StepFault>
+    ensures { length world.new.shelf.items ≡ length world.old.shelf.items }
+{
+    if !world.is_configured(b) {
+        tell_none(setting.alloc, b, book)?;
+        return Ok(Then::Rounds);
+    }
+    world.lose(b);
+    note_loss(setting, b, world, book)?;
+    Ok(Then::Rounds)
+}
+
+/// Tells that the configuration has no such backend.
+fn tell_none(alloc: Global, b: BackendId, book: &mut Book) -> Result<(), NoMemory> {
+    let number = b.number;
+    let line = format!(in alloc; "pool no {number}\n")?;
+    book.say(line.as_bytes())
+}

@@ -1,0 +1,18 @@
+//! A script of up to 64 clients, played over one gate and the stores of a shelf. What is written
+//! has the echo of each line in order, and whatever happens the shelf keeps as many boxes.
+#![tactic(auto)]
+
+mod connecting;
+mod deed;
+mod fault;
+mod feeding;
+mod marks;
+mod player;
+mod round;
+mod script;
+mod slots;
+mod writing;
+
+pub use fault::PlayFault;
+pub use player::play;
+pub use script::is_played;

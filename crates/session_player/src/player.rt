@@ -1,0 +1,254 @@
+//! A script, played part by part: one for each line, and one for the end.
+ghost use Rattle.std.specs.Prelude.{◌≡◌, ◌≤◌, ℕ, length, map, OnOk, IfErr};
+ghost use Rattle.std.specs.List.{AllByRecursion};
+ghost use Rattle.pgproto.specs.Line.{line_of};
+ghost use Rattle.pgproto.specs.Spelling.{IsOfGrammar};
+ghost use Rattle.pool_base.specs.Outside.{Rose};
+ghost use Rattle.pool_config.specs.Configuration.{IsAllowed};
+ghost use Rattle.schema.specs.Grammar.{IsWithin};
+ghost use Rattle.schema_print.specs.Printed.{AreInRange};
+ghost use Rattle.session_player.specs.declared.fault.PlayFault.TheVariants as faults;
+ghost use Rattle.session_player.specs.Slots.{ArePlaced, IsPlaced};
+ghost use Rattle.session_player.specs.Times.{IsMomentRead};
+ghost use Rattle.session_player.specs.Written.{ArePlayed, AreParts, Grew, IsPart};
+
+use crate::connecting::{Then, address, connect, lose};
+use crate::deed::{Deed, deed_of};
+use crate::fault::PlayFault;
+use crate::feeding::Cut;
+use crate::round::{go_until, rounds};
+use crate::slots::{Seats, Slot};
+use crate::writing::{put_echo, put_journal, put_told};
+use backend_trait::Backend;
+use pg_values::{ColType, Value, ValueFault, from_text};
+use pgproto::ScriptLine;
+use pool_base::{BackendSet, Sink};
+use session_seat::{Book, Journal, Setting, StepFault, Turn, World};
+use std::alloc::Global;
+
+/// Where a play stands between two lines.
+#[derive(Drop)]
+struct Scene {
+    seats: Seats,
+    cut: Cut,
+    /// Units: microseconds since 2000-01-01 00:00 UTC.
+    moment: i64,
+    book: Book,
+}
+
+/// Plays a script over the backends of a world: its transcript goes to `out`, and behind it the
+/// journal, where one is kept. The answer: the backends that are attached at the end.
+pub fn play<B: Backend, O: Sink>(
+    setting: Setting,
+    script: &[ScriptLine],
+    world: &mut World<B>,
+    journal: Journal,
+    out: &mut O,
+) -> Result<BackendSet, PlayFault>
+    requires grammar { AllByRecursion IsOfGrammar (map line_of script.now) }
+    requires within { IsWithin setting.tables.now }
+    requires in_range { AreInRange setting.tables.now }
+    requires config { IsAllowed setting.config.now }
+    // For each line its echo was written, and behind it what is told.
+    ensures all { OnOk result (ArePlayed (map line_of script.now) (O.taken out.old)
+        (O.taken out.new)) }
+    // What was taken begins with what had been taken, whatever the answer.
+    ensures grows { Grew (O.taken out.old) (O.taken out.new) }
+    ensures boxes { length world.new.shelf.items ≡ length world.old.shelf.items }
+
+    // The sink's fault comes only where its count rose.
+    ensures sink { IfErr result (λ e. e ≡ faults.SinkFailed
+        → Rose (O.fault_count out.old) (O.fault_count out.new)) }
+    ensures later { O.fault_count out.old ≤ O.fault_count out.new }
+{
+    let mut scene = Scene {
+        seats: Seats::new(setting.alloc)?,
+        cut: Cut::Whole,
+        moment: setting.moment,
+        book: Book::new(setting.alloc, journal),
+    };
+    play_lines(setting, script, &mut scene, world, out)?;
+    play_end(setting, &mut scene, world, out)?;
+    Ok(world.attached())
+}
+
+/// Plays the parts of the lines.
+fn play_lines<B: Backend, O: Sink>(
+    setting: Setting,
+    script: &[ScriptLine],
+    scene: &mut Scene,
+    world: &mut World<B>,
+    out: &mut O,
+) -> Result<(), PlayFault>
+    requires grammar { AllByRecursion IsOfGrammar (map line_of script.now) }
+    requires within { IsWithin setting.tables.now }
+    ensures parts { OnOk result (AreParts (map line_of script.now) (O.taken out.old)
+        (O.taken out.new)) }
+    ensures grows { Grew (O.taken out.old) (O.taken out.new) }
+    ensures boxes { length world.new.shelf.items ≡ length world.old.shelf.items }
+    ensures sink { IfErr result (λ e. e ≡ faults.SinkFailed
+        → Rose (O.fault_count out.old) (O.fault_count out.new)) }
+    ensures later { O.fault_count out.old ≤ O.fault_count out.new }
+{
+    for line in script {
+        play_part(setting, line, scene, world, out)?;
+    }
+    Ok(())
+}
+
+/// Plays the part of a line: its echo, what it does, and the rounds behind it.
+fn play_part<B: Backend, O: Sink>(
+    setting: Setting,
+    line: &ScriptLine,
+    scene: &mut Scene,
+    world: &mut World<B>,
+    out: &mut O,
+) -> Result<(), PlayFault>
+    requires grammar { IsOfGrammar (line_of line.now) }
+    requires within { IsWithin setting.tables.now }
+    ensures part { OnOk result (IsPart (line_of line.now) (O.taken out.old) (O.taken out.new)) }
+    ensures grows { Grew (O.taken out.old) (O.taken out.new) }
+    ensures boxes { length world.new.shelf.items ≡ length world.old.shelf.items }
+    ensures sink { IfErr result (λ e. e ≡ faults.SinkFailed
+        → Rose (O.fault_count out.old) (O.fault_count out.new)) }
+    ensures later { O.fault_count out.old ≤ O.fault_count out.new }
+{
+    put_echo(setting.alloc, line, out)?;
+    play_line(setting, line, scene, world)?;
+    put_told(&mut scene.book, out)
+}
+
+/// What a step reads, at that moment.
+fn at_moment(setting: Setting, moment: i64) -> Setting
+    ensures tables { result.tables.now ≡ setting.entry.tables.now }
+    ensures config { result.config.now ≡ setting.entry.config.now }
+{
+    Setting {
+        alloc: setting.alloc,
+        tables: setting.tables,
+        config: setting.config,
+        moment,
+    }
+}
+
+/// What a line does, and the rounds behind it.
+fn play_line<B: Backend>(
+    setting: Setting,
+    line: &ScriptLine,
+    scene: &mut Scene,
+    world: &mut World<B>,
+) -> Result<(), StepFault>
+    requires grammar { IsOfGrammar (line_of line.now) }
+    requires within { IsWithin setting.tables.now }
+    ensures { length world.new.shelf.items ≡ length world.old.shelf.items }
+{
+    let then = do_line(setting, line, scene, world)?;
+    let setting = at_moment(setting, scene.moment);
+    match then {
+        Then::Nothing => Ok(()),
+        Then::Rounds => rounds(setting, &mut scene.seats, world, &mut scene.book),
+        Then::Alone(s, mark) => {
+            go_until(setting, s, mark, &mut scene.seats, world, &mut scene.book)
+        }
+    }
+}
+
+/// Does what a line asks, before the rounds behind it.
+fn do_line<B: Backend>(
+    setting: Setting,
+    line: &ScriptLine,
+    scene: &mut Scene,
+    world: &mut World<B>,
+) -> Result<Then, StepFault>
+    requires { IsOfGrammar (line_of line.now) }
+    ensures { length world.new.shelf.items ≡ length world.old.shelf.items }
+{
+    match deed_of(line) {
+        Deed::Connect(s) => connect(setting, s, scene.cut, &mut scene.seats, &mut scene.book),
+        Deed::Lose(b) => lose(setting, b, world, &mut scene.book),
+        Deed::Cut(size) => {
+            scene.cut = Cut::Pieces(size as usize);
+            Ok(Then::Rounds)
+        }
+        Deed::SetMoment(text) => {
+            if let Some(moment) = moment_of(setting.alloc, text) {
+                scene.moment = moment;
+            }
+            Ok(Then::Rounds)
+        }
+        Deed::Of(s, wish) => {
+            address(
+                setting.alloc,
+                s,
+                wish,
+                scene.cut,
+                &mut scene.seats,
+                &mut scene.book,
+            )
+        }
+    }
+}
+
+/// The moment of a text, if it is a text form of one.
+fn moment_of(alloc: Global, text: &[u8]) -> Option<i64>
+    ensures { IsMomentRead text.now result }
+{
+    match from_text(alloc, ColType::Moment, text) {
+        Ok(Value::Moment(micros)) => Some(micros),
+        Ok(_) => None,
+        Err(ValueFault::Bad(_)) => None,
+        // Memory is refused for a text alone.
+        Err(ValueFault::NoMemory) => unreachable!(),
+    }
+}
+
+/// Plays the end: all sessions are let go, the input of each ends, and rounds are made. Behind it
+/// stands the journal.
+fn play_end<B: Backend, O: Sink>(
+    setting: Setting,
+    scene: &mut Scene,
+    world: &mut World<B>,
+    out: &mut O,
+) -> Result<(), PlayFault>
+    requires within { IsWithin setting.tables.now }
+    requires in_range { AreInRange setting.tables.now }
+    requires config { IsAllowed setting.config.now }
+    ensures grows { Grew (O.taken out.old) (O.taken out.new) }
+    ensures boxes { length world.new.shelf.items ≡ length world.old.shelf.items }
+    ensures sink { IfErr result (λ e. e ≡ faults.SinkFailed
+        → Rose (O.fault_count out.old) (O.fault_count out.new)) }
+    ensures later { O.fault_count out.old ≤ O.fault_count out.new }
+{
+    end_all(&mut scene.seats);
+    let last = at_moment(setting, scene.moment);
+    rounds(last, &mut scene.seats, world, &mut scene.book)?;
+    put_told(&mut scene.book, out)?;
+    put_journal(setting, &scene.book, out)
+}
+
+/// All sessions are let go, and the input of each ends.
+fn end_all(seats: &mut Seats) {
+    end_each(seats.slots.as_mut_slice());
+}
+
+fn end_each(slots: &mut [Slot])
+    requires { ArePlaced 0 slots.old }
+    ensures { ArePlaced 0 slots.new }
+{
+    for slot in slots.iter_mut() {
+        end_input(slot);
+    }
+}
+
+fn end_input(slot: &mut Slot)
+    ensures { (before : ℕ) → IsPlaced before slot.old → IsPlaced before slot.new }
+{
+    match slot {
+        Slot::Free => {}
+        Slot::Taken(client) => {
+            client.seat.turn = Turn::Free;
+            client.rests = false;
+            client.seat.wire.end_input();
+        }
+    }
+}

@@ -1,0 +1,79 @@
+-- What is known of a session at a backend, and what a post and an answer make of it.
+use Rattle.std.specs.Prelude.{◌≡◌, ℕ, Bool, true, false, List, Option, None, Some, if◌then◌else◌}
+use Rattle.schema.specs.declared.catalogue.TableDef.{TableDef}
+use Rattle.catalogue.specs.declared.checked.Checked.{Checked}
+use Rattle.classifier.specs.Classes.{lock_of}
+use Rattle.backend_trait.specs.declared.request.Request.{Request}
+use Rattle.backend_trait.specs.declared.request.Request.TheVariants as requests
+use Rattle.backend_trait.specs.declared.answer.Polled.{Polled}
+use Rattle.backend_trait.specs.declared.answer.Polled.TheVariants as polls
+use Rattle.backend_trait.specs.Runnable.{IsRunnable}
+use Rattle.backend_trait.specs.Store.{Standing, HasNone, IsLive, IsDead, Line, Store, line_of, is_refusal}
+use Rattle.session_seat.specs.declared.known.Holds.{Holds}
+use Rattle.session_seat.specs.declared.known.Holds.TheVariants as holding
+use Rattle.session_seat.specs.declared.known.Awaits.{Awaits}
+use Rattle.session_seat.specs.declared.known.Awaits.TheVariants as awaiting
+use Rattle.session_seat.specs.declared.known.Known.{Known}
+
+abbrev pub holds_as : Standing → Holds
+holds_as HasNone = holding.Nothing
+holds_as IsLive = holding.Live
+holds_as IsDead = holding.Dead
+
+-- what is waited for, by what its answer leaves
+abbrev pub awaits_as : Option Request → Awaits
+awaits_as None = awaiting.Nothing
+awaits_as (Some requests.TakeSnapshot) = awaiting.Begin
+awaits_as (Some (requests.Run checked)) = awaiting.Work
+awaits_as (Some (requests.Lock table)) = awaiting.Work
+awaits_as (Some requests.Commit) = awaiting.End
+awaits_as (Some requests.Rollback) = awaiting.End
+awaits_as (Some (requests.ReadSerial table)) = awaiting.Work
+awaits_as (Some (requests.SetSerial table n)) = awaiting.Work
+
+abbrev pub known_as : Holds → Awaits → Known
+known_as holds awaits = record { holds = holds; awaits = awaits }
+
+abbrev pub nothing_known : Known
+nothing_known = known_as holding.Nothing awaiting.Nothing
+
+-- what a store has of a session, as far as it is known
+abbrev pub known_of : Line → Known
+known_of line = known_as (holds_as line.standing) (awaits_as line.waits)
+
+-- what is known of each session is what the store has of it
+abbrev pub Knows : (ℕ → Known) → Store → Type 0
+Knows all st = (s : ℕ) → all s ≡ known_of (line_of st s)
+
+-- a live transaction may run a statement that takes no lock first
+abbrev pub MayRun : List TableDef → Known → Checked → Type 0
+MayRun tables k checked = (k.holds ≡ holding.Live) × ((lock_of checked.body ≡ None) × IsRunnable tables checked)
+
+-- what a session of which this is known may post; what speaks of serial numbers, nobody
+abbrev pub Admits : List TableDef → Known → Request → Type 0
+Admits tables k requests.TakeSnapshot = k.holds ≡ holding.Nothing
+Admits tables k (requests.Run checked) = MayRun tables k checked
+Admits tables k (requests.Lock table) = k.holds ≡ holding.Live
+Admits tables k requests.Commit = k.holds ≡ holding.Live
+Admits tables k requests.Rollback = Unit {0}
+Admits tables k (requests.ReadSerial table) = ⊥
+Admits tables k (requests.SetSerial table n) = ⊥
+
+abbrev pub after_post : Known → Request → Known
+after_post k request = known_as k.holds (awaits_as (Some request))
+
+-- whether there is a transaction behind an answer that is no refusal
+abbrev pub holds_behind : Holds → Awaits → Holds
+holds_behind holds awaiting.Nothing = holds
+holds_behind holds awaiting.Begin = holding.Live
+holds_behind holds awaiting.Work = holds
+holds_behind holds awaiting.End = holding.Nothing
+
+abbrev pub after_answer : Known → Bool → Known
+after_answer k refused = if refused then known_as holding.Dead awaiting.Nothing else known_as (holds_behind k.holds k.awaits) awaiting.Nothing
+
+abbrev pub after_poll : Known → Polled → Known
+after_poll k (polls.Answered answer) = after_answer k (is_refusal answer)
+after_poll k polls.NotYet = k
+after_poll k polls.Lost = k
+after_poll k polls.NoMemory = k

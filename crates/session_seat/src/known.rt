@@ -1,0 +1,191 @@
+//! What is known of a session at a backend: whether it has a transaction there, and what it waits
+//! for.
+//!
+//! ```text
+//!             Begin                    Commit, Rollback
+//! Nothing -----------> Live -------------------------------> Nothing
+//!    |                 | ^ \-- Run, Lock: a result --/          ^
+//!    |    a refusal    | +---------------------------+          |
+//!    +------> Dead <---+------------- Rollback -----------------+
+//! ```
+//!
+//! All transitions are made by `after_answer`, once an answer comes; a post changes what is waited
+//! for alone.
+ghost use Rattle.std.specs.Prelude.{◌≡◌, ◌↔◌, IsTrue, None, Some};
+ghost use Rattle.backend_trait.specs.Runnable.{IsRunnable};
+ghost use Rattle.backend_trait.specs.Store.{is_refusal};
+ghost use Rattle.classifier.specs.Classes.{lock_of};
+ghost use Rattle.session_seat.specs.Known.{Admits, MayRun, after_answer, after_poll, after_post, awaits_as, nothing_known};
+ghost use Rattle.session_seat.specs.declared.known.Awaits.TheVariants as awaiting;
+ghost use Rattle.session_seat.specs.declared.known.Holds.TheVariants as holding;
+
+use backend_trait::{Answer, Catalogue, Checked, Polled, Request, is_runnable};
+use classifier::lock_of;
+
+/// Whether a session has a transaction at a backend.
+#[derive(Clone, Copy)]
+pub(crate) enum Holds {
+    Nothing,
+    Live,
+    Dead,
+}
+
+/// What a session waits for at a backend, by what the answer leaves.
+#[derive(Clone, Copy)]
+pub(crate) enum Awaits {
+    Nothing,
+    /// A transaction begins.
+    Begin,
+    /// The transaction goes on.
+    Work,
+    /// The transaction ends.
+    End,
+}
+
+/// What is known of a session at a backend.
+#[derive(Clone, Copy)]
+pub(crate) struct Known {
+    pub(crate) holds: Holds,
+    pub(crate) awaits: Awaits,
+}
+
+impl Known {
+    /// It has no transaction, and waits for nothing.
+    pub(crate) fn nothing() -> Known
+        ensures { result ≡ nothing_known }
+    {
+        Known {
+            holds: Holds::Nothing,
+            awaits: Awaits::Nothing,
+        }
+    }
+
+    /// Whether it waits for nothing.
+    pub(crate) fn is_idle(self) -> bool
+        ensures { IsTrue result ↔ (self.awaits ≡ awaiting.Nothing) }
+    {
+        match self.awaits {
+            Awaits::Nothing => true,
+            Awaits::Begin | Awaits::Work | Awaits::End => false,
+        }
+    }
+
+    /// Whether it has no transaction.
+    fn is_free(self) -> bool
+        ensures { IsTrue result ↔ (self.holds ≡ holding.Nothing) }
+    {
+        match self.holds {
+            Holds::Nothing => true,
+            Holds::Live | Holds::Dead => false,
+        }
+    }
+
+    /// Whether its transaction is live.
+    fn is_live(self) -> bool
+        ensures { IsTrue result ↔ (self.holds ≡ holding.Live) }
+    {
+        match self.holds {
+            Holds::Live => true,
+            Holds::Nothing | Holds::Dead => false,
+        }
+    }
+
+    /// Whether its transaction may run a statement, at a backend of these tables. A statement that
+    /// wants the lock of a table may not.
+    fn may_run(self, tables: &Catalogue, statement: &Checked) -> bool
+        ensures { IsTrue result ↔ MayRun tables.now self statement.now }
+    {
+        self.is_live() && lock_of(statement).is_none() && is_runnable(tables, statement)
+    }
+
+    /// Whether its transaction allows the request, at a backend of these tables. What sets or reads
+    /// the number of a serial column is never allowed.
+    fn admits(self, tables: &Catalogue, request: &Request) -> bool
+        ensures { IsTrue result ↔ Admits tables.now self request.now }
+    {
+        match request {
+            Request::TakeSnapshot => self.is_free(),
+            Request::Run(statement) => self.may_run(tables, statement),
+            Request::Lock(_) | Request::Commit => self.is_live(),
+            Request::Rollback => true,
+            Request::ReadSerial(_) | Request::SetSerial(_, _) => false,
+        }
+    }
+
+    /// Whether it may post the request to a backend of these tables.
+    pub(crate) fn may_post(self, tables: &Catalogue, request: &Request) -> bool
+        ensures { IsTrue result ↔ ((self.awaits ≡ awaiting.Nothing)
+            × Admits tables.now self request.now) }
+    {
+        self.is_idle() && self.admits(tables, request)
+    }
+
+    /// What is known once it has posted a request.
+    pub(crate) fn after_post(self, request: &Request) -> Known
+        ensures { result ≡ after_post self request.now }
+    {
+        Known {
+            holds: self.holds,
+            awaits: awaits_of(request),
+        }
+    }
+
+    /// What is known once an answer has come: a refusal, or none.
+    fn after_answer(self, refused: bool) -> Known
+        ensures { result ≡ after_answer self refused }
+    {
+        if refused {
+            return Known {
+                holds: Holds::Dead,
+                awaits: Awaits::Nothing,
+            };
+        }
+        let holds = match self.awaits {
+            Awaits::Begin => Holds::Live,
+            Awaits::End => Holds::Nothing,
+            Awaits::Nothing | Awaits::Work => self.holds,
+        };
+        Known {
+            holds,
+            awaits: Awaits::Nothing,
+        }
+    }
+
+    /// What is known behind a poll.
+    pub(crate) fn after_poll(self, polled: &Polled) -> Known
+        ensures { result ≡ after_poll self polled.now }
+    {
+        match polled {
+            Polled::Answered(answer) => self.after_answer(is_refusal(answer)),
+            Polled::NotYet | Polled::Lost | Polled::NoMemory => self,
+        }
+    }
+}
+
+/// What is waited for behind a request.
+fn awaits_of(request: &Request) -> Awaits
+    ensures { result ≡ awaits_as (Some request.now) }
+{
+    match request {
+        Request::TakeSnapshot => Awaits::Begin,
+        Request::Run(_) | Request::Lock(_) | Request::ReadSerial(_) | Request::SetSerial(_, _) => {
+            Awaits::Work
+        }
+        Request::Commit | Request::Rollback => Awaits::End,
+    }
+}
+
+/// Whether an answer is a refusal.
+fn is_refusal(answer: &Answer) -> bool
+    ensures { result ≡ is_refusal answer.now }
+{
+    match answer {
+        Answer::Refused(_) => true,
+        Answer::Began
+        | Answer::Rows(_)
+        | Answer::Count(_)
+        | Answer::Locked
+        | Answer::Done
+        | Answer::Serial(_) => false,
+    }
+}

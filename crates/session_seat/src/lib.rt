@@ -1,0 +1,28 @@
+//! One step of one session of a play, over one gate and the backends of a shelf.
+#![tactic(auto)]
+
+mod book;
+mod calls;
+mod fault;
+mod known;
+mod policy;
+mod posting;
+mod replies;
+mod roll;
+mod seat;
+mod setting;
+mod step;
+mod talk;
+mod world;
+
+pub use book::{Book, Journal};
+pub use calls::may_call;
+pub use fault::StepFault;
+pub use policy::policy_of;
+pub use posting::Looked;
+pub use replies::put_no_place;
+pub use seat::{Seat, Turn};
+pub use setting::Setting;
+pub use step::{Step, take_step};
+pub use talk::note_loss;
+pub use world::World;

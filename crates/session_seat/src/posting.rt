@@ -1,0 +1,73 @@
+//! One post and one poll at a backend, by its roll.
+ghost use Rattle.std.specs.Prelude.{◌≡◌};
+ghost use Rattle.session_seat.specs.Known.{Knows};
+ghost use Rattle.session_seat.specs.Rolls.{known_in};
+
+use crate::fault::StepFault;
+use crate::roll::Roll;
+use backend_trait::{Backend, Catalogue, Polled, Posted, Request};
+use pool_base::SessionId;
+
+/// What a poll finds, with the backend's counts of faults before and behind it.
+#[derive(Drop)]
+pub struct Looked {
+    pub before: u64,
+    pub after: u64,
+    pub polled: Polled,
+}
+
+/// Posts a request of a session, where the roll says that it may.
+pub(crate) fn post_at<B: Backend>(
+    tables: &Catalogue,
+    roll: &mut Roll,
+    store: &mut B,
+    s: SessionId,
+    request: Request,
+) -> Result<(), StepFault>
+    requires tables { (B.meaning store.old).tables ≡ tables.now }
+    requires known { Knows (known_in roll.old) (B.meaning store.old) }
+    ensures tables { (B.meaning store.new).tables ≡ (B.meaning store.old).tables }
+    ensures known { Knows (known_in roll.new) (B.meaning store.new) }
+{
+    let known = roll.at(s);
+    if !known.may_post(tables, &request) {
+        drop(request);
+        return Err(StepFault::Stopped);
+    }
+    let after = known.after_post(&request);
+    match store.post(s, request) {
+        Posted::NoMemory(request) => {
+            drop(request);
+            Err(StepFault::NoMemory)
+        }
+        Posted::Accepted => {
+            roll.put(s, after);
+            Ok(())
+        }
+    }
+}
+
+/// Looks for the answer to a session's request, where the roll says that it waits for one.
+pub(crate) fn poll_at<B: Backend>(
+    roll: &mut Roll,
+    store: &mut B,
+    s: SessionId,
+) -> Result<Looked, StepFault>
+    requires known { Knows (known_in roll.old) (B.meaning store.old) }
+    ensures tables { (B.meaning store.new).tables ≡ (B.meaning store.old).tables }
+    ensures known { Knows (known_in roll.new) (B.meaning store.new) }
+{
+    let known = roll.at(s);
+    if known.is_idle() {
+        return Err(StepFault::Stopped);
+    }
+    let before = store.faults();
+    let polled = store.poll(s);
+    roll.put(s, known.after_poll(&polled));
+    let after = store.faults();
+    Ok(Looked {
+        before,
+        after,
+        polled,
+    })
+}

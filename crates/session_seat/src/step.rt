@@ -1,0 +1,325 @@
+//! One step of one session.
+//!
+//! ```text
+//! asks      step                              event
+//! Rest      the wire's next order             Order, or none: nothing to do, or closed
+//! Gate      one call                          Gate; none where it is held: the session waits
+//! Post      one post                          Post
+//! WaitFor   one poll                          Act and Take, or Lost and Fault; else it waits
+//! Detach    one call                          Detach
+//! Reply     the outcome goes to the wire      Reply
+//! End       the session ends                  End; and behind that it is closed
+//! ```
+//!
+//! An event is noted before it takes place, but for a post, which is noted behind it.
+ghost use Rattle.std.specs.Prelude.{◌≡◌, ◌<◌, ◌≤◌, length, IfOk, OnOk};
+ghost use Rattle.schema.specs.Grammar.{IsWithin};
+ghost use Rattle.session_machine.specs.Allowed.{MayHappen};
+ghost use Rattle.session_machine.specs.Rules.{next_action};
+ghost use Rattle.session_machine.specs.declared.action.Action.TheVariants as actions;
+ghost use Rattle.session_machine.specs.declared.action.SessionEvent.TheVariants as events;
+ghost use Rattle.session_engine.specs.Cores.{machine_in};
+ghost use Rattle.session_engine.specs.Handing.{IsPost, IsReply};
+ghost use Rattle.session_wire.specs.Answers.{MayAnswer};
+ghost use Rattle.session_seat.specs.Steps.{IsDid, Stays};
+
+use crate::book::Book;
+use crate::fault::StepFault;
+use crate::replies::put_output;
+use crate::seat::Seat;
+use crate::setting::Setting;
+use crate::talk::{detach, hear};
+use crate::world::World;
+use backend_trait::{Backend, Request};
+use journal::Event;
+use pgproto::Mark;
+use pool_base::{BackendId, GateAnswer, GateCall, Text};
+use session_engine::Ask;
+use session_machine::Status;
+use session_orders::{Order, Outcome};
+use session_wire::{WireStep, may_answer};
+
+/// What a step did.
+#[derive(Clone, Copy, Drop)]
+pub enum Step {
+    /// An event took place, at which a session may be stopped by this mark.
+    Did(Option<Mark>),
+    /// The session waits: for the gate, or for a backend.
+    Waits,
+    /// It has nothing to do: its core rests, and its wire needs input.
+    Idle,
+    /// It is over, and its place is free.
+    Closed,
+}
+
+/// Takes one step.
+pub fn take_step<B: Backend>(
+    setting: Setting,
+    seat: &mut Seat,
+    world: &mut World<B>,
+    book: &mut Book,
+) -> Result<Step, StepFault>
+    requires within { IsWithin setting.tables.now }
+    // An event is counted, so that a run of steps ends. A step without one leaves the machine.
+    ensures did { IfOk result (λ step. IsDid step → book.old.events < book.new.events) }
+    ensures stays { IfOk result (λ step. Stays (machine_in seat.old.core) step (machine_in
+        seat.new.core)) }
+    ensures events { book.old.events ≤ book.new.events }
+    ensures s { seat.new.s ≡ seat.old.s }
+    ensures turn { seat.new.turn ≡ seat.old.turn }
+    ensures count { world.new.count ≡ world.old.count }
+    ensures boxes { length world.new.shelf.items ≡ length world.old.shelf.items }
+{
+    if seat.over {
+        book.say_of(setting.alloc, seat.s, "closed")?;
+        return Ok(Step::Closed);
+    }
+    match seat.core.asks() {
+        Ask::Rest => take_order(setting, seat, book),
+        Ask::Gate(call) => call_gate(setting, seat, call, world, book),
+        Ask::Post(b) => post(setting, seat, b, world, book),
+        Ask::WaitFor(b) => hear(setting, seat, b, world, book),
+        Ask::Detach(b) => detach(setting, seat, b, world, book),
+        Ask::Reply => reply(setting, seat, book),
+        Ask::End => end(setting, seat, book),
+    }
+}
+
+/// Asks the wire for its client's next order.
+fn take_order(setting: Setting, seat: &mut Seat, book: &mut Book) -> Result<Step, StepFault>
+    requires within { IsWithin setting.tables.now }
+    ensures did { IfOk result (λ step. IsDid step → book.old.events < book.new.events) }
+    ensures stays { IfOk result (λ step. Stays (machine_in seat.old.core) step (machine_in
+        seat.new.core)) }
+    ensures events { book.old.events ≤ book.new.events }
+    ensures s { seat.new.s ≡ seat.old.s }
+    ensures turn { seat.new.turn ≡ seat.old.turn }
+{
+    match seat.wire.next(setting.tables, setting.moment)? {
+        WireStep::NeedInput => {
+            put_output(setting.alloc, seat.s, &mut seat.wire, book)?;
+            Ok(Step::Idle)
+        }
+        WireStep::NeedOutcome => Err(StepFault::Stopped),
+        WireStep::Close { .. } => {
+            put_output(setting.alloc, seat.s, &mut seat.wire, book)?;
+            book.say_of(setting.alloc, seat.s, "closed")?;
+            Ok(Step::Closed)
+        }
+        WireStep::Order(order) => obey(setting, seat, order, book),
+    }
+}
+
+/// Takes an order.
+fn obey(setting: Setting, seat: &mut Seat, order: Order, book: &mut Book) -> Result<Step, StepFault>
+    ensures did { IfOk result (λ step. IsDid step → book.old.events < book.new.events) }
+    ensures stays { IfOk result (λ step. Stays (machine_in seat.old.core) step (machine_in
+        seat.new.core)) }
+    ensures events { book.old.events ≤ book.new.events }
+    ensures s { seat.new.s ≡ seat.old.s }
+    ensures turn { seat.new.turn ≡ seat.old.turn }
+{
+    if let Err(fault) = note_order(setting, seat, &order, book) {
+        drop(order);
+        return Err(fault);
+    }
+    seat.core.order(order)?;
+    Ok(Step::Did(Some(Mark::Order)))
+}
+
+/// Notes an order that the core takes, behind what the wire has put out before it.
+fn note_order(
+    setting: Setting,
+    seat: &mut Seat,
+    order: &Order,
+    book: &mut Book,
+) -> Result<(), StepFault>
+    ensures may { OnOk result (MayHappen (machine_in seat.new.core) (events.Ordered order.now)) }
+    ensures did { OnOk result (book.old.events < book.new.events) }
+    ensures events { book.old.events ≤ book.new.events }
+    ensures s { seat.new.s ≡ seat.old.s }
+    ensures turn { seat.new.turn ≡ seat.old.turn }
+{
+    let s = seat.s;
+    put_output(setting.alloc, s, &mut seat.wire, book)?;
+    if !seat.core.may_order(&order.body) {
+        return Err(StepFault::Stopped);
+    }
+    book.note(setting, Event::Order { s, order })
+}
+
+/// Makes one call of the gate. Where it is held, it is made again in a later round.
+fn call_gate<B: Backend>(
+    setting: Setting,
+    seat: &mut Seat,
+    call: GateCall,
+    world: &mut World<B>,
+    book: &mut Book,
+) -> Result<Step, StepFault>
+    ensures did { IfOk result (λ step. IsDid step → book.old.events < book.new.events) }
+    ensures stays { IfOk result (λ step. Stays (machine_in seat.old.core) step (machine_in
+        seat.new.core)) }
+    ensures events { book.old.events ≤ book.new.events }
+    ensures s { seat.new.s ≡ seat.old.s }
+    ensures turn { seat.new.turn ≡ seat.old.turn }
+    ensures count { world.new.count ≡ world.old.count }
+    ensures boxes { length world.new.shelf.items ≡ length world.old.shelf.items }
+{
+    let s = seat.s;
+    let answer = world.call(call)?;
+    if let GateAnswer::Held(_) = answer {
+        return Ok(Step::Waits);
+    }
+    if !seat.core.may_gate_answer(&answer) {
+        return Err(StepFault::Stopped);
+    }
+    book.note(setting, Event::Gate { s, call, answer })?;
+    seat.core.gate_answer(answer);
+    Ok(Step::Did(mark_of(call, answer)))
+}
+
+/// At which mark a call of the gate stops a session: the entries that are granted have one.
+fn mark_of(call: GateCall, answer: GateAnswer) -> Option<Mark> {
+    match (call, answer) {
+        (GateCall::EnterSnapshot, GateAnswer::Granted(_)) => Some(Mark::Snapshot),
+        (GateCall::EnterCommit { .. }, GateAnswer::Granted(_)) => Some(Mark::Commit),
+        _ => None,
+    }
+}
+
+/// Posts the request that is due.
+fn post<B: Backend>(
+    setting: Setting,
+    seat: &mut Seat,
+    b: BackendId,
+    world: &mut World<B>,
+    book: &mut Book,
+) -> Result<Step, StepFault>
+    requires due { IsPost (next_action (machine_in seat.old.core)) }
+    ensures did { IfOk result (λ step. IsDid step → book.old.events < book.new.events) }
+    ensures stays { IfOk result (λ step. Stays (machine_in seat.old.core) step (machine_in
+        seat.new.core)) }
+    ensures events { book.old.events ≤ book.new.events }
+    ensures s { seat.new.s ≡ seat.old.s }
+    ensures turn { seat.new.turn ≡ seat.old.turn }
+    ensures count { world.new.count ≡ world.old.count }
+    ensures boxes { length world.new.shelf.items ≡ length world.old.shelf.items }
+{
+    let s = seat.s;
+    let request = seat.core.request()?;
+    let event = Event::Post {
+        s,
+        b,
+        request: &request,
+    };
+    match book.spelled(setting, event) {
+        Err(fault) => {
+            drop(request);
+            Err(StepFault::from(fault))
+        }
+        Ok(line) => send(seat, b, request, &line, world, book),
+    }
+}
+
+/// Posts a request, and puts its line into the journal.
+fn send<B: Backend>(
+    seat: &mut Seat,
+    b: BackendId,
+    request: Request,
+    line: &Text,
+    world: &mut World<B>,
+    book: &mut Book,
+) -> Result<Step, StepFault>
+    requires due { IsPost (next_action (machine_in seat.old.core)) }
+    ensures did { IfOk result (λ step. IsDid step → book.old.events < book.new.events) }
+    ensures stays { IfOk result (λ step. Stays (machine_in seat.old.core) step (machine_in
+        seat.new.core)) }
+    ensures events { book.old.events ≤ book.new.events }
+    ensures s { seat.new.s ≡ seat.old.s }
+    ensures turn { seat.new.turn ≡ seat.old.turn }
+    ensures count { world.new.count ≡ world.old.count }
+    ensures boxes { length world.new.shelf.items ≡ length world.old.shelf.items }
+{
+    world.post(seat.s, b, request)?;
+    book.keep(line)?;
+    seat.core.posted();
+    Ok(Step::Did(Some(Mark::Post(b))))
+}
+
+/// Tells the client what became of its order.
+fn reply(setting: Setting, seat: &mut Seat, book: &mut Book) -> Result<Step, StepFault>
+    requires due { IsReply (next_action (machine_in seat.old.core)) }
+    ensures did { IfOk result (λ step. IsDid step → book.old.events < book.new.events) }
+    ensures stays { IfOk result (λ step. Stays (machine_in seat.old.core) step (machine_in
+        seat.new.core)) }
+    ensures events { book.old.events ≤ book.new.events }
+    ensures s { seat.new.s ≡ seat.old.s }
+    ensures turn { seat.new.turn ≡ seat.old.turn }
+{
+    let (outcome, status) = seat.core.reply();
+    tell(setting, seat, outcome, status, book)?;
+    Ok(Step::Did(Some(Mark::Reply)))
+}
+
+/// Tells an outcome to the client, and the status behind it.
+fn tell(
+    setting: Setting,
+    seat: &mut Seat,
+    outcome: Outcome,
+    status: Status,
+    book: &mut Book,
+) -> Result<(), StepFault>
+    ensures did { OnOk result (book.old.events < book.new.events) }
+    ensures events { book.old.events ≤ book.new.events }
+    ensures s { seat.new.s ≡ seat.old.s }
+    ensures turn { seat.new.turn ≡ seat.old.turn }
+{
+    let s = seat.s;
+    if let Err(fault) = note_reply(setting, seat, &outcome, status, book) {
+        drop(outcome);
+        return Err(fault);
+    }
+    seat.wire.answer(setting.config, outcome, status.byte())?;
+    put_output(setting.alloc, s, &mut seat.wire, book)
+}
+
+/// Notes an outcome that the wire can tell.
+fn note_reply(
+    setting: Setting,
+    seat: &Seat,
+    outcome: &Outcome,
+    status: Status,
+    book: &mut Book,
+) -> Result<(), StepFault>
+    ensures may { OnOk result (MayAnswer outcome.now) }
+    ensures did { OnOk result (book.old.events < book.new.events) }
+    ensures events { book.old.events ≤ book.new.events }
+{
+    if !may_answer(outcome) {
+        return Err(StepFault::Stopped);
+    }
+    book.note(
+        setting,
+        Event::Reply {
+            s: seat.s,
+            status,
+            outcome,
+        },
+    )
+}
+
+/// Ends the session.
+fn end(setting: Setting, seat: &mut Seat, book: &mut Book) -> Result<Step, StepFault>
+    requires due { next_action (machine_in seat.old.core) ≡ actions.End }
+    ensures did { IfOk result (λ step. IsDid step → book.old.events < book.new.events) }
+    ensures stays { IfOk result (λ step. Stays (machine_in seat.old.core) step (machine_in
+        seat.new.core)) }
+    ensures events { book.old.events ≤ book.new.events }
+    ensures s { seat.new.s ≡ seat.old.s }
+    ensures turn { seat.new.turn ≡ seat.old.turn }
+{
+    book.note(setting, Event::End { s: seat.s })?;
+    seat.core.end();
+    seat.over = true;
+    Ok(Step::Did(None))
+}

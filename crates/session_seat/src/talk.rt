@@ -1,0 +1,215 @@
+//! What a session hears of a backend, and its detachment.
+ghost use Rattle.std.specs.Prelude.{◌≡◌, ◌<◌, ◌≤◌, length, IfOk, OnOk};
+ghost use Rattle.session_machine.specs.Allowed.{MayHappen};
+ghost use Rattle.session_machine.specs.Rules.{next_action};
+ghost use Rattle.session_machine.specs.declared.action.SessionEvent.TheVariants as events;
+ghost use Rattle.session_engine.specs.Cores.{machine_in};
+ghost use Rattle.session_engine.specs.Handing.{IsDetach};
+ghost use Rattle.session_seat.specs.Steps.{IsDid, Stays};
+
+use crate::book::Book;
+use crate::fault::StepFault;
+use crate::posting::Looked;
+use crate::seat::Seat;
+use crate::setting::Setting;
+use crate::step::Step;
+use crate::world::World;
+use backend_trait::{Answer, Backend, Polled};
+use journal::Event;
+use pgproto::Mark;
+use pool_base::{BackendId, GateAnswer, GateCall, NoMemory};
+use session_machine::Cause;
+use std::alloc::Global;
+
+/// Looks for the answer of the backend that is waited for.
+pub(crate) fn hear<B: Backend>(
+    setting: Setting,
+    seat: &mut Seat,
+    b: BackendId,
+    world: &mut World<B>,
+    book: &mut Book,
+) -> Result<Step, StepFault>
+    ensures did { IfOk result (λ step. IsDid step → book.old.events < book.new.events) }
+    ensures stays { IfOk result (λ step. Stays (machine_in seat.old.core) step (machine_in
+        seat.new.core)) }
+    ensures events { book.old.events ≤ book.new.events }
+    ensures s { seat.new.s ≡ seat.old.s }
+    ensures turn { seat.new.turn ≡ seat.old.turn }
+    ensures count { world.new.count ≡ world.old.count }
+    ensures boxes { length world.new.shelf.items ≡ length world.old.shelf.items }
+{
+    let Looked {
+        before,
+        after,
+        polled,
+    } = world.poll(seat.s, b)?;
+    match polled {
+        Polled::NotYet => Ok(Step::Waits),
+        Polled::NoMemory => Err(StepFault::NoMemory),
+        Polled::Answered(answer) => take(setting, seat, b, answer, book),
+        Polled::Lost => {
+            note_loss(setting, b, world, book)?;
+            miss(setting, seat, b, before, after, book)
+        }
+    }
+}
+
+/// The backend acts, and the session takes its answer.
+fn take(
+    setting: Setting,
+    seat: &mut Seat,
+    b: BackendId,
+    answer: Answer,
+    book: &mut Book,
+) -> Result<Step, StepFault>
+    ensures did { IfOk result (λ step. IsDid step → book.old.events < book.new.events) }
+    ensures stays { IfOk result (λ step. Stays (machine_in seat.old.core) step (machine_in
+        seat.new.core)) }
+    ensures events { book.old.events ≤ book.new.events }
+    ensures s { seat.new.s ≡ seat.old.s }
+    ensures turn { seat.new.turn ≡ seat.old.turn }
+{
+    if let Err(fault) = note_answer(setting, seat, b, &answer, book) {
+        drop(answer);
+        return Err(fault);
+    }
+    seat.core.backend_answer(b, answer);
+    Ok(Step::Did(Some(Mark::Answer(b))))
+}
+
+/// Notes that the backend acts and that the session takes its answer, where that may be.
+fn note_answer(
+    setting: Setting,
+    seat: &Seat,
+    b: BackendId,
+    answer: &Answer,
+    book: &mut Book,
+) -> Result<(), StepFault>
+    ensures may { OnOk result (MayHappen (machine_in seat.now.core) (events.Taken b answer.now)) }
+    ensures did { OnOk result (book.old.events < book.new.events) }
+    ensures events { book.old.events ≤ book.new.events }
+{
+    if !seat.core.may_hear(b, answer) {
+        return Err(StepFault::Stopped);
+    }
+    let s = seat.s;
+    book.note(setting, Event::Act { s, b, answer })?;
+    book.note(setting, Event::Take { s, b, answer })
+}
+
+/// A backend is lost: that takes place once, by a line or where the first session sees it.
+pub fn note_loss<B: Backend>(
+    setting: Setting,
+    b: BackendId,
+    world: &mut World<B>,
+    book: &mut Book,
+) -> Result<(), StepFault>
+    ensures events { book.old.events ≤ book.new.events }
+    ensures count { world.new.count ≡ world.old.count }
+    ensures boxes { length world.new.shelf.items ≡ length world.old.shelf.items }
+{
+    if world.take_for_lost(b) {
+        book.note(setting, Event::Lost { b })?;
+    }
+    Ok(())
+}
+
+/// The session sees that the backend is lost.
+fn miss(
+    setting: Setting,
+    seat: &mut Seat,
+    b: BackendId,
+    before: u64,
+    after: u64,
+    book: &mut Book,
+) -> Result<Step, StepFault>
+    ensures did { IfOk result (λ step. IsDid step → book.old.events < book.new.events) }
+    ensures stays { IfOk result (λ step. Stays (machine_in seat.old.core) step (machine_in
+        seat.new.core)) }
+    ensures events { book.old.events ≤ book.new.events }
+    ensures s { seat.new.s ≡ seat.old.s }
+    ensures turn { seat.new.turn ≡ seat.old.turn }
+{
+    if !seat.core.may_lose(b, before, after) {
+        return Err(StepFault::Stopped);
+    }
+    book.note(
+        setting,
+        Event::Fault {
+            s: seat.s,
+            b,
+            before,
+            after,
+        },
+    )?;
+    seat.core.backend_lost(b, before, after);
+    Ok(Step::Did(None))
+}
+
+/// Asks the gate to detach a backend.
+pub(crate) fn detach<B: Backend>(
+    setting: Setting,
+    seat: &mut Seat,
+    b: BackendId,
+    world: &mut World<B>,
+    book: &mut Book,
+) -> Result<Step, StepFault>
+    requires due { IsDetach (next_action (machine_in seat.old.core)) }
+    ensures did { IfOk result (λ step. IsDid step → book.old.events < book.new.events) }
+    ensures stays { IfOk result (λ step. Stays (machine_in seat.old.core) step (machine_in
+        seat.new.core)) }
+    ensures events { book.old.events ≤ book.new.events }
+    ensures s { seat.new.s ≡ seat.old.s }
+    ensures turn { seat.new.turn ≡ seat.old.turn }
+    ensures count { world.new.count ≡ world.old.count }
+    ensures boxes { length world.new.shelf.items ≡ length world.old.shelf.items }
+{
+    let answer = world.call(GateCall::Detach { b })?;
+    note_detached(setting, seat, b, answer, book)?;
+    if !seat.core.may_gate_answer(&answer) {
+        return Err(StepFault::Stopped);
+    }
+    seat.core.gate_answer(answer);
+    Ok(Step::Did(None))
+}
+
+/// Notes a detachment with its cause. Where the gate has granted it, the transcript has its line.
+fn note_detached(
+    setting: Setting,
+    seat: &Seat,
+    b: BackendId,
+    answer: GateAnswer,
+    book: &mut Book,
+) -> Result<(), StepFault>
+    requires due { IsDetach (next_action (machine_in seat.now.core)) }
+    ensures did { OnOk result (book.old.events < book.new.events) }
+    ensures events { book.old.events ≤ book.new.events }
+{
+    let cause = seat.core.cause()?;
+    book.note(
+        setting,
+        Event::Detach {
+            s: seat.s,
+            b,
+            cause: &cause,
+        },
+    )?;
+    if let GateAnswer::Granted(_) = answer {
+        put_detached(setting.alloc, b, &cause, book)?;
+    }
+    Ok(())
+}
+
+/// Puts the line of a detachment.
+fn put_detached(alloc: Global, b: BackendId, cause: &Cause, book: &mut Book) -> Result<(), NoMemory>
+    ensures events { book.new.events ≡ book.old.events }
+{
+    let number = b.number;
+    let line = match cause {
+        Cause::Fault { before, after } => {
+            format!(in alloc; "pool detach {number} fault {before} {after}\n")?
+        }
+        Cause::Differs { .. } => format!(in alloc; "pool detach {number} differs\n")?,
+    };
+    book.say(line.as_bytes())
+}
