@@ -1,0 +1,4 @@
+pub mod WaysOut
+pub mod Begun
+pub mod Counts
+pub mod SeatLaws

@@ -1,0 +1,58 @@
+-- Which causes stand in what a step comes to, in how a session parts, and in its answer.
+use Rattle.std.specs.Prelude.{◌≡◌, Bool, true, false, Option, Some, None}
+use Rattle.pool_server.specs.declared.end.EndCause.{EndCause}
+use Rattle.pool_server.specs.declared.end.EndCause.TheVariants as causes
+use Rattle.pool_server.specs.declared.parting.Step.{Step}
+use Rattle.pool_server.specs.declared.parting.Step.TheVariants as steps
+use Rattle.pool_server.specs.declared.parting.Parting.{Parting}
+use Rattle.pool_server.specs.declared.parting.Parting.TheVariants as partings
+
+abbrev pub is_read_fault : EndCause → Bool
+is_read_fault causes.Left = false
+is_read_fault causes.Refused = false
+is_read_fault causes.ReadFault = true
+is_read_fault causes.WriteFault = false
+is_read_fault causes.CutOff = false
+is_read_fault causes.NoMemory = false
+is_read_fault causes.Stopped = false
+
+abbrev pub is_write_fault : EndCause → Bool
+is_write_fault causes.Left = false
+is_write_fault causes.Refused = false
+is_write_fault causes.ReadFault = false
+is_write_fault causes.WriteFault = true
+is_write_fault causes.CutOff = false
+is_write_fault causes.NoMemory = false
+is_write_fault causes.Stopped = false
+
+abbrev pub is_cut_off : EndCause → Bool
+is_cut_off causes.Left = false
+is_cut_off causes.Refused = false
+is_cut_off causes.ReadFault = false
+is_cut_off causes.WriteFault = false
+is_cut_off causes.CutOff = true
+is_cut_off causes.NoMemory = false
+is_cut_off causes.Stopped = false
+
+-- the step ends the session, or loses its client, by such a cause
+abbrev pub in_step : (EndCause → Bool) → Step → Bool
+in_step test steps.Goes = false
+in_step test steps.Leaves = false
+in_step test (steps.Lost cause) = test cause
+in_step test steps.Ended = false
+in_step test (steps.Over cause) = test cause
+
+-- the client was lost by such a cause
+abbrev pub in_parting : (EndCause → Bool) → Parting → Bool
+in_parting test partings.No = false
+in_parting test partings.Closing = false
+in_parting test (partings.Gone cause) = test cause
+
+-- the session is over by such a cause
+abbrev pub in_answer : (EndCause → Bool) → Option EndCause → Bool
+in_answer test None = false
+in_answer test (Some cause) = test cause
+
+-- no fault of the client's bytes, and nothing that was cut off
+abbrev pub IsQuiet : Step → Type 0
+IsQuiet step = (in_step is_read_fault step ≡ false) × (in_step is_write_fault step ≡ false) × (in_step is_cut_off step ≡ false)

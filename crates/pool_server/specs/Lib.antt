@@ -1,0 +1,5 @@
+pub mod Passes
+pub mod Causes
+pub mod Told
+pub mod Seats
+pub mod Policies

@@ -1,0 +1,23 @@
+//! The serving of a session: its client's bytes on one side, links to the backends on the other,
+//! the machine of the session between them, and its pass at the gate. However it ends, the pass is
+//! out.
+#![tactic(auto)]
+
+mod end;
+mod footing;
+mod outside;
+mod parting;
+mod policy;
+mod seats;
+mod serve;
+mod session;
+mod talk;
+mod way_out;
+mod work;
+
+pub use end::EndCause;
+pub use footing::{Footing, Phase};
+pub use outside::{GatePass, Notices};
+pub use policy::policy_of;
+pub use seats::Seats;
+pub use serve::{Around, serve_session};

@@ -1,0 +1,28 @@
+//! What a step of a session comes to, and whether the session goes on behind its order.
+
+use crate::end::EndCause;
+
+/// What a step comes to.
+#[derive(Clone, Copy, PartialEq, Eq)]
+pub(crate) enum Step {
+    /// The session goes on.
+    Goes,
+    /// The wire has ordered its Leave, and will say how it closes.
+    Leaves,
+    /// The client is lost to the session, by this cause.
+    Lost(EndCause),
+    /// The core is at its end.
+    Ended,
+    /// The session is over.
+    Over(EndCause),
+}
+
+/// Whether the session goes on behind its order.
+#[derive(Clone, Copy, PartialEq, Eq)]
+pub(crate) enum Parting {
+    No,
+    /// The wire has ordered its Leave.
+    Closing,
+    /// The client was lost, by this cause.
+    Gone(EndCause),
+}

@@ -1,0 +1,100 @@
+//! A whole session.
+ghost use Rattle.std.specs.Prelude.{◌≡◌, ◌≤◌, true};
+ghost use Rattle.pool_base.specs.Outside.{Rose};
+ghost use Rattle.schema.specs.Grammar.{IsWithin};
+ghost use Rattle.shared_gate.specs.History.{Out};
+ghost use Rattle.pool_server.specs.Causes.{is_cut_off, is_read_fault, is_write_fault};
+ghost use Rattle.pool_server.specs.Told.{Begins};
+
+use crate::end::EndCause;
+use crate::outside::{GatePass, Notices};
+use crate::session::Session;
+use crate::way_out::come_out;
+use catalogue::Catalogue;
+use pool_base::{Clock, NoMemory, SessionId, Sink, Source};
+use pool_config::Config;
+use session_links::LinkMaker;
+use std::alloc::Global;
+
+/// What a session talks with: its client, what makes its links, the clock, its pass at the gate,
+/// and who is told.
+#[derive(Drop)]
+pub struct Around<I, O, M, C, G, N> {
+    pub source: I,
+    pub sink: O,
+    pub maker: M,
+    pub clock: C,
+    pub gate: G,
+    pub notices: N,
+}
+
+/// Serves one session to its end.
+///
+/// After: the links are dropped, and then the pass is out.
+pub fn serve_session<I, O, M, C, G, N>(
+    alloc: Global,
+    around: &mut Around<I, O, M, C, G, N>,
+    config: &Config,
+    tables: &Catalogue,
+    s: SessionId,
+) -> EndCause
+where
+    I: Source,
+    O: Sink,
+    M: LinkMaker,
+    C: Clock,
+    G: GatePass,
+    N: Notices,
+    requires within { IsWithin tables.now }
+    // Where it ends by a fault of its client's bytes, that count rose.
+    ensures read { is_read_fault result ≡ true
+        → Rose (I.fault_count around.old.source) (I.fault_count around.new.source) }
+    ensures write { is_write_fault result ≡ true
+        → Rose (O.fault_count around.old.sink) (O.fault_count around.new.sink) }
+    // Where it was cut off, a view without a backend came while its pass stood in a commit.
+    ensures cut_off { is_cut_off result ≡ true → G.cut around.new.gate ≡ true }
+    // What the sink had taken stands before what it has taken now.
+    ensures taken { Begins (O.taken around.old.sink) (O.taken around.new.sink) }
+    // However it ends, its pass is out.
+    ensures out { G.stand around.new.gate ≡ Out }
+{
+    let cause = run(alloc, around, config, tables, s);
+    come_out(&mut around.gate);
+    cause
+}
+
+/// The steps of a session, to its end.
+#[tactic(auto, using(crate::proofs::Begun::begins_same))]
+fn run<I, O, M, C, G, N>(
+    alloc: Global,
+    around: &mut Around<I, O, M, C, G, N>,
+    config: &Config,
+    tables: &Catalogue,
+    s: SessionId,
+) -> EndCause
+where
+    I: Source,
+    O: Sink,
+    M: LinkMaker,
+    C: Clock,
+    G: GatePass,
+    N: Notices,
+    requires within { IsWithin tables.now }
+    ensures read { is_read_fault result ≡ true
+        → Rose (I.fault_count around.old.source) (I.fault_count around.new.source) }
+    ensures write { is_write_fault result ≡ true
+        → Rose (O.fault_count around.old.sink) (O.fault_count around.new.sink) }
+    ensures cut_off { is_cut_off result ≡ true → G.cut around.new.gate ≡ true }
+    ensures taken { Begins (O.taken around.old.sink) (O.taken around.new.sink) }
+{
+    let mut session: Session<M::L> = match Session::new(alloc, s, config) {
+        Ok(session) => session,
+        Err(NoMemory) => return EndCause::NoMemory,
+    };
+    'steps: for _ in 0..u64::MAX {
+        if let Some(cause) = session.step(around, config, tables) {
+            return cause;
+        }
+    }
+    EndCause::Stopped
+}

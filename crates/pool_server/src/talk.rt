@@ -1,0 +1,221 @@
+//! What is done of what is due of the wire: an order taken, a reply told, bytes written and read,
+//! the end.
+ghost use Rattle.std.specs.Prelude.{◌≡◌, ◌≤◌, [], true, false};
+ghost use Rattle.pool_base.specs.Outside.{Appends, AppendsFront, Rose};
+ghost use Rattle.schema.specs.Grammar.{IsWithin};
+ghost use Rattle.session_machine.specs.Rules.{next_action};
+ghost use Rattle.session_engine.specs.Handing.{IsReply};
+ghost use Rattle.session_engine.specs.Cores.{machine_in};
+ghost use Rattle.session_wire.specs.Shown.{shown};
+ghost use Rattle.pool_server.specs.Causes.{IsQuiet, in_step, is_cut_off, is_read_fault, is_write_fault};
+ghost use Rattle.pool_server.specs.Told.{Begins};
+
+use crate::end::EndCause;
+use crate::parting::Step;
+use catalogue::Catalogue;
+use pool_base::{Clock, Code, Got, NoMemory, SessionId, Sink, SinkFailed, Source, Text, write_all};
+use pool_config::Config;
+use session_engine::Core;
+use session_orders::{Order, OrderBody};
+use session_wire::{Wire, WireStep, may_answer};
+use std::alloc::Global;
+
+/// How many bytes are read of a client at once.
+const PIECE: usize = 8192;
+
+/// The session's wire.
+#[derive(Drop)]
+pub(crate) struct Talk {
+    alloc: Global,
+    pub wire: Wire,
+}
+
+/// An order as this server takes it: a recovery is refused.
+fn served(alloc: Global, body: OrderBody) -> Result<OrderBody, NoMemory> {
+    match body {
+        OrderBody::Recover(_) => Ok(OrderBody::Refuse {
+            code: Code { bytes: *b"0A000" },
+            name: Text::from_str(alloc, "PGPOOL RECOVER")?,
+        }),
+        other => Ok(other),
+    }
+}
+
+/// What stands behind an order.
+fn behind(body: &OrderBody) -> Step
+    ensures { IsQuiet result }
+{
+    if matches!(body, OrderBody::Leave) {
+        Step::Leaves
+    } else {
+        Step::Goes
+    }
+}
+
+/// An order goes to the core.
+fn give(core: &mut Core, moment: i64, body: OrderBody, behind: Step) -> Step
+    requires { IsQuiet behind }
+    ensures { IsQuiet result }
+{
+    if !core.may_order(&body) {
+        drop(body);
+        return Step::Over(EndCause::Stopped);
+    }
+    match core.order(Order { moment, body }) {
+        Ok(()) => behind,
+        // The order was not taken: its client is told nothing more.
+        Err(NoMemory) => Step::Lost(EndCause::NoMemory),
+    }
+}
+
+/// The wire's order is taken.
+fn take(alloc: Global, order: Order, core: &mut Core) -> Step
+    ensures { IsQuiet result }
+{
+    let Order { moment, body } = order;
+    let behind = behind(&body);
+    match served(alloc, body) {
+        Ok(body) => give(core, moment, body, behind),
+        Err(NoMemory) => Step::Lost(EndCause::NoMemory),
+    }
+}
+
+impl Talk {
+    /// The wire of a client that has sent nothing yet.
+    pub fn new(alloc: Global, s: SessionId) -> Result<Talk, NoMemory> {
+        Ok(Talk {
+            alloc,
+            wire: Wire::new(alloc, s)?,
+        })
+    }
+
+    /// The client is told what became of its order.
+    pub fn reply(&mut self, config: &Config, core: &mut Core) -> Step
+        requires { IsReply (next_action (machine_in core.old)) }
+        ensures { IsQuiet result }
+    {
+        let (outcome, status) = core.reply();
+        if !may_answer(&outcome) {
+            drop(outcome);
+            return Step::Over(EndCause::Stopped);
+        }
+        match self.wire.answer(config, outcome, status.byte()) {
+            Ok(()) => Step::Goes,
+            Err(NoMemory) => Step::Lost(EndCause::NoMemory),
+        }
+    }
+
+    /// The wire's next step is taken.
+    #[tactic(auto, using(crate::proofs::Begun::begins_same))]
+    pub fn turn<I: Source, O: Sink, C: Clock>(
+        &mut self,
+        core: &mut Core,
+        tables: &Catalogue,
+        source: &mut I,
+        sink: &mut O,
+        clock: &mut C,
+    ) -> Step
+        requires within { IsWithin tables.now }
+        ensures read { in_step is_read_fault result ≡ true
+            → Rose (I.fault_count source.old) (I.fault_count source.new) }
+        ensures write { in_step is_write_fault result ≡ true
+            → Rose (O.fault_count sink.old) (O.fault_count sink.new) }
+        ensures cut { in_step is_cut_off result ≡ false }
+        ensures read_later { I.fault_count source.old ≤ I.fault_count source.new }
+        ensures write_later { O.fault_count sink.old ≤ O.fault_count sink.new }
+        ensures taken { Begins (O.taken sink.old) (O.taken sink.new) }
+    {
+        let moment = clock.now();
+        match self.wire.next(tables, moment) {
+            Ok(WireStep::Order(order)) => take(self.alloc, order, core),
+            Ok(WireStep::NeedInput) => self.exchange(source, sink),
+            Ok(WireStep::Close { refused }) => self.close(refused, sink),
+            Ok(WireStep::NeedOutcome) => Step::Over(EndCause::Stopped),
+            Err(NoMemory) => Step::Lost(EndCause::NoMemory),
+        }
+    }
+
+    /// All that waits is written, in order and once. False: the sink has failed, and has taken a
+    /// front of it.
+    fn flush<O: Sink>(&mut self, sink: &mut O) -> bool
+        ensures all { result ≡ true
+            → Appends (O.taken sink.old) (O.taken sink.new) (shown self.old.wire).output }
+        ensures none_left { result ≡ true → (shown self.new.wire).output ≡ [] }
+        ensures front { result ≡ false
+            → AppendsFront (O.taken sink.old) (O.taken sink.new) (shown self.old.wire).output }
+        ensures write { result ≡ false
+            → Rose (O.fault_count sink.old) (O.fault_count sink.new) }
+        ensures later { O.fault_count sink.old ≤ O.fault_count sink.new }
+    {
+        let count = self.wire.output().len();
+        match write_all(sink, self.wire.output()) {
+            Ok(()) => {
+                self.wire.written(count);
+                true
+            }
+            Err(SinkFailed) => false,
+        }
+    }
+
+    /// What waits is written, and the next bytes are read.
+    #[tactic(auto, using(crate::proofs::Begun::begins_all, crate::proofs::Begun::begins_front))]
+    fn exchange<I: Source, O: Sink>(&mut self, source: &mut I, sink: &mut O) -> Step
+        ensures read { in_step is_read_fault result ≡ true
+            → Rose (I.fault_count source.old) (I.fault_count source.new) }
+        ensures write { in_step is_write_fault result ≡ true
+            → Rose (O.fault_count sink.old) (O.fault_count sink.new) }
+        ensures cut { in_step is_cut_off result ≡ false }
+        ensures read_later { I.fault_count source.old ≤ I.fault_count source.new }
+        ensures write_later { O.fault_count sink.old ≤ O.fault_count sink.new }
+        ensures taken { Begins (O.taken sink.old) (O.taken sink.new) }
+    {
+        if !self.flush(sink) {
+            return Step::Lost(EndCause::WriteFault);
+        }
+        self.listen(source)
+    }
+
+    /// The next bytes are read.
+    fn listen<I: Source>(&mut self, source: &mut I) -> Step
+        ensures read { in_step is_read_fault result ≡ true
+            → Rose (I.fault_count source.old) (I.fault_count source.new) }
+        ensures write { in_step is_write_fault result ≡ false }
+        ensures cut { in_step is_cut_off result ≡ false }
+        ensures later { I.fault_count source.old ≤ I.fault_count source.new }
+    {
+        let mut piece = [0u8; PIECE];
+        match source.read(&mut piece) {
+            Got::Bytes(count) => match self.wire.feed(&piece[..count]) {
+                Ok(()) => Step::Goes,
+                Err(NoMemory) => Step::Lost(EndCause::NoMemory),
+            },
+            Got::End => {
+                self.wire.end_input();
+                Step::Goes
+            }
+            Got::Failed => Step::Lost(EndCause::ReadFault),
+        }
+    }
+
+    /// The wire is closed. A client that was refused has been told so.
+    #[tactic(auto, using(crate::proofs::Begun::begins_all, crate::proofs::Begun::begins_front))]
+    fn close<O: Sink>(&mut self, refused: bool, sink: &mut O) -> Step
+        ensures read { in_step is_read_fault result ≡ false }
+        ensures write { in_step is_write_fault result ≡ true
+            → Rose (O.fault_count sink.old) (O.fault_count sink.new) }
+        ensures cut { in_step is_cut_off result ≡ false }
+        ensures later { O.fault_count sink.old ≤ O.fault_count sink.new }
+        ensures taken { Begins (O.taken sink.old) (O.taken sink.new) }
+        ensures told { in_step is_write_fault result ≡ false
+            → Appends (O.taken sink.old) (O.taken sink.new) (shown self.old.wire).output }
+    {
+        if !self.flush(sink) {
+            return Step::Over(EndCause::WriteFault);
+        }
+        Step::Over(if refused {
+            EndCause::Refused
+        } else {
+            EndCause::Left
+        })
+    }
+}

@@ -1,0 +1,257 @@
+//! What is done of what is due of the core: one call of the gate, one detachment, one post, one
+//! look for an answer.
+ghost use Rattle.session_machine.specs.Rules.{next_action};
+ghost use Rattle.session_engine.specs.Handing.{IsDetach, IsPost};
+ghost use Rattle.session_engine.specs.Cores.{machine_in};
+ghost use Rattle.pool_server.specs.Causes.{IsQuiet};
+
+use crate::end::EndCause;
+use crate::outside::{GatePass, Notices};
+use crate::parting::Step;
+use backend_trait::{Answer, Request};
+use link_words::Link;
+use pg_messages::Pair;
+use pool_base::{BackendId, BackendSet, GateAnswer, GateCall, NoMemory, SessionId, View};
+use session_engine::Core;
+use session_links::{Found, LinkMaker, Links, Loss, Sent};
+use session_machine::{Cause, ReadPolicy};
+use std::alloc::Global;
+
+/// How often memory is asked for before a session is given up.
+const MEMORY_TRIES: u32 = 1000;
+
+/// How many looks may come to nothing where no other session is waited for. A look of a link to a
+/// server waits 50 milliseconds at most, so that a server that hangs is given up after 30 seconds.
+const POLL_TRIES: u32 = 600;
+
+/// How long a backend may take.
+#[derive(Clone, Copy, PartialEq, Eq)]
+enum Patience {
+    /// The request waits for no other session: a backend that does not answer it hangs.
+    Short,
+    /// The request may wait for the rows of another session.
+    Endless,
+}
+
+/// The session's core with its links.
+#[derive(Drop)]
+pub(crate) struct Work<L: Link> {
+    id: SessionId,
+    pub core: Core,
+    links: Links<L>,
+    patience: Patience,
+    /// The epoch of the last snapshot that was entered.
+    epoch: Option<u32>,
+    /// How often the same step was tried without an answer.
+    tries: u32,
+}
+
+/// Whether a request may wait for another session.
+fn patience_of(request: &Request) -> Patience {
+    match request {
+        Request::Run(_) | Request::Lock(_) => Patience::Endless,
+        Request::TakeSnapshot
+        | Request::Commit
+        | Request::Rollback
+        | Request::ReadSerial(_)
+        | Request::SetSerial(_, _) => Patience::Short,
+    }
+}
+
+impl<L: Link> Work<L> {
+    /// A core that rests, and no link.
+    pub fn new(alloc: Global, id: SessionId, policy: ReadPolicy) -> Result<Work<L>, NoMemory> {
+        Ok(Work {
+            id,
+            core: Core::new(alloc, id, policy)?,
+            links: Links::new(alloc)?,
+            patience: Patience::Endless,
+            epoch: None,
+            tries: 0,
+        })
+    }
+
+    fn pause<G: GatePass>(&mut self, gate: &mut G) {
+        gate.pause(self.tries);
+        self.tries = self.tries.saturating_add(1);
+    }
+
+    /// Memory was refused: the step is tried again. After so many tries the client is given up,
+    /// where that may be.
+    fn short<G: GatePass>(&mut self, gate: &mut G) -> Step
+        ensures { IsQuiet result }
+    {
+        self.pause(gate);
+        if self.tries >= MEMORY_TRIES && self.core.may_give_up() {
+            self.tries = 0;
+            return Step::Lost(EndCause::NoMemory);
+        }
+        Step::Goes
+    }
+
+    /// A call of the gate. One that is held is made again.
+    pub fn call<G: GatePass>(&mut self, call: GateCall, gate: &mut G) -> Step
+        ensures { IsQuiet result }
+    {
+        if !gate.may_step(call) {
+            return Step::Over(EndCause::Stopped);
+        }
+        let answer = gate.step(call);
+        if let GateAnswer::Held(_) = answer {
+            self.pause(gate);
+            return Step::Goes;
+        }
+        self.heed(call, answer);
+        self.answered(answer)
+    }
+
+    /// The gate has answered.
+    fn answered(&mut self, answer: GateAnswer) -> Step
+        ensures { IsQuiet result }
+    {
+        if !self.core.may_gate_answer(&answer) {
+            return Step::Over(EndCause::Stopped);
+        }
+        self.tries = 0;
+        self.core.gate_answer(answer);
+        Step::Goes
+    }
+
+    /// What a view of the gate means for the links: those to what is not attached are dropped.
+    fn heed(&mut self, call: GateCall, answer: GateAnswer) {
+        match answer {
+            GateAnswer::Granted(view) => {
+                if call == GateCall::EnterSnapshot {
+                    self.entered(view.epoch);
+                }
+                self.links.keep(view.attached);
+            }
+            GateAnswer::Seen(view) => self.links.keep(view.attached),
+            GateAnswer::Held(_) | GateAnswer::Spent => {}
+        }
+    }
+
+    /// A snapshot was entered: in another epoch a backend may have left and come again.
+    fn entered(&mut self, now: u32) {
+        if let Some(before) = self.epoch {
+            if before != now {
+                self.links.keep(BackendSet::EMPTY);
+            }
+        }
+        self.epoch = Some(now);
+    }
+
+    /// A backend is detached, and who wants to know is told where it was this session's doing.
+    pub fn detach<G: GatePass, N: Notices>(
+        &mut self,
+        b: BackendId,
+        gate: &mut G,
+        notices: &mut N,
+    ) -> Step
+        requires { IsDetach (next_action (machine_in self.old.core)) }
+        ensures { IsQuiet result }
+    {
+        let cause = match self.core.cause() {
+            Ok(cause) => cause,
+            Err(NoMemory) => return self.short(gate),
+        };
+        let call = GateCall::Detach { b };
+        let answer = gate.step(call);
+        if let GateAnswer::Granted(view) = answer {
+            self.tell(b, &cause, view, notices);
+        }
+        drop(cause);
+        self.heed(call, answer);
+        self.answered(answer)
+    }
+
+    fn tell<N: Notices>(&self, b: BackendId, cause: &Cause, view: View, notices: &mut N) {
+        notices.detached(self.id, b, cause);
+        if view.attached.is_empty() {
+            notices.none_left();
+        }
+    }
+
+    /// A request is posted.
+    pub fn post<M: LinkMaker<L = L>, G: GatePass>(
+        &mut self,
+        b: BackendId,
+        options: &[Pair],
+        maker: &mut M,
+        gate: &mut G,
+    ) -> Step
+        requires { IsPost (next_action (machine_in self.old.core)) }
+        ensures { IsQuiet result }
+    {
+        if self.links.is_awaited(b) {
+            return Step::Over(EndCause::Stopped);
+        }
+        let request = match self.core.request() {
+            Ok(request) => request,
+            Err(NoMemory) => return self.short(gate),
+        };
+        self.patience = patience_of(&request);
+        match self.links.post(b, request, maker, options) {
+            Sent::Accepted => {
+                self.tries = 0;
+                self.core.posted();
+                Step::Goes
+            }
+            Sent::NoMemory => self.short(gate),
+        }
+    }
+
+    /// A look for an answer.
+    pub fn wait<G: GatePass>(&mut self, b: BackendId, gate: &mut G) -> Step
+        ensures { IsQuiet result }
+    {
+        if !self.links.is_awaited(b) {
+            return Step::Over(EndCause::Stopped);
+        }
+        match self.links.poll(b) {
+            Found::Answered(answer) => self.hear(b, answer),
+            Found::Lost(loss) => self.lose(b, loss),
+            Found::NotYet => {
+                self.look_around(b, gate);
+                Step::Goes
+            }
+            Found::NoMemory => self.short(gate),
+        }
+    }
+
+    fn hear(&mut self, b: BackendId, answer: Answer) -> Step
+        ensures { IsQuiet result }
+    {
+        if !self.core.may_hear(b, &answer) {
+            drop(answer);
+            return Step::Over(EndCause::Stopped);
+        }
+        self.tries = 0;
+        self.core.backend_answer(b, answer);
+        Step::Goes
+    }
+
+    fn lose(&mut self, b: BackendId, loss: Loss) -> Step
+        ensures { IsQuiet result }
+    {
+        if !self.core.may_lose(b, loss.before, loss.after) {
+            return Step::Over(EndCause::Stopped);
+        }
+        self.tries = 0;
+        self.core.backend_lost(b, loss.before, loss.after);
+        Step::Goes
+    }
+
+    /// A backend has not answered: one that is attached no more, or hangs, is waited for no longer.
+    fn look_around<G: GatePass>(&mut self, b: BackendId, gate: &mut G) {
+        self.tries = self.tries.saturating_add(1);
+        if self.patience == Patience::Short && self.tries >= POLL_TRIES {
+            return self.links.give_up(b);
+        }
+        if let GateAnswer::Seen(view) = gate.step(GateCall::Look) {
+            if !view.attached.has(b) {
+                self.links.give_up(b);
+            }
+        }
+    }
+}

@@ -1,0 +1,172 @@
+-- What a server's message says of the answer to a text: how far the answer has come with it, or that it has ended.
+use Rattle.std.specs.Prelude.{◌≡◌, ◌≢◌, ℕ, pos, ◌==◌, if◌then◌else◌, Bool, true, false, List, [], ◌∷◌, ◌++◌, length, take, drop, All, Option, Some, None, codes}
+use Rattle.pool_base.specs.declared.code.Code.{Code}
+use Rattle.pool_base.specs.Codes.{IsCode}
+use Rattle.pg_messages.specs.declared.server.ServerMessage.{ServerMessage}
+use Rattle.pg_messages.specs.declared.server.ServerMessage.TheVariants as message
+use Rattle.pg_messages.specs.declared.server.Field.{Field}
+use Rattle.pg_messages.specs.declared.server.Part.{Part}
+use Rattle.pg_values.specs.declared.col_type.ColType.{ColType}
+use Rattle.pg_values.specs.declared.col_type.ColType.TheVariants as kind
+use Rattle.pg_values.specs.declared.value.Value.{Value}
+use Rattle.pg_values.specs.declared.value.Value.TheVariants as value
+use Rattle.pg_values.specs.Answers.{ReadsText}
+use Rattle.sql_eval.specs.declared.row.Row.{Row}
+use Rattle.postgres_link.specs.declared.asked.Word.{Word}
+use Rattle.postgres_link.specs.declared.asked.Word.TheVariants as word
+use Rattle.postgres_link.specs.declared.asked.Verb.{Verb}
+use Rattle.postgres_link.specs.declared.asked.Verb.TheVariants as verb
+use Rattle.postgres_link.specs.declared.asked.Wanted.{Wanted}
+use Rattle.postgres_link.specs.declared.asked.Wanted.TheVariants as wanted
+use Rattle.postgres_link.specs.declared.asked.Reply.{Reply}
+use Rattle.postgres_link.specs.declared.asked.Reply.TheVariants as reply
+use Rattle.postgres_link.specs.declared.asked.Stage.{Stage}
+use Rattle.postgres_link.specs.declared.asked.Stage.TheVariants as stage
+use Rattle.postgres_link.specs.declared.asked.Asked.{Asked}
+use Rattle.postgres_link.specs.declared.hearing.Step.{Step}
+use Rattle.postgres_link.specs.declared.hearing.Step.TheVariants as step
+
+-- ---- tags
+
+abbrev pub word_tag : Word → List ℕ
+word_tag word.Begin = codes "BEGIN"
+word_tag word.LockTable = codes "LOCK TABLE"
+word_tag word.Commit = codes "COMMIT"
+word_tag word.Rollback = codes "ROLLBACK"
+
+-- what stands before the count
+abbrev pub verb_tag : Verb → List ℕ
+verb_tag verb.Insert = codes "INSERT 0 "
+verb_tag verb.Update = codes "UPDATE "
+verb_tag verb.Delete = codes "DELETE "
+
+-- the bytes are the text form of a count
+abbrev pub IsCount : List ℕ → ℕ → Type 0
+IsCount text n = ReadsText kind.Int8 text (value.Int8 (pos n))
+
+-- the tag is these bytes and a count
+abbrev pub Counts : List ℕ → List ℕ → ℕ → Type 0
+Counts front tag n = (take (length front) tag ≡ front) × IsCount (drop (length front) tag) n
+
+-- ---- errors
+
+-- the text of the first part that has a code
+abbrev pub code_part : List Part → Option (List ℕ)
+code_part [] = None
+code_part (part ∷ parts) = if part.tag == 67 then Some part.text else code_part parts
+
+-- ---- rows
+
+abbrev pub IsCell : ColType → Option (List ℕ) → Value → Type 0
+IsCell kind None cell = cell ≡ value.Null
+IsCell kind (Some text) cell = ReadsText kind text cell
+
+-- as many values as types, each read by its type
+abbrev pub AreCells : List ColType → List (Option (List ℕ)) → List Value → Type 0
+AreCells [] [] cells = cells ≡ []
+AreCells [] (v ∷ vs) cells = ⊥
+AreCells (k ∷ ks) [] cells = ⊥
+AreCells (k ∷ ks) (v ∷ vs) [] = ⊥
+AreCells (k ∷ ks) (v ∷ vs) (cell ∷ cells) = IsCell k v cell × AreCells ks vs cells
+
+-- ---- messages
+
+-- the columns are as many as are wanted, each in text form
+abbrev pub Describes : Wanted → List Field → Type 0
+Describes (wanted.Done w) fields = ⊥
+Describes (wanted.Count v) fields = ⊥
+Describes (wanted.Rows kinds) fields = (length fields ≡ length kinds) × All (λ f. f.format ≡ 0) fields
+
+abbrev pub Opens : Wanted → Stage → List Field → Stage → Type 0
+Opens w stage.Open fields new = Describes w fields × (new ≡ stage.Rows [])
+Opens w (stage.Rows rows) fields new = ⊥
+Opens w (stage.Said r) fields new = ⊥
+
+abbrev pub has_rows : Stage → Bool
+has_rows stage.Open = false
+has_rows (stage.Rows rows) = true
+has_rows (stage.Said r) = false
+
+abbrev pub Adds : Stage → Row → Stage → Type 0
+Adds stage.Open row new = ⊥
+Adds (stage.Rows rows) row new = new ≡ stage.Rows (rows ++ row ∷ [])
+Adds (stage.Said r) row new = ⊥
+
+abbrev pub Gains : Wanted → Stage → List (Option (List ℕ)) → Stage → Type 0
+Gains (wanted.Done w) s values new = ⊥
+Gains (wanted.Count v) s values new = ⊥
+Gains (wanted.Rows kinds) s values new = (has_rows s ≡ true) × (row : Row) × AreCells kinds values row.cells × Adds s row new
+
+-- the answer is a tag alone
+abbrev pub IsByTag : Wanted → Type 0
+IsByTag (wanted.Done w) = Unit {0}
+IsByTag (wanted.Count v) = Unit {0}
+IsByTag (wanted.Rows kinds) = ⊥
+
+abbrev pub IsByRows : Wanted → Type 0
+IsByRows (wanted.Done w) = ⊥
+IsByRows (wanted.Count v) = ⊥
+IsByRows (wanted.Rows kinds) = Unit {0}
+
+abbrev pub Completes : Wanted → Stage → List ℕ → Stage → Type 0
+Completes (wanted.Done w) stage.Open tag new = (tag ≡ word_tag w) × (new ≡ stage.Said reply.Done)
+Completes (wanted.Count v) stage.Open tag new = (n : ℕ) × Counts (verb_tag v) tag n × (new ≡ stage.Said (reply.Count n))
+Completes (wanted.Rows kinds) (stage.Rows rows) tag new = Counts (codes "SELECT ") tag (length rows) × (new ≡ stage.Said (reply.Rows rows))
+Completes w s tag new = ⊥
+
+abbrev pub is_said : Stage → Bool
+is_said stage.Open = false
+is_said (stage.Rows rows) = false
+is_said (stage.Said r) = true
+
+abbrev pub Refuses : Stage → List Part → Stage → Type 0
+Refuses s parts new = (is_said s ≡ false) × (code : Code) × (code_part parts ≡ Some code.bytes) × IsCode code.bytes × (length code.bytes ≡ 5) × (new ≡ stage.Said (reply.Refused code))
+
+-- the status behind the answer: a block is open behind BEGIN, LOCK TABLE and a write, none behind COMMIT and ROLLBACK; behind a refusal no block goes on
+abbrev pub Leaves : Wanted → Reply → ℕ → Type 0
+Leaves w (reply.Refused code) status = status ≢ 84
+Leaves (wanted.Done word.Commit) r status = status ≡ 73
+Leaves (wanted.Done word.Rollback) r status = status ≡ 73
+Leaves (wanted.Done w) r status = status ≡ 84
+Leaves (wanted.Count v) r status = status ≡ 84
+Leaves (wanted.Rows kinds) r status = status ≢ 69
+
+-- the answer has come so far with the message; notices and settings are passed over
+abbrev pub GoesOn : Wanted → Stage → ServerMessage → Stage → Type 0
+GoesOn w s (message.ParameterStatus name setting) new = new ≡ s
+GoesOn w s (message.Notice parts) new = new ≡ s
+GoesOn w s (message.RowDescription fields) new = Opens w s fields new
+GoesOn w s (message.DataRow values) new = Gains w s values new
+GoesOn w s (message.Complete tag) new = Completes w s tag new
+GoesOn w s (message.Error parts) new = Refuses s parts new
+GoesOn w s m new = ⊥
+
+abbrev pub Goes : Asked → ServerMessage → Asked → Type 0
+Goes old m new = (new.wanted ≡ old.wanted) × GoesOn old.wanted old.stage m new.stage
+
+abbrev pub Closes : Wanted → Stage → ℕ → Reply → Type 0
+Closes w stage.Open status r = ⊥
+Closes w (stage.Rows rows) status r = ⊥
+Closes w (stage.Said said) status r = (r ≡ said) × Leaves w said status
+
+abbrev pub EndsAt : Wanted → Stage → ServerMessage → Reply → Type 0
+EndsAt w s (message.Ready status) r = Closes w s status r
+EndsAt w s m r = ⊥
+
+-- the answer has ended with the message, and is this
+abbrev pub Ends : Asked → ServerMessage → Reply → Type 0
+Ends old m r = EndsAt old.wanted old.stage m r
+
+-- ---- what a function that hears one kind of message answers
+
+-- the answer goes on to such a stage, or there is none
+abbrev pub Carries : (Stage → Type 0) → Step Reply → Asked → Asked → Type 0
+Carries Next step.Goes old new = (new.wanted ≡ old.wanted) × Next new.stage
+Carries Next (step.Ends r) old new = ⊥
+Carries Next step.Breaks old new = (s : Stage) → Next s → ⊥
+
+-- the answer has ended, or may not end so
+abbrev pub IsClosed : Step Reply → Asked → ℕ → Type 0
+IsClosed step.Goes old status = ⊥
+IsClosed (step.Ends r) old status = Closes old.wanted old.stage status r
+IsClosed step.Breaks old status = (r : Reply) → Closes old.wanted old.stage status r → ⊥

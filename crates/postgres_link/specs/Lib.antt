@@ -1,0 +1,4 @@
+pub mod Readings
+pub mod Asked
+pub mod Start
+pub mod Hearing

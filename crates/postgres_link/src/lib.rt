@@ -1,0 +1,19 @@
+//! What a PostgreSQL server sends to one session, read as the reply to what it was asked.
+//! The reply depends on the bytes alone, not on their cut.
+#![tactic(auto)]
+
+mod asked;
+mod code;
+mod hearing;
+mod inbox;
+mod laws;
+mod row;
+mod saying;
+mod start;
+mod tag;
+
+pub use asked::{Asked, Reply, Stage, Verb, Wanted, Word};
+pub use hearing::{HEARD_LIMIT, Heard, Hearer, Listening, Step, hear};
+pub use inbox::Inbox;
+pub use laws::cut_anywhere;
+pub use start::{Arrival, Welcome};

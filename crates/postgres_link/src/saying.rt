@@ -1,0 +1,235 @@
+//! What a message says of the answer to a text.
+//!
+//! ```text
+//! Open --columns--> Rows --row--> Rows --tag--> Said --ready--> the reply
+//! Open --tag--> Said       Open, Rows --error--> Said
+//! ```
+//!
+//! Settings and notices are passed over everywhere.
+ghost use Rattle.std.specs.Prelude.{◌≡◌, true, OnErr, OnOk, IfOk, IfSome, IfNone, IsTrue, ◌↔◌, All, length};
+ghost use Rattle.postgres_link.specs.declared.asked.Stage.{Stage};
+ghost use Rattle.postgres_link.specs.Asked.{Goes, Ends, Leaves, Opens, Gains, Completes, Refuses, Carries, IsClosed, IsByTag, IsByRows, is_said, has_rows, Adds};
+
+use crate::asked::{Asked, Reply, Stage, Wanted, Word};
+use crate::code::code_of;
+use crate::hearing::{Hearer, Step};
+use crate::row::cells_of;
+use crate::tag::{counted, verb_tag, word_tag};
+use pg_messages::{Field, Part, ServerMessage};
+use pg_values::ColType;
+use pool_base::{List, NoMemory};
+use sql_eval::Row;
+use std::alloc::Global;
+use std::mem;
+
+/// Whether the columns are as many as are wanted, each in text form.
+fn describes(kinds: &[ColType], fields: &[Field]) -> bool
+    ensures { IsTrue result ↔ ((length fields.now ≡ length kinds.now)
+        × All (λ f. f.format ≡ 0) fields.now) }
+{
+    fields.len() == kinds.len() && fields.iter().all(|field| field.format == 0)
+}
+
+/// Puts the answer into a later stage.
+fn set(stage: &mut Stage, next: Stage)
+    ensures { stage.new ≡ next }
+{
+    drop(mem::replace(stage, next));
+}
+
+fn open(asked: &mut Asked, fields: &List<Field>) -> Step<Reply>
+    ensures { Carries (λ new. Opens asked.old.wanted asked.old.stage fields.now new) result
+        asked.old asked.new }
+{
+    match (&asked.wanted, &asked.stage) {
+        (Wanted::Rows(kinds), Stage::Open) if describes(kinds.as_slice(), fields.as_slice()) => {
+            let rows = List::new(kinds.allocator());
+            set(&mut asked.stage, Stage::Rows(rows));
+            Step::Goes
+        }
+        _ => Step::Breaks,
+    }
+}
+
+fn has_rows(stage: &Stage) -> bool
+    ensures { result ≡ has_rows stage.now }
+{
+    match stage {
+        Stage::Open | Stage::Said(_) => false,
+        Stage::Rows(_) => true,
+    }
+}
+
+/// Puts a row behind those that have come.
+fn push_row(stage: &mut Stage, row: Row) -> Result<(), NoMemory>
+    requires { has_rows stage.old ≡ true }
+    ensures pushed { OnOk result (Adds stage.old row stage.new) }
+    ensures kept { OnErr result (stage.new ≡ stage.old) }
+{
+    match stage {
+        Stage::Rows(rows) => rows.push(row),
+        Stage::Open | Stage::Said(_) => {
+            drop(row);
+            Ok(())
+        }
+    }
+}
+
+fn gain(
+    alloc: Global,
+    asked: &mut Asked,
+    texts: &[Option<List<u8>>],
+) -> Result<Step<Reply>, NoMemory>
+    ensures carries { IfOk result (λ step. Carries (λ new. Gains asked.old.wanted asked.old.stage
+        texts.now new) step asked.old asked.new) }
+    ensures kept { OnErr result (asked.new ≡ asked.old) }
+{
+    let Wanted::Rows(kinds) = &asked.wanted else {
+        return Ok(Step::Breaks);
+    };
+    if !has_rows(&asked.stage) {
+        return Ok(Step::Breaks);
+    }
+    let Some(cells) = cells_of(alloc, kinds.as_slice(), texts)? else {
+        return Ok(Step::Breaks);
+    };
+    push_row(&mut asked.stage, Row { cells })?;
+    Ok(Step::Goes)
+}
+
+/// What the tag says of what is answered by a tag alone.
+fn said(alloc: Global, wanted: &Wanted, stage: &Stage, tag: &[u8]) -> Option<Reply>
+    requires { IsByTag wanted.now }
+    ensures some { IfSome result (λ said. Completes wanted.now stage.now tag.now
+        (Stage.Said said)) }
+    ensures none { IfNone result ((new : Stage) → Completes wanted.now stage.now tag.now new → ⊥) }
+{
+    match (wanted, stage) {
+        (Wanted::Done(word), Stage::Open) if tag == word_tag(*word) => Some(Reply::Done),
+        (Wanted::Count(verb), Stage::Open) => match counted(alloc, verb_tag(*verb), tag) {
+            Some(count) => Some(Reply::Count(count)),
+            None => None,
+        },
+        _ => None,
+    }
+}
+
+/// The rows, where the tag counts them.
+fn complete_rows(alloc: Global, asked: &mut Asked, tag: &[u8]) -> Step<Reply>
+    requires { IsByRows asked.old.wanted }
+    ensures { Carries (λ new. Completes asked.old.wanted asked.old.stage tag.now new) result
+        asked.old asked.new }
+{
+    let (Wanted::Rows(_), Stage::Rows(rows)) = (&asked.wanted, &asked.stage) else {
+        return Step::Breaks;
+    };
+    let Some(count) = counted(alloc, b"SELECT ", tag) else {
+        return Step::Breaks;
+    };
+    if count != rows.len() as u64 {
+        return Step::Breaks;
+    }
+    if let Stage::Rows(rows) = mem::replace(&mut asked.stage, Stage::Open) {
+        set(&mut asked.stage, Stage::Said(Reply::Rows(rows)));
+    }
+    Step::Goes
+}
+
+fn complete(alloc: Global, asked: &mut Asked, tag: &[u8]) -> Step<Reply>
+    ensures { Carries (λ new. Completes asked.old.wanted asked.old.stage tag.now new) result
+        asked.old asked.new }
+{
+    if let Wanted::Rows(_) = &asked.wanted {
+        return complete_rows(alloc, asked, tag);
+    }
+    match said(alloc, &asked.wanted, &asked.stage, tag) {
+        Some(reply) => {
+            set(&mut asked.stage, Stage::Said(reply));
+            Step::Goes
+        }
+        None => Step::Breaks,
+    }
+}
+
+fn is_said(stage: &Stage) -> bool
+    ensures { result ≡ is_said stage.now }
+{
+    match stage {
+        Stage::Open | Stage::Rows(_) => false,
+        Stage::Said(_) => true,
+    }
+}
+
+fn refuse(asked: &mut Asked, parts: &[Part]) -> Step<Reply>
+    ensures { Carries (λ new. Refuses asked.old.stage parts.now new) result asked.old asked.new }
+{
+    if is_said(&asked.stage) {
+        return Step::Breaks;
+    }
+    match code_of(parts) {
+        Some(code) => {
+            set(&mut asked.stage, Stage::Said(Reply::Refused(code)));
+            Step::Goes
+        }
+        None => Step::Breaks,
+    }
+}
+
+/// Whether the status fits behind the answer.
+fn leaves(wanted: &Wanted, reply: &Reply, status: u8) -> bool
+    ensures { IsTrue result ↔ Leaves wanted.now reply.now status }
+{
+    match (reply, wanted) {
+        (Reply::Refused(_), _) => status != b'T',
+        (_, Wanted::Done(Word::Commit | Word::Rollback)) => status == b'I',
+        (_, Wanted::Done(Word::Begin | Word::LockTable)) | (_, Wanted::Count(_)) => status == b'T',
+        (_, Wanted::Rows(_)) => status != b'E',
+    }
+}
+
+fn end(asked: &mut Asked, status: u8) -> Step<Reply>
+    ensures { IsClosed result asked.old status }
+{
+    let Stage::Said(reply) = &asked.stage else {
+        return Step::Breaks;
+    };
+    if !leaves(&asked.wanted, reply, status) {
+        return Step::Breaks;
+    }
+    match mem::replace(&mut asked.stage, Stage::Open) {
+        Stage::Said(reply) => Step::Ends(reply),
+        other => {
+            drop(other);
+            Step::Breaks
+        }
+    }
+}
+
+impl Hearer for Asked {
+    type Reply = Reply;
+
+    ghost Goes = { Goes };
+
+    ghost Ends = { Ends };
+
+    fn step(&mut self, alloc: Global, message: &ServerMessage) -> Result<Step<Reply>, NoMemory> {
+        match message {
+            ServerMessage::ParameterStatus { .. } => Ok(Step::Goes),
+            ServerMessage::Notice { .. } => Ok(Step::Goes),
+            ServerMessage::RowDescription { fields } => Ok(open(self, fields)),
+            ServerMessage::DataRow { values } => gain(alloc, self, values.as_slice()),
+            ServerMessage::Complete { tag } => Ok(complete(alloc, self, tag.as_slice())),
+            ServerMessage::Error { parts } => Ok(refuse(self, parts.as_slice())),
+            ServerMessage::Ready { status } => Ok(end(self, *status)),
+            ServerMessage::AuthOk
+            | ServerMessage::BackendKey { .. }
+            | ServerMessage::ParameterDescription { .. }
+            | ServerMessage::Empty
+            | ServerMessage::ParseComplete
+            | ServerMessage::BindComplete
+            | ServerMessage::CloseComplete
+            | ServerMessage::NoData
+            | ServerMessage::Suspended => Ok(Step::Breaks),
+        }
+    }
+}

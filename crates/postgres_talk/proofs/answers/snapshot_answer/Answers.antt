@@ -1,0 +1,5 @@
+use Rattle.std.proofs.Common.{refl, inr}
+use Rattle.postgres_talk.proofs.answers.snapshot_answer.Goals as goal
+
+pub returns-in-Refused : goal.returns-in-Refused
+returns-in-Refused c = inr (c.in-Refused.code, refl)

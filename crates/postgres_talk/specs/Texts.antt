@@ -1,0 +1,75 @@
+-- The texts that a request is sent as, and the messages that carry them.
+use Rattle.std.specs.Prelude.{◌≡◌, ℕ, ℤ, List, [], ◌∷◌, ◌++◌, Option, Some, None, codes, slice_get}
+use Rattle.std.specs.List.{flat_map}
+use Rattle.std.specs.Fmt.{signed_decimal}
+use Rattle.pg_messages.specs.declared.client.ClientMessage.TheVariants.{Query}
+use Rattle.pg_messages.specs.Client.{spelling}
+use Rattle.schema.specs.declared.catalogue.ColumnDef.{ColumnDef}
+use Rattle.schema.specs.declared.catalogue.TableDef.{TableDef}
+use Rattle.sql_print.specs.Spelling.{spelled, name, string}
+use Rattle.sql_print.specs.Printed.{statement_text}
+use Rattle.checked_print.specs.Statements.{spelled_statement}
+use Rattle.backend_trait.specs.declared.request.Request.{Request}
+use Rattle.backend_trait.specs.declared.request.Request.TheVariants as request
+
+abbrev pub lock_text : List ℕ → List ℕ
+lock_text table = (codes "LOCK TABLE " ++ spelled (name table)) ++ codes " IN SHARE ROW EXCLUSIVE MODE"
+
+abbrev pub lock_at : Option TableDef → Option (List ℕ)
+lock_at None = None
+lock_at (Some table) = Some (lock_text table.name)
+
+-- the sequence of a serial column: the table, the column and `seq`
+abbrev pub sequence_name : List ℕ → List ℕ → List ℕ
+sequence_name table column = ((table ++ codes "_") ++ column) ++ codes "_seq"
+
+abbrev pub sequence_by : List ℕ → Option ColumnDef → Option (List ℕ)
+sequence_by table None = None
+sequence_by table (Some column) = Some (sequence_name table column.name)
+
+abbrev pub sequence_in : List ℕ → List ColumnDef → Option ℕ → Option (List ℕ)
+sequence_in table columns None = None
+sequence_in table columns (Some at) = sequence_by table (slice_get columns at)
+
+abbrev pub sequence_of : Option TableDef → Option (List ℕ)
+sequence_of None = None
+sequence_of (Some table) = sequence_in table.name table.columns table.serial
+
+abbrev pub read_text : List ℕ → List ℕ
+read_text sequence = codes "SELECT last_value, is_called FROM " ++ spelled (name sequence)
+
+abbrev pub set_text : List ℕ → ℤ → List ℕ
+set_text sequence next = (((codes "SELECT setval(" ++ spelled (string (spelled (name sequence)))) ++ codes ", ") ++ signed_decimal next) ++ codes ", false)"
+
+abbrev pub read_by : Option (List ℕ) → Option (List ℕ)
+read_by None = None
+read_by (Some sequence) = Some (read_text sequence)
+
+abbrev pub set_by : Option (List ℕ) → ℤ → Option (List ℕ)
+set_by None next = None
+set_by (Some sequence) next = Some (set_text sequence next)
+
+abbrev pub alone : Option (List ℕ) → Option (List (List ℕ))
+alone None = None
+alone (Some text) = Some (text ∷ [])
+
+abbrev pub snapshot_texts : List (List ℕ)
+snapshot_texts = codes "BEGIN ISOLATION LEVEL REPEATABLE READ" ∷ codes "SELECT 1" ∷ []
+
+-- the texts, one message each; None: a table or a serial column is not there
+abbrev pub texts : List TableDef → Request → Option (List (List ℕ))
+texts tables request.TakeSnapshot = Some snapshot_texts
+texts tables (request.Run checked) = Some (statement_text (spelled_statement tables checked) ∷ [])
+texts tables (request.Lock table) = alone (lock_at (slice_get tables table))
+texts tables request.Commit = Some (codes "COMMIT" ∷ [])
+texts tables request.Rollback = Some (codes "ROLLBACK" ∷ [])
+texts tables (request.ReadSerial table) = alone (read_by (sequence_of (slice_get tables table)))
+texts tables (request.SetSerial table next) = alone (set_by (sequence_of (slice_get tables table)) next)
+
+abbrev pub query : List ℕ → List ℕ
+query text = spelling (Query text)
+
+-- the bytes are the messages of the request, one behind another
+abbrev pub Sends : Option (List (List ℕ)) → List ℕ → Type 0
+Sends None bytes = ⊥
+Sends (Some all) bytes = bytes ≡ flat_map query all

@@ -1,0 +1,13 @@
+//! Requests to a PostgreSQL server as texts, and its replies as answers.
+#![tactic(auto)]
+
+mod answers;
+mod spelled;
+mod talk;
+mod texts;
+mod welcome;
+
+pub use answers::answer_of;
+pub use spelled::{NotSpelled, Spelled, spell};
+pub use talk::{Said, Talk};
+pub use welcome::put_start;

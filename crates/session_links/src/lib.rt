@@ -1,0 +1,13 @@
+//! The links of one session to its backends: each is made at its first use, asked one thing at a
+//! time, and dropped at its loss.
+#![tactic(auto)]
+
+mod links;
+mod loss;
+mod maker;
+mod slot;
+
+pub use links::Links;
+pub use loss::Loss;
+pub use maker::{Connected, LinkMaker};
+pub use slot::{Found, Sent, Slot};

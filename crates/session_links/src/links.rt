@@ -1,0 +1,130 @@
+//! The links of one session, one for each backend at most.
+ghost use Rattle.std.specs.Prelude.{◌≡◌, ◌≢◌, ◌<◌, ℕ, true, false, length, set, replicate, IfOk};
+ghost use Rattle.pool_base.specs.Sets.{has};
+ghost use Rattle.session_links.specs.Slots.{IsFound, IsSent, are_sound, is_awaited, is_sound, kept_at, request_in, slot_at};
+
+use crate::maker::LinkMaker;
+use crate::slot::{Found, Sent, Slot, given_up, look, put};
+use backend_trait::Request;
+use link_words::Link;
+use pg_messages::Pair;
+use pool_base::{BackendId, BackendSet, NoMemory};
+use std::alloc::Global;
+use std::mem;
+
+/// The links of one session.
+#[derive(Drop)]
+pub struct Links<L: Link> {
+    slots: Vec<Slot<L>>,
+    ghost eight: { length slots.items ≡ 8 },
+    ghost sound: { are_sound L.pending slots.items ≡ true },
+}
+
+impl<L: Link> Links<L> {
+    /// No link to any backend.
+    pub fn new(alloc: Global) -> Result<Links<L>, NoMemory>
+        ensures { IfOk result (λ links. links.slots.items ≡ replicate 8 Slot.Empty) }
+    {
+        let mut slots = Vec::new(alloc);
+        for made in 0..8_usize {
+            slots.push(Slot::Empty)?;
+        }
+        Ok(Links { slots })
+    }
+
+    /// Whether an answer of the backend is awaited, or the word of its loss.
+    pub fn is_awaited(&self, b: BackendId) -> bool
+        ensures { result ≡ is_awaited (slot_at self.now.slots.items b.number) }
+    {
+        matches!(
+            self.slots[b.number as usize],
+            Slot::Asked(_) | Slot::Lost(_)
+        )
+    }
+
+    fn take(&mut self, b: BackendId) -> Slot<L>
+        ensures is { result ≡ slot_at self.old.slots.items b.number }
+        ensures sound { is_sound L.pending result ≡ true }
+        ensures rest { self.new.slots.items ≡ set self.old.slots.items b.number Slot.Empty }
+    {
+        mem::replace(&mut self.slots[b.number as usize], Slot::Empty)
+    }
+
+    fn put_back(&mut self, b: BackendId, slot: Slot<L>)
+        requires { is_sound L.pending slot ≡ true }
+        ensures { self.new.slots.items ≡ set self.old.slots.items b.number slot }
+    {
+        drop(mem::replace(&mut self.slots[b.number as usize], slot));
+    }
+
+    /// Puts a request at a backend, with a link that is made where there is none. A backend that
+    /// lets no session begin counts as lost at the next look.
+    #[tactic(auto, using(crate::proofs::Sound::put_here, crate::proofs::Sound::put_else))]
+    pub fn post<M: LinkMaker<L = L>>(
+        &mut self,
+        b: BackendId,
+        request: Request,
+        maker: &mut M,
+        options: &[Pair],
+    ) -> Sent
+        requires { is_awaited (slot_at self.old.slots.items b.number) ≡ false }
+        ensures sent { IsSent result (slot_at self.new.slots.items b.number) }
+        ensures others { (c : ℕ) → c ≢ b.number
+            → slot_at self.new.slots.items c ≡ slot_at self.old.slots.items c }
+    {
+        let slot = self.take(b);
+        let (slot, sent) = put(slot, b, request, maker, options);
+        self.put_back(b, slot);
+        sent
+    }
+
+    /// Looks for the answer of a backend where one is awaited.
+    #[tactic(auto, using(crate::proofs::Sound::put_here, crate::proofs::Sound::put_else))]
+    pub fn poll(&mut self, b: BackendId) -> Found
+        requires { is_awaited (slot_at self.old.slots.items b.number) ≡ true }
+        // An answer has the form of the request that is pending there.
+        ensures found { IsFound result
+            (request_in L.pending (slot_at self.old.slots.items b.number))
+            (slot_at self.new.slots.items b.number) }
+        ensures others { (c : ℕ) → c ≢ b.number
+            → slot_at self.new.slots.items c ≡ slot_at self.old.slots.items c }
+    {
+        let slot = self.take(b);
+        let (slot, found) = look(slot);
+        self.put_back(b, slot);
+        found
+    }
+
+    /// Waits at this backend no longer: its next look is `Lost`. Where no answer is awaited nothing
+    /// changes.
+    #[tactic(auto, using(crate::proofs::Sound::put_here, crate::proofs::Sound::put_else))]
+    pub fn give_up(&mut self, b: BackendId)
+        ensures awaited { is_awaited (slot_at self.new.slots.items b.number)
+            ≡ is_awaited (slot_at self.old.slots.items b.number) }
+        ensures others { (c : ℕ) → c ≢ b.number
+            → slot_at self.new.slots.items c ≡ slot_at self.old.slots.items c }
+    {
+        let slot = self.take(b);
+        self.put_back(b, given_up(slot));
+    }
+
+    /// Drops the links to all backends but these.
+    pub fn keep(&mut self, among: BackendSet)
+        ensures kept { (c : ℕ) → has among.bits c ≡ true
+            → slot_at self.new.slots.items c ≡ slot_at self.old.slots.items c }
+        ensures dropped { (c : ℕ) → c < 8 → has among.bits c ≡ false
+            → slot_at self.new.slots.items c ≡ Slot.Empty }
+    {
+        for number in 0..8 {
+            self.keep_one(BackendId { number }, among);
+        }
+    }
+
+    fn keep_one(&mut self, b: BackendId, among: BackendSet)
+        ensures { self.new.slots.items ≡ kept_at among.bits b.number self.old.slots.items }
+    {
+        if !among.has(b) {
+            self.put_back(b, Slot::Empty);
+        }
+    }
+}

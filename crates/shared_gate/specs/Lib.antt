@@ -1,0 +1,3 @@
+pub mod Words
+pub mod History
+pub mod Rule

@@ -1,0 +1,288 @@
+//! A session at a server: one request at a time.
+//!
+//! ```text
+//! Idle --post--> Sent or Unsent --poll--> Idle
+//! ```
+//!
+//! After a fault the link is lost, and each poll says so. Then what is pending stays so.
+ghost use Rattle.std.specs.Prelude.{◌≡◌, ◌<◌, ◌≤◌, length, false, true, IfOk, IfNone, IfSome, None, Some};
+ghost use Rattle.pool_base.specs.Outside.{Rose};
+ghost use Rattle.link_words.specs.Forms.{IsPolled};
+ghost use Rattle.tcp_link.specs.Links.{Answers, pending_of, faults_of};
+
+use crate::codes::PROGRAM_LIMIT_EXCEEDED;
+use crate::outbox::{Emptied, Outbox};
+use crate::wire::{Received, Wire};
+use backend_trait::{Polled, Posted, Request};
+use catalogue::Catalogue;
+use link_words::Link;
+use pool_base::NoMemory;
+use postgres_link::{Inbox, Reply};
+use postgres_talk::{NotSpelled, Said, Spelled, Talk, answer_of, spell};
+use std::alloc::Global;
+use std::mem;
+
+/// How many bytes are taken from the wire at once.
+const PIECE: usize = 16384;
+
+/// What of a request waits for its answer.
+#[derive(Drop)]
+enum State {
+    /// No request is pending.
+    Idle,
+    /// The request is sent, or on its way.
+    Sent(Talk),
+    /// The request is not sent: its text does not fit into a message, or names what is not there.
+    Unsent(Request),
+}
+
+/// A session at a server.
+#[derive(Drop)]
+pub struct PatientLink<'a, W: Wire> {
+    alloc: Global,
+    tables: &'a Catalogue,
+    wire: W,
+    inbox: Inbox,
+    outbox: Outbox,
+    piece: Vec<u8>,
+    state: State,
+    /// It gives no answer any more, to this request or another.
+    lost: bool,
+    /// The faults that are not the wire's.
+    violations: u64,
+    ghost room: { 0 < length piece.items },
+}
+
+/// A piece of bytes to receive into.
+fn new_piece(alloc: Global) -> Result<Vec<u8>, NoMemory>
+    ensures { IfOk result (λ piece. length piece.items ≡ 16384) }
+{
+    let mut piece = Vec::new(alloc);
+    piece.resize(PIECE, 0)?;
+    Ok(piece)
+}
+
+impl<'a, W: Wire> PatientLink<'a, W> {
+    /// A session that the server has let in; what else has come stands in the inbox.
+    pub fn new(
+        alloc: Global,
+        tables: &'a Catalogue,
+        wire: W,
+        inbox: Inbox,
+    ) -> Result<PatientLink<'a, W>, NoMemory>
+        ensures idle { IfOk result (λ link. ⟦<PatientLink<'a, W> as Link>⟧.pending link ≡ None) }
+        ensures there { IfOk result (λ link. ⟦<PatientLink<'a, W> as Link>⟧.lost link ≡ false) }
+    {
+        Ok(PatientLink {
+            alloc,
+            tables,
+            wire,
+            inbox,
+            outbox: Outbox::new(alloc),
+            piece: new_piece(alloc)?,
+            state: State::Idle,
+            lost: false,
+            violations: 0,
+        })
+    }
+
+    fn set(&mut self, state: State)
+        ensures state { self.new.state ≡ state }
+        ensures lost { self.new.lost ≡ self.old.lost }
+        ensures wire { self.new.wire ≡ self.old.wire }
+        ensures violations { self.new.violations ≡ self.old.violations }
+    {
+        drop(mem::replace(&mut self.state, state));
+    }
+
+    /// Gives up the session.
+    fn lose(&mut self) -> Polled
+        ensures says { result ≡ Polled.Lost }
+        ensures lost { self.new.lost ≡ true }
+        ensures state { self.new.state ≡ self.old.state }
+        ensures wire { self.new.wire ≡ self.old.wire }
+        ensures violations { self.new.violations ≡ self.old.violations }
+    {
+        self.lost = true;
+        Polled::Lost
+    }
+
+    /// Gives up the session for a fault that is not the wire's.
+    fn violate(&mut self) -> Polled
+        ensures says { result ≡ Polled.Lost }
+        ensures lost { self.new.lost ≡ true }
+        ensures state { self.new.state ≡ self.old.state }
+        ensures rose { Rose (faults_of (W.fault_count self.old.wire) self.old.violations)
+            (faults_of (W.fault_count self.new.wire) self.new.violations) }
+        ensures later { faults_of (W.fault_count self.old.wire) self.old.violations
+            ≤ faults_of (W.fault_count self.new.wire) self.new.violations }
+    {
+        self.violations = self.violations.saturating_add(1);
+        self.lose()
+    }
+
+    fn send(&mut self, request: Request, spelled: Spelled)
+        ensures pending { pending_of self.new.state ≡ Some request }
+        ensures lost { self.new.lost ≡ self.old.lost }
+        ensures wire { self.new.wire ≡ self.old.wire }
+        ensures violations { self.new.violations ≡ self.old.violations }
+    {
+        let Spelled {
+            bytes,
+            wanted,
+            second,
+        } = spelled;
+        self.outbox.fill(bytes);
+        self.set(State::Sent(Talk::new(request, wanted, second)));
+    }
+
+    /// Looks for the answer in what has come.
+    fn listen(&mut self) -> Result<Said, NoMemory>
+        ensures said { IfOk result (λ said. Answers self.old.state said) }
+        ensures pending { pending_of self.new.state ≡ pending_of self.old.state }
+        ensures lost { self.new.lost ≡ self.old.lost }
+        ensures wire { self.new.wire ≡ self.old.wire }
+        ensures violations { self.new.violations ≡ self.old.violations }
+    {
+        match &mut self.state {
+            State::Sent(talk) => talk.listen(self.alloc, &mut self.inbox),
+            State::Idle | State::Unsent(_) => Ok(Said::Broken),
+        }
+    }
+
+    /// The answer, if all of it has come.
+    fn look(&mut self) -> Option<Polled>
+        ensures polled { IfSome result (λ polled. IsPolled polled (pending_of self.old.state)
+            (pending_of self.new.state)
+            (faults_of (W.fault_count self.old.wire) self.old.violations)
+            (faults_of (W.fault_count self.new.wire) self.new.violations)) }
+        ensures ends { IfSome result (λ polled. polled ≡ Polled.Lost → self.new.lost ≡ true) }
+        ensures none { IfNone result (pending_of self.new.state ≡ pending_of self.old.state) }
+        ensures later { faults_of (W.fault_count self.old.wire) self.old.violations
+            ≤ faults_of (W.fault_count self.new.wire) self.new.violations }
+    {
+        match self.listen() {
+            Err(NoMemory) => Some(Polled::NoMemory),
+            Ok(Said::NotYet) => None,
+            Ok(Said::Broken) => Some(self.violate()),
+            Ok(Said::Answer(answer)) => {
+                self.set(State::Idle);
+                Some(Polled::Answered(answer))
+            }
+        }
+    }
+
+    /// Takes what comes next, and looks for the answer in it.
+    fn receive(&mut self) -> Polled
+        ensures polled { IsPolled result (pending_of self.old.state) (pending_of self.new.state)
+            (faults_of (W.fault_count self.old.wire) self.old.violations)
+            (faults_of (W.fault_count self.new.wire) self.new.violations) }
+        ensures ends { result ≡ Polled.Lost → self.new.lost ≡ true }
+        ensures later { faults_of (W.fault_count self.old.wire) self.old.violations
+            ≤ faults_of (W.fault_count self.new.wire) self.new.violations }
+    {
+        if self.inbox.reserve(PIECE).is_err() {
+            return Polled::NoMemory;
+        }
+        let count = match self.wire.receive(self.piece.as_mut_slice()) {
+            Received::Bytes(count) => count,
+            Received::NotYet => return Polled::NotYet,
+            Received::Failed => return self.lose(),
+        };
+        if self.inbox.take(&self.piece.as_slice()[..count]).is_err() {
+            return self.violate();
+        }
+        match self.look() {
+            Some(polled) => polled,
+            None => Polled::NotYet,
+        }
+    }
+
+    /// Sends what is left of the request, and looks for its answer.
+    fn go_on(&mut self) -> Polled
+        ensures polled { IsPolled result (pending_of self.old.state) (pending_of self.new.state)
+            (faults_of (W.fault_count self.old.wire) self.old.violations)
+            (faults_of (W.fault_count self.new.wire) self.new.violations) }
+        ensures ends { result ≡ Polled.Lost → self.new.lost ≡ true }
+        ensures later { faults_of (W.fault_count self.old.wire) self.old.violations
+            ≤ faults_of (W.fault_count self.new.wire) self.new.violations }
+    {
+        match self.outbox.empty(&mut self.wire) {
+            Emptied::All => {}
+            Emptied::NotYet => return Polled::NotYet,
+            Emptied::Failed => return self.lose(),
+        }
+        match self.look() {
+            Some(polled) => polled,
+            None => self.receive(),
+        }
+    }
+
+    /// Answers a request that is not sent: as a server that refuses a text for its length.
+    fn refuse(&mut self) -> Polled
+        ensures polled { IsPolled result (pending_of self.old.state) (pending_of self.new.state)
+            (faults_of (W.fault_count self.old.wire) self.old.violations)
+            (faults_of (W.fault_count self.new.wire) self.new.violations) }
+        ensures ends { result ≡ Polled.Lost → self.new.lost ≡ true }
+        ensures later { faults_of (W.fault_count self.old.wire) self.old.violations
+            ≤ faults_of (W.fault_count self.new.wire) self.new.violations }
+    {
+        let State::Unsent(request) = &self.state else {
+            return self.violate();
+        };
+        match answer_of(request, Reply::Refused(PROGRAM_LIMIT_EXCEEDED)) {
+            Some(answer) => {
+                self.set(State::Idle);
+                Polled::Answered(answer)
+            }
+            None => self.violate(),
+        }
+    }
+}
+
+impl<'a, W: Wire> Link for PatientLink<'a, W> {
+    ghost use Rattle.tcp_link.specs.Links.{pending_of, faults_of};
+
+    ghost pending = { λ l. pending_of l.state };
+
+    ghost fault_count = { λ l. faults_of (W.fault_count l.wire) l.violations };
+
+    ghost lost = { λ l. l.lost };
+
+    fn post(&mut self, request: Request) -> Posted {
+        match spell(self.alloc, self.tables, &request) {
+            Ok(spelled) => {
+                self.send(request, spelled);
+                Posted::Accepted
+            }
+            Err(NotSpelled::TooLong) => {
+                self.set(State::Unsent(request));
+                Posted::Accepted
+            }
+            Err(NotSpelled::NotThere) => {
+                self.set(State::Unsent(request));
+                self.lost = true;
+                Posted::Accepted
+            }
+            Err(NotSpelled::NoMemory) => Posted::NoMemory(request),
+        }
+    }
+
+    fn poll(&mut self) -> Polled {
+        if self.lost {
+            return self.violate();
+        }
+        match &self.state {
+            State::Sent(_) => self.go_on(),
+            State::Unsent(_) | State::Idle => self.refuse(),
+        }
+    }
+
+    fn give_up(&mut self) {
+        drop(self.violate());
+    }
+
+    fn faults(&self) -> u64 {
+        self.wire.faults().saturating_add(self.violations)
+    }
+}

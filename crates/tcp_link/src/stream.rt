@@ -1,0 +1,76 @@
+//! The system's TCP streams. They tell nothing of content. Each `Err` of the system raises their
+//! count of faults.
+ghost use Rattle.std.specs.Prelude.{◌≡◌};
+
+use crate::wire::{Received, Sent, Wire};
+use pool_base::{ReaderSource, WriterSink};
+use std::io;
+use std::io::{ErrorKind, Read, Write};
+use std::net::TcpStream;
+
+/// The bytes that come over a stream. A read waits until some are there.
+pub type TcpSource = ReaderSource<TcpStream>;
+
+/// What takes bytes to be sent over a stream.
+pub type TcpSink = WriterSink<TcpStream>;
+
+/// The two halves of a stream. What is written is sent at once.
+pub fn split(stream: TcpStream) -> io::Result<(TcpSource, TcpSink)> {
+    stream.set_nodelay(true)?;
+    let other = stream.try_clone()?;
+    Ok((ReaderSource::new(stream), WriterSink::new(other)))
+}
+
+/// A stream with a time that a read or a write of it waits at most.
+#[derive(Drop)]
+pub struct TcpWire {
+    stream: TcpStream,
+    faults: u64,
+}
+
+/// Whether the system asks to try again: the time is over, or a signal came.
+fn is_passing(kind: ErrorKind) -> bool {
+    matches!(
+        kind,
+        ErrorKind::WouldBlock | ErrorKind::TimedOut | ErrorKind::Interrupted
+    )
+}
+
+impl TcpWire {
+    /// The stream has its times already.
+    pub fn new(stream: TcpStream) -> TcpWire
+        ensures { ⟦<TcpWire as Wire>⟧.fault_count result ≡ 0 }
+    {
+        TcpWire { stream, faults: 0 }
+    }
+}
+
+impl Wire for TcpWire {
+    ghost fault_count = { λ w. w.faults };
+
+    fn send(&mut self, piece: &[u8]) -> Sent {
+        match self.stream.write(piece) {
+            Ok(count) if count > 0 => Sent::Taken(count),
+            Err(fault) if is_passing(fault.kind()) => Sent::NotYet,
+            _ => {
+                self.faults = self.faults.saturating_add(1);
+                Sent::Failed
+            }
+        }
+    }
+
+    fn receive(&mut self, into: &mut [u8]) -> Received {
+        match self.stream.read(into) {
+            Ok(count) if count > 0 => Received::Bytes(count),
+            Err(fault) if is_passing(fault.kind()) => Received::NotYet,
+            _ => {
+                self.faults = self.faults.saturating_add(1);
+                Received::Failed
+            }
+        }
+    }
+
+    fn faults(&self) -> u64 {
+        self.faults
+    }
+}

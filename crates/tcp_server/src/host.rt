@@ -1,0 +1,30 @@
+//! What the server asks of the system.
+
+use std::net::{Net, TcpListener, TcpStream};
+use std::rt::Clock;
+use std::sync::Wait;
+use std::thread::Threads;
+
+/// What the server asks of the system.
+pub trait Host: Net<Listener = TcpListener, Stream = TcpStream>
+    + Threads
+    + Wait
+    + Clock
+    + Eprint
+    + Copy
+    + Send
+    + Sync
+    + 'static {}
+
+impl<R> Host for R
+where
+    R: Net<Listener = TcpListener, Stream = TcpStream>
+        + Threads
+        + Wait
+        + Clock
+        + Eprint
+        + Copy
+        + Send
+        + Sync
+        + 'static,
+{}

@@ -1,0 +1,16 @@
+//! The door of the pool: connections get a seat and a thread, sessions get links over TCP, the gate
+//! that all threads share, and standard error. Each pass that waits is of that gate and out.
+#![tactic(auto)]
+
+mod accept;
+mod host;
+mod maker;
+mod notices;
+mod pass_at;
+mod room;
+mod start;
+mod turned_away;
+mod why;
+
+pub use accept::{ServeEnd, serve};
+pub use host::Host;

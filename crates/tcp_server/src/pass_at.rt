@@ -1,0 +1,105 @@
+//! A session's pass at the gate that threads share.
+ghost use Rattle.std.specs.Prelude.{◌≡◌};
+ghost use Rattle.shared_gate.specs.History.{IsOut, stand_of, copy_of, Out, Idle};
+ghost use Rattle.pool_server.specs.Passes.{stand_in};
+
+use crate::room::{AtGate, OutPass};
+use pool_base::{GateAnswer, GateCall};
+use pool_server::{Footing, GatePass};
+use shared_gate::{Pass, SharedGate};
+use std::marker::PhantomData;
+use std::rt::Clock;
+use std::sync::Wait;
+use std::thread;
+use std::time::Duration;
+
+/// How often a held call is made again at once.
+const EAGER_TRIES: u32 = 50;
+
+/// The shortest wait behind those.
+///
+/// Units: microseconds.
+const FIRST_WAIT: u64 = 100;
+
+/// How often the wait doubles.
+const DOUBLINGS: u32 = 4;
+
+/// A session's pass at the gate that threads share, and where it stands there.
+#[derive(Drop)]
+pub(crate) struct PassAt<'a, R, G: AtGate> {
+    rt: &'a R,
+    gate: &'a SharedGate,
+    pass: Pass,
+    footing: Footing,
+    of: PhantomData<G>,
+    ghost gate_is: { gate.now ≡ G.gate },
+    ghost pass_is: { pass.gate ≡ G.gate },
+    ghost stands: { stand_of pass.mine ≡ stand_in footing.phase },
+    ghost idle: { copy_of pass.mine ≡ Idle },
+}
+
+impl<'a, R, G: AtGate> PassAt<'a, R, G> {
+    /// A pass that is out, at its gate.
+    pub fn new(rt: &'a R, gate: &'a SharedGate, pass: OutPass<G>) -> PassAt<'a, R, G>
+        requires { gate.now ≡ G.gate }
+        ensures { stand_of result.pass.mine ≡ Out }
+    {
+        let OutPass { pass, .. } = pass;
+        PassAt {
+            rt,
+            gate,
+            pass,
+            footing: Footing::new(),
+            of: PhantomData,
+        }
+    }
+
+    /// The pass, which is out.
+    pub fn into_pass(self) -> OutPass<G>
+        requires { stand_of self.pass.mine ≡ Out }
+    {
+        let PassAt { pass, .. } = self;
+        OutPass {
+            pass,
+            of: PhantomData,
+        }
+    }
+}
+
+/// How long is waited before a call is made again that was held so many times. `None`: not at all.
+fn wait_behind(tries: u32) -> Option<Duration> {
+    if tries < EAGER_TRIES {
+        return None;
+    }
+    let doublings = (tries - EAGER_TRIES).min(DOUBLINGS);
+    Some(Duration::from_micros(FIRST_WAIT << doublings))
+}
+
+impl<'a, R: Wait + Clock, G: AtGate> GatePass for PassAt<'a, R, G> {
+    ghost use Rattle.shared_gate.specs.History.{stand_of};
+
+    ghost stand = { λ p. stand_of p.pass.mine };
+
+    ghost cut = { λ p. p.footing.is_cut };
+
+    fn may_step(&self, call: GateCall) -> bool {
+        self.footing.may_make(call)
+    }
+
+    fn is_cut(&self) -> bool {
+        self.footing.is_cut
+    }
+
+    fn step(&mut self, call: GateCall) -> GateAnswer {
+        let answer = self.gate.step(self.rt, &mut self.pass, call);
+        self.footing = self.footing.after(call, answer);
+        answer
+    }
+
+    fn pause(&mut self, tries: u32) {
+        match wait_behind(tries) {
+            None => thread::yield_now(),
+            Some(wait) => thread::sleep(self.rt, wait),
+        }
+    }
+}

@@ -1,0 +1,151 @@
+//! What the sessions share: the gate, the seats with their passes, the configuration, the tables.
+//!
+//! ```text
+//! free, its pass is there --take--> taken, its pass is with a session --give--> free
+//! ```
+ghost use Rattle.std.specs.Prelude.{◌≡◌, ◌≤◌, length, IfOk, IfSome, min};
+ghost use Rattle.schema.specs.Grammar.{IsWithin};
+ghost use Rattle.shared_gate.specs.History.{IsOut};
+ghost use Rattle.tcp_server.specs.Rooms.{AreMatched};
+
+use pool_base::{NoMemory, SessionId};
+use pool_config::Config;
+use pool_server::Seats;
+use schema::Catalogue;
+use shared_gate::{Pass, SharedGate};
+use std::alloc::Global;
+use std::marker::{Brand, PhantomData};
+use std::mem;
+use std::sync::{Mutex, Wait};
+
+/// How many seats there are at most.
+const MOST: u32 = 64;
+
+/// Names one gate.
+pub(crate) trait AtGate {
+    ghost use Rattle.atomic_table.specs.Seated.{TableId};
+
+    ghost gate: { TableId };
+}
+
+impl AtGate for Brand {
+    ghost use Rattle.tcp_server.specs.Rooms.{no_gate};
+
+    ghost gate = { no_gate };
+}
+
+/// A pass of the gate that is out.
+#[derive(Drop)]
+pub(crate) struct OutPass<G: AtGate> {
+    pub pass: Pass,
+    pub of: PhantomData<G>,
+    ghost of_gate: { pass.gate ≡ G.gate },
+    ghost out: { IsOut pass },
+}
+
+/// The seats, and the pass of each seat that is free.
+#[derive(Drop)]
+struct Places<G: AtGate> {
+    seats: Seats,
+    passes: Vec<Option<OutPass<G>>>,
+    ghost each: { length passes.items ≡ seats.count },
+    ghost matched: { AreMatched passes.items seats.taken },
+}
+
+impl<G: AtGate> Places<G> {
+    /// So many seats, all free, with a pass for each that is split off this one.
+    #[tactic(auto, using(crate::proofs::Matched::there_push, crate::proofs::Matched::matched_free))]
+    fn new(
+        alloc: Global,
+        gate: &SharedGate,
+        pass: &mut Pass,
+        count: u32,
+    ) -> Result<Places<G>, NoMemory>
+        requires few { count ≤ 64 }
+        requires gate { gate.now ≡ G.gate }
+        requires pass { pass.old.gate ≡ G.gate }
+    {
+        let mut passes = Vec::new(alloc);
+        for made in 0..count {
+            passes.push(Some(split_off(gate, pass)))?;
+        }
+        Ok(Places {
+            seats: Seats::new(count),
+            passes,
+        })
+    }
+
+    /// The lowest free seat with its pass, if there is one.
+    fn take(&mut self) -> Option<(SessionId, OutPass<G>)> {
+        let s = self.seats.take()?;
+        let pass = mem::replace(&mut self.passes[s.number as usize - 1], None)?;
+        Some((s, pass))
+    }
+
+    /// A session is over: its seat is free again, and its pass is there.
+    fn give(&mut self, s: SessionId, pass: OutPass<G>) {
+        let at = s.number as usize - 1;
+        if at < self.passes.len() {
+            self.passes[at] = Some(pass);
+            self.seats.give(s);
+        }
+    }
+}
+
+/// A pass of the same gate that has made no call.
+fn split_off<G: AtGate>(gate: &SharedGate, pass: &mut Pass) -> OutPass<G>
+    requires gate { gate.now ≡ G.gate }
+    requires pass { pass.old.gate ≡ G.gate }
+    ensures same { pass.new.gate ≡ G.gate }
+{
+    OutPass {
+        pass: gate.split(pass),
+        of: PhantomData,
+    }
+}
+
+/// What the sessions share.
+#[derive(Drop)]
+pub(crate) struct Room<G: AtGate> {
+    pub gate: SharedGate,
+    pub config: Config,
+    pub tables: Catalogue,
+    places: Mutex<Places<G>>,
+    ghost gate_is: { gate ≡ G.gate },
+    ghost within: { IsWithin tables },
+}
+
+impl<G: AtGate> Room<G> {
+    /// As many seats as the configuration says, and a pass for each.
+    pub fn new(
+        alloc: Global,
+        gate: SharedGate,
+        pass: Pass,
+        config: Config,
+        tables: Catalogue,
+    ) -> Result<Room<G>, NoMemory>
+        requires gate { gate ≡ G.gate }
+        requires pass { pass.gate ≡ G.gate }
+        requires within { IsWithin tables }
+    {
+        let mut pass = pass;
+        let count = config.children.min(MOST);
+        let places = Places::<G>::new(alloc, &gate, &mut pass, count)?;
+        Ok(Room {
+            gate,
+            config,
+            tables,
+            places: Mutex::new(places),
+        })
+    }
+
+    /// The lowest free seat with its pass, if there is one.
+    pub fn take<R: Wait>(&self, rt: &R) -> Option<(SessionId, OutPass<G>)> {
+        self.places.lock(rt).take()
+    }
+
+    /// A session is over, and its pass is out.
+    pub fn give<R: Wait>(&self, rt: &R, s: SessionId, pass: OutPass<G>) {
+        self.places.lock(rt).give(s, pass);
+    }
+}
