@@ -1,7 +1,0 @@
-mod ask;
-mod both;
-mod histories;
-mod random;
-mod rows;
-mod step;
-mod two_sessions;
