@@ -56,6 +56,20 @@ pub(crate) fn has_room(
     }
 }
 
+/// Makes room behind the items for so many more. Where there is none yet, no more is taken: most
+/// transactions have one statement.
+fn make_space<T>(items: &mut Vec<T>, additional: usize) -> Result<(), NoMemory>
+    ensures items { items.new.items ≡ items.old.items }
+    ensures room { OnOk result (vec_len items.new + additional ≤ vec_capacity items.new) }
+{
+    if items.is_empty() {
+        items.reserve_exact(additional)?;
+    } else {
+        items.reserve(additional)?;
+    }
+    Ok(())
+}
+
 /// Makes room in a transaction for so many changes and places more.
 fn make_room(work: &mut Work, changes: usize, places: usize) -> Result<(), NoMemory>
     ensures live { (log : Sequence ChangeSet) → live_of log work.new ≡ live_of log work.old }
@@ -64,8 +78,8 @@ fn make_room(work: &mut Work, changes: usize, places: usize) -> Result<(), NoMem
         ≤ vec_capacity work.new.own.changes)
         × (vec_len work.new.held + places ≤ vec_capacity work.new.held)) }
 {
-    work.own.changes.reserve(changes)?;
-    work.held.reserve(places)?;
+    make_space(&mut work.own.changes, changes)?;
+    make_space(&mut work.held, places)?;
     Ok(())
 }
 

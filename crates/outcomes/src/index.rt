@@ -141,7 +141,7 @@ fn begin(
         (all_chained chains.old.items) (all_chained chains.new.items)) }
 {
     let key = change.key.clone()?;
-    let mut versions = Vec::new(alloc);
+    let mut versions = Vec::with_capacity(alloc, 1)?;
     versions.push(version)?;
     let table = change.table;
     chains.insert(

@@ -11,6 +11,9 @@ use crate::spelling::{push_formats, push_kinds, push_mark, push_string, push_tar
 use pool_base::{List, NoMemory, SessionId, Text};
 use std::alloc::Global;
 
+/// Most echoes are no longer than this. There is room for them at once.
+const ECHO_SIZE: usize = 128;
+
 /// The one spelling of a line of the grammar, with its LF.
 ///
 /// Shape: one space between the parts, plain decimal numbers, hexadecimal digits in lower case.
@@ -35,6 +38,7 @@ pub fn echo(alloc: Global, line: &ScriptLine) -> Result<Text, NoMemory>
     ensures { IfOk result (λ text. text ≡ echoed (line_of line.now) ++ 10 ∷ []) }
 {
     let mut bytes = List::new(alloc);
+    bytes.reserve(ECHO_SIZE)?;
     push_echo_front(alloc, sender(line), &mut bytes)?;
     push_words(alloc, line, &mut bytes)?;
     bytes.push(b'\n')?;

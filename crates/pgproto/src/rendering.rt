@@ -10,6 +10,9 @@ use pool_base::{List, NoMemory, SessionId, Text};
 use std::alloc::{AllocError, Global};
 use std::fmt::Write;
 
+/// Most lines are no longer than this. There is room for them at once.
+const LINE_SIZE: usize = 64;
+
 /// The line of a message to a session, with its LF.
 ///
 /// Shape: `n <= BE ` and the message's form, as `1 <= BE CommandComplete ("INSERT 0 1")`. In
@@ -21,7 +24,7 @@ use std::fmt::Write;
 pub fn render(alloc: Global, s: SessionId, message: &ServerMessage) -> Result<Text, NoMemory>
     ensures { IfOk result (λ text. text ≡ rendered s.number message.now ++ 10 ∷ []) }
 {
-    let mut line = String::new(alloc);
+    let mut line = String::with_capacity(alloc, LINE_SIZE)?;
     push_number(s.number, &mut line)?;
     line.push_str(" <= BE ")?;
     push_form(message, &mut line)?;

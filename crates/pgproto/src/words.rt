@@ -8,6 +8,9 @@ use crate::stop::Stop;
 use pool_base::{List, Text};
 use std::alloc::Global;
 
+/// Most strings are no longer than this. There is room for them at once.
+const STRING_SIZE: usize = 64;
+
 /// Takes these bytes off the front.
 pub(crate) fn word<'a>(word: &[u8], bytes: &'a [u8]) -> Result<&'a [u8], Stop>
     ensures gives { Gives (λ x. x.now) result (word_at word.now bytes.now) }
@@ -140,7 +143,7 @@ fn string_bytes(alloc: Global, bytes: &[u8]) -> Result<(Vec<u8>, &[u8]), Stop>
         bytes.now) }
     ensures shorter { IfOk result (λ x. length x.1.now < length bytes.now) }
 {
-    let mut text = Vec::new(alloc);
+    let mut text = Vec::with_capacity(alloc, bytes.len().min(STRING_SIZE))?;
     let mut rest = bytes;
     loop {
         let (byte, after) = string_byte(rest)?;

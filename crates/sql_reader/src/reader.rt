@@ -19,6 +19,8 @@ fn apart(alloc: Global, placed: List<Placed>) -> Result<(List<Token>, List<u32>)
 {
     let mut tokens = List::new(alloc);
     let mut places = List::new(alloc);
+    tokens.reserve(placed.len())?;
+    places.reserve(placed.len())?;
     for one in placed.into_vec() {
         let Placed { token, place } = one;
         tokens.push(token)?;

@@ -1,6 +1,7 @@
 pub mod Runs
 pub mod Numbers
 pub mod Words
+pub mod Letters
 pub mod Ends
 pub mod Quotes
 pub mod Once

@@ -1,5 +1,5 @@
 //! Words and names without quotes.
-ghost use Rattle.std.specs.Prelude.{◌≡◌, ◌≢◌, map, IsAscii, IfOk, MatchOption};
+ghost use Rattle.std.specs.Prelude.{◌≡◌, ◌≢◌, map, Contains, IsAscii, IfOk, MatchOption};
 ghost use Rattle.std.specs.Char.{to_ascii_lowercase};
 ghost use Rattle.sql_tokens.specs.declared.word.Word.{Word as ReservedWord};
 ghost use Rattle.sql_tokens.specs.Words.{spelling};
@@ -7,7 +7,7 @@ ghost use Rattle.sql_tokens.specs.Pieces.{IsCalled, NameOf, name_token};
 
 use crate::bytes::{Class, split_run};
 use crate::piece::Piece;
-use crate::word::all_words;
+use crate::word::words_of;
 use crate::{Name, Token, TokenFault, Word};
 use pool_base::{NoMemory, Text};
 use std::alloc::Global;
@@ -63,12 +63,22 @@ fn called(text: Text) -> Token
     }
 }
 
+/// The reserved words that begin as the text does.
+fn words_like(text: &[u8]) -> &'static [Word]
+    ensures { (word : ReservedWord) → spelling word ≡ text.now → Contains result.now word }
+{
+    match text {
+        [first, ..] => words_of(*first),
+        [] => &[],
+    }
+}
+
 /// The reserved word that is spelled so.
 fn word_of(text: &[u8]) -> Option<Word>
     ensures { MatchOption result ((word : ReservedWord) → spelling word ≢ text.now)
         (λ word. spelling word ≡ text.now) }
 {
-    for word in all_words() {
+    for word in words_like(text) {
         if word.spelling().as_bytes() == text {
             return Some(*word);
         }

@@ -11,6 +11,9 @@ use std::alloc::Global;
 /// A text has at most so many tokens.
 const MOST_TOKENS: usize = 65536;
 
+/// Most texts have no more tokens than this. The list has room for them at once.
+const MANY_TOKENS: usize = 16;
+
 /// The tokens of a text with their places, up to its first fault.
 ///
 /// Shape: docs/DECISIONS.md, "What does a fault in a SQL text look like?".
@@ -33,6 +36,7 @@ fn tokens_of(alloc: Global, text: &[u8]) -> Result<List<Placed>, NoMemory>
     ensures { IfOk result (λ read. TokensOf text.now read) }
 {
     let mut tokens = List::new(alloc);
+    tokens.reserve(MANY_TOKENS)?;
     let mut left = text;
     while !left.is_empty() {
         let (piece, after) = read_piece(alloc, left)?;

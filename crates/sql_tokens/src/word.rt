@@ -1,6 +1,7 @@
 //! The reserved words.
-ghost use Rattle.std.specs.Prelude.{◌≡◌, Contains};
+ghost use Rattle.std.specs.Prelude.{◌≡◌, ◌≤◌, ◌-◌, Contains, true, length, take, drop};
 ghost use Rattle.sql_tokens.specs.declared.word.Word.{Word as ReservedWord};
+ghost use Rattle.sql_tokens.specs.Bytes.{begins_with};
 ghost use Rattle.sql_tokens.specs.Words.{spelling, is_outside};
 
 /// A reserved word: one of the grammar of statements and schemas, or one of the outside list, which
@@ -222,6 +223,36 @@ pub static WORDS: [Word; 105] = [
     Word::Work,
     Word::Write,
 ];
+
+/// Where the words of each letter begin in the table, from `a` on, and where those of `z` end.
+static STARTS: [usize; 27] = [
+    0, 9, 12, 23, 30, 35, 40, 42, 43, 51, 52, 53, 60, 61, 66, 72, 74, 74, 81, 89, 94, 98, 100, 105,
+    105, 105, 105,
+];
+
+/// The words that begin with a byte.
+pub(crate) fn words_of(first: u8) -> &'static [Word]
+    ensures { (word : ReservedWord) → begins_with first (spelling word) ≡ true
+        → Contains result.now word }
+{
+    if !first.is_ascii_lowercase() {
+        return &[];
+    }
+    let letter = usize::from(first - b'a');
+    words_between(all_words(), STARTS[letter], STARTS[letter + 1])
+}
+
+/// The words from one number up to another, or all.
+fn words_between(words: &[Word], start: usize, end: usize) -> &[Word]
+    ensures { start ≤ end → end ≤ length words.now
+        → result.now ≡ take (end - start) (drop start words.now) }
+{
+    if start <= end && end <= words.len() {
+        &words[start..end]
+    } else {
+        words
+    }
+}
 
 /// All reserved words.
 pub fn all_words() -> &'static [Word]

@@ -6,7 +6,7 @@ use Rattle.pgproto.proofs.words.string_bytes.Goals as goal
 
 pub returns-in_err-byte-clause-gives : goal.returns-in_err-byte-clause-gives
 returns-in_err-byte-clause-gives c =
-    let p = err_from_is_err_and c.from_residual.result c.from_residual.ensures.1 in
+    let p = err_from_is_err_and c.from_residual-in_err-byte.result c.from_residual-in_err-byte.ensures.1 in
     rw (p.1, p.2) (ends c.in_err-byte.field-0.0 string_byte c.loop-text.text.items c.loop-text.rest.now (bytes_at string_byte (suc (length c.args.bytes.now)) c.args.bytes.now) c.loop-text.invariant.going c.in_err-byte.ensures.gives)
 
 pub loop-text-preserved : goal.loop-text-preserved

@@ -9,7 +9,7 @@ use Rattle.sql_tokens.proofs.Loop.{Going, starts, skips, takes, full, ends, behi
 use Rattle.sql_tokens.proofs.reader.tokens_of.Goals as goal
 
 pub loop-left-init : goal.loop-left-init
-loop-left-init c = subst (λ (tokens : List Placed). Going c.args.text.now tokens c.args.text.now) (sym c.new-tokens.ensures) (starts c.args.text.now)
+loop-left-init c = subst (λ (tokens : List Placed). Going c.args.text.now tokens c.args.text.now) (sym (c.reserve.ensures ∙ c.new-tokens.ensures)) (starts c.args.text.now)
 
 pub loop-left-smaller-in-Gap : goal.loop-left-smaller-in-Gap
 loop-left-smaller-in-Gap c =
