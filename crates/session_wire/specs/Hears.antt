@@ -1,5 +1,5 @@
--- What a wire does at each message of a client that was let in.
-use Rattle.std.specs.Prelude.{◌≡◌, Bool, true, false, [], Some}
+-- What becomes of a wire at a message of a client that was let in.
+use Rattle.std.specs.Prelude.{◌++◌, ℕ, Bool, true, false, List, [], Some}
 use Rattle.session_orders.specs.declared.order.OrderBody.{OrderBody}
 use Rattle.session_orders.specs.declared.order.OrderBody.TheVariants as orders
 use Rattle.wire_session.specs.declared.session.Session.{Session}
@@ -21,13 +21,13 @@ refusing r last v = record v { left = []; settles = true; due = Some (due.Refuse
 abbrev pub refuse : Refusal → OrderBody
 refuse r = orders.Refuse r.code r.name
 
--- all but what the session keeps under names
-pub record KeepsAllButNames (old new : View) : Type 0 where
-  pub number : new.number ≡ old.number
-  pub stage : new.stage ≡ old.stage
-  pub options : new.options ≡ old.options
-  pub status : new.session.status ≡ old.session.status
-  pub implicit : new.session.implicit ≡ old.session.implicit
-  pub skipping : new.session.skipping ≡ old.session.skipping
-  pub rest : new.rest ≡ old.rest
-  pub ended : new.ended ≡ old.ended
+-- an extended message is refused
+abbrev pub declining : Refusal → View → View
+declining r v = record v { due = Some (due.Declined r.code r.saying) }
+
+-- these bytes are told
+abbrev pub told : List ℕ → View → View
+told bytes v = record v { output = v.output ++ bytes }
+
+abbrev pub with_session : Session → View → View
+with_session s v = record v { session = s }

@@ -6,3 +6,6 @@ pub mod Waiting
 pub mod Cuts
 pub mod Hears
 pub mod Queries
+pub mod Asking
+pub mod Heeds
+pub mod Steps

@@ -9,6 +9,7 @@ use Rattle.wire_query.specs.declared.reading.Reading.TheVariants as reading
 use Rattle.wire_query.specs.Texts.{IsReading, is_control}
 use Rattle.wire_reply.specs.Rows.{IsMessage}
 use Rattle.wire_session.specs.declared.refusal.Refusal.{Refusal}
+use Rattle.wire_extended.specs.Keeping.{KeepsStatus}
 use Rattle.wire_session.specs.Refusals.{IsNotTaken}
 use Rattle.session_wire.specs.Hears.{refuse, refusing}
 use Rattle.session_wire.specs.Shown.{View}
@@ -49,4 +50,5 @@ pub record QueriesText (text : List ℕ) (body : Option OrderBody) (old new : Vi
   pub is_empty : IsMessage Empty empty
   pub mid : View
   pub names : mid ≡ record old { session = mid.session }
+  pub kept : KeepsStatus old.session mid.session
   pub done : Queries read several empty body mid new

@@ -1,6 +1,7 @@
 -- What is told of an outcome, and the room that is made for it.
-use Rattle.std.specs.Prelude.{◌≡◌, ◌≤◌, ◌+◌, ℕ, Bool, true, false, List, [], ◌++◌, Option, Some, None, vec_len, vec_capacity}
+use Rattle.std.specs.Prelude.{◌≡◌, ◌≤◌, ◌+◌, ℕ, Bool, true, false, List, [], ◌++◌, Option, Some, None, vec_len, vec_capacity, IsTrue}
 use Rattle.pool_base.specs.declared.code.Code.{Code}
+use Rattle.session_orders.specs.declared.order.Order.{Order}
 use Rattle.session_orders.specs.declared.order.OrderBody.{OrderBody}
 use Rattle.session_orders.specs.declared.order.OrderBody.TheVariants as orders
 use Rattle.session_orders.specs.declared.outcome.Tag.{Tag}
@@ -9,6 +10,8 @@ use Rattle.wire_reply.specs.Codes.{of_backend}
 use Rattle.wire_reply.specs.Replies.{report_bytes, text_with, complete_bytes}
 use Rattle.wire_reply.specs.Tags.{tag_text}
 use Rattle.session_wire.specs.declared.output.Output.{Output}
+use Rattle.session_wire.specs.declared.wire.WireStep.{WireStep}
+use Rattle.session_wire.specs.declared.wire.WireStep.TheVariants as steps
 
 -- an error with that code that a backend or the session gave
 abbrev pub error_bytes : List ℕ → List ℕ
@@ -47,3 +50,10 @@ ends orders.Settle = true
 ends orders.Commit = true
 ends orders.Rollback = true
 ends _ = false
+
+-- of such an order there is room for its outcome
+abbrev pub RoomFor : Option OrderBody → Output → Type 0
+RoomFor body o = (b : OrderBody) → body ≡ Some b → IsTrue (ends b) → HasRoom o
+
+abbrev pub RoomBehind : Option WireStep → Output → Type 0
+RoomBehind step o = (order : Order) → step ≡ Some (steps.Order order) → IsTrue (ends order.body) → HasRoom o

@@ -1,9 +1,10 @@
 -- When a wire waits for more input, and what falls with each step.
-use Rattle.std.specs.Prelude.{◌≡◌, ◌+◌, ℕ, false, List, [], length}
+use Rattle.std.specs.Prelude.{◌≡◌, ◌+◌, ◌<◌, ℕ, false, List, [], Option, None, length}
 use Rattle.pg_messages.specs.declared.read.Read.TheVariants.{More}
 use Rattle.pg_messages.specs.Fronts.{start_front, client_front}
 use Rattle.session_wire.specs.declared.wire.Stage.{Stage}
 use Rattle.session_wire.specs.declared.wire.Stage.TheVariants.{Starting, Open, Leaving, Closed}
+use Rattle.session_wire.specs.declared.wire.WireStep.{WireStep}
 use Rattle.session_wire.specs.Shown.{View}
 
 -- nothing of the messages that were taken is still to be ordered
@@ -37,3 +38,7 @@ open_one (Closed refused) = 0
 -- the bytes that were not taken, and one more until the session is left
 abbrev pub work : View → ℕ
 work v = length v.rest + open_one v.stage
+
+-- a step that takes a message, or lets the session be left, leaves less
+abbrev pub Falls : Option WireStep → View → View → Type 0
+Falls step old new = step ≡ None → work new < work old

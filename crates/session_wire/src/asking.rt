@@ -1,9 +1,9 @@
 //! What is ordered of a text that was read: its statements one by one, and then that it be settled.
-ghost use Rattle.std.specs.Prelude.{◌≡◌, None, Some, IfOk, OnOk};
+ghost use Rattle.std.specs.Prelude.{◌≡◌, ◌<◌, length, Some, IfOk, OnOk};
 ghost use Rattle.schema.specs.Grammar.{IsWithin};
+ghost use Rattle.session_wire.specs.Asking.{AsksFirst, Orders, OrdersFirst, OrdersNext, has_failed};
 ghost use Rattle.session_wire.specs.Sayings.{HasRoom};
 ghost use Rattle.session_wire.specs.Shown.{shown};
-ghost use Rattle.session_wire.specs.Waiting.{IsIdle};
 
 use crate::due::Due;
 use crate::wire::Wire;
@@ -19,14 +19,13 @@ impl Wire {
     /// The next order of what was read before: a statement's, or a Settle.
     pub(crate) fn asked(&mut self, tables: &Catalogue) -> Result<Option<OrderBody>, NoMemory>
         requires within { IsWithin tables.now }
-        ensures idle { IfOk result (λ body. body ≡ None → (shown self.new ≡ shown self.old)
-            × IsIdle (shown self.old)) }
-        ensures rest { (shown self.new).rest ≡ (shown self.old).rest }
-        ensures stage { self.new.stage ≡ self.old.stage }
+        ensures orders { IfOk result (λ body. OrdersNext tables.now (shown self.old).left
+            (shown self.old).settles body (shown self.old) (shown self.new)) }
         ensures room { IfOk result (λ body. (b : _) → body ≡ Some b → HasRoom self.new.output) }
     {
         if self.at < self.text.len() {
-            return Ok(Some(self.ask_statement(tables)?));
+            let body = self.ask_statement(tables)?;
+            return Ok(Some(body));
         }
         if !self.settles {
             return Ok(None);
@@ -40,6 +39,8 @@ impl Wire {
     /// Room for the end of a transaction: its outcome takes no memory then.
     pub(crate) fn make_room(&mut self) -> Result<(), NoMemory>
         ensures same { shown self.new ≡ shown self.old }
+        ensures text { self.new.text ≡ self.old.text }
+        ensures at { self.new.at ≡ self.old.at }
         ensures room { OnOk result (HasRoom self.new.output) }
     {
         let Some(room) = self.output.held.len().checked_add(OUTCOME_ROOM) else {
@@ -52,24 +53,45 @@ impl Wire {
 
     fn ask_statement(&mut self, tables: &Catalogue) -> Result<OrderBody, NoMemory>
         requires within { IsWithin tables.now }
-        ensures rest { (shown self.new).rest ≡ (shown self.old).rest }
-        ensures stage { self.new.stage ≡ self.old.stage }
+        requires some { self.old.at < length self.old.text }
+        ensures orders { IfOk result (λ body. OrdersFirst tables.now body (shown self.old)
+            (shown self.new)) }
         ensures room { OnOk result (HasRoom self.new.output) }
     {
         self.make_room()?;
-        let Some(statement) = self.text.as_slice().get(self.at) else {
-            return Ok(OrderBody::Settle);
-        };
+        let asked = self.ask_first(tables)?;
+        Ok(self.take_asked(asked))
+    }
+
+    /// What the first statement that is left asks for.
+    fn ask_first(&self, tables: &Catalogue) -> Result<Asked, NoMemory>
+        requires within { IsWithin tables.now }
+        requires some { self.now.at < length self.now.text }
+        ensures { IfOk result (AsksFirst tables.now (has_failed (shown self.now))
+            (shown self.now).session.implicit (shown self.now).left) }
+    {
+        let statements = self.text.as_slice();
+        let statement = &statements[self.at];
         let failed = self.session.status == b'E';
         let asked = ask(self.alloc, tables, statement, failed, self.session.implicit)?;
-        let last = self.at.saturating_add(1) == self.text.len();
+        Ok(asked)
+    }
+
+    /// Orders what a statement asks for, or that its text be refused.
+    fn take_asked(&mut self, asked: Asked) -> OrderBody
+        requires some { self.old.at < length self.old.text }
+        ensures orders { Orders asked result (shown self.old) (shown self.new) }
+        ensures output { self.new.output ≡ self.old.output }
+    {
+        let count = self.text.len();
+        let last = self.at + 1 == count;
         match asked {
             Asked::Order { body, description } => {
-                self.at = self.at.saturating_add(1);
+                self.at += 1;
                 self.due = Some(Due::Statement { description, last });
-                Ok(body)
+                body
             }
-            Asked::Refused(refusal) => Ok(self.refuse_query(refusal, last)),
+            Asked::Refused(refusal) => self.refuse_query(refusal, last),
         }
     }
 }

@@ -1,14 +1,18 @@
 //! The messages of the extended query.
-ghost use Rattle.std.specs.Prelude.{◌≡◌, Some, IfOk, IsTrue};
+ghost use Rattle.std.specs.Prelude.{◌≡◌, Some, IfOk};
 ghost use Rattle.schema.specs.Grammar.{IsWithin};
-ghost use Rattle.session_wire.specs.Hears.{refuse};
-ghost use Rattle.session_wire.specs.Sayings.{HasRoom, ends};
+ghost use Rattle.wire_extended.specs.Binding.{TellsBind};
+ghost use Rattle.wire_extended.specs.Keeping.{KeepsStatus};
+ghost use Rattle.session_wire.specs.Asking.{has_failed};
+ghost use Rattle.session_wire.specs.Heeds.{Closes, Describes, Executes, LeadsTo, Parses, Replies, RepliesSo, TellsDescribe};
+ghost use Rattle.session_wire.specs.Hears.{declining, refuse, with_session};
+ghost use Rattle.session_wire.specs.Sayings.{RoomFor};
 ghost use Rattle.session_wire.specs.Shown.{shown};
 
 use crate::due::Due;
 use crate::wire::Wire;
 use catalogue::Catalogue;
-use pg_messages::{ClientMessage, ServerMessage};
+use pg_messages::ServerMessage;
 use pool_base::{List, NoMemory};
 use session_orders::OrderBody;
 use wire_extended::{
@@ -16,57 +20,14 @@ use wire_extended::{
     parse,
 };
 use wire_reply::message_bytes;
-use wire_session::Refusal;
+use wire_session::{Portals, Refusal};
 
 impl Wire {
-    pub(crate) fn extended(
-        &mut self,
-        tables: &Catalogue,
-        message: ClientMessage,
-    ) -> Result<Option<OrderBody>, NoMemory>
-        requires within { IsWithin tables.now }
-        ensures rest { (shown self.new).rest ≡ (shown self.old).rest }
-        ensures stage { self.new.stage ≡ self.old.stage }
-        ensures room { (b : _) → IfOk result (λ body. body ≡ Some b → IsTrue (ends b)
-            → HasRoom self.new.output) }
-    {
-        // A reply finds room, so that a name is put only where its reply is.
-        self.make_room()?;
-        match message {
-            ClientMessage::Parse { name, text, kinds } => {
-                let (text, kinds) = (text.as_slice(), kinds.as_slice());
-                let replied = parse(self.alloc, tables, &mut self.session, name, text, kinds)?;
-                self.replied(replied)
-            }
-            ClientMessage::Bind {
-                portal,
-                name,
-                formats,
-                values,
-                results,
-            } => self.bind(Binding {
-                portal,
-                name,
-                formats,
-                values,
-                results,
-            }),
-            ClientMessage::Describe { portal, name } => self.describe(portal, name.as_slice()),
-            ClientMessage::Close { portal, name } => self.close(portal, name.as_slice()),
-            ClientMessage::Execute { portal, limit } => self.execute(portal, limit),
-            other => {
-                drop(other);
-                Ok(None)
-            }
-        }
-    }
-
     /// A reply without an order, or the order of a refusal.
     fn replied(&mut self, replied: Replied) -> Result<Option<OrderBody>, NoMemory>
-        ensures rest { (shown self.new).rest ≡ (shown self.old).rest }
-        ensures stage { self.new.stage ≡ self.old.stage }
-        ensures room { (b : _) → IfOk result (λ body. body ≡ Some b → IsTrue (ends b)
-            → HasRoom self.new.output) }
+        ensures replies { IfOk result (λ body. Replies replied body (shown self.old)
+            (shown self.new)) }
+        ensures room { IfOk result (λ body. RoomFor body self.new.output) }
     {
         match replied {
             Replied::Bytes(bytes) => {
@@ -79,68 +40,121 @@ impl Wire {
 
     /// Orders that an extended message be refused.
     fn decline(&mut self, refusal: Refusal) -> OrderBody
-        ensures rest { (shown self.new).rest ≡ (shown self.old).rest }
-        ensures stage { self.new.stage ≡ self.old.stage }
+        ensures shown { shown self.new ≡ declining refusal (shown self.old) }
         ensures order { result ≡ refuse refusal }
+        ensures output { self.new.output ≡ self.old.output }
     {
         let Refusal { saying, code, name } = refusal;
         self.due = Some(Due::Declined { code, saying });
         OrderBody::Refuse { code, name }
     }
 
-    fn bind(&mut self, binding: Binding) -> Result<Option<OrderBody>, NoMemory>
-        ensures rest { (shown self.new).rest ≡ (shown self.old).rest }
-        ensures stage { self.new.stage ≡ self.old.stage }
-        ensures room { (b : _) → IfOk result (λ body. body ≡ Some b → IsTrue (ends b)
-            → HasRoom self.new.output) }
+    pub(crate) fn parse(
+        &mut self,
+        tables: &Catalogue,
+        name: List<u8>,
+        text: &[u8],
+        kinds: &[u32],
+    ) -> Result<Option<OrderBody>, NoMemory>
+        requires within { IsWithin tables.now }
+        ensures parses { IfOk result (λ body. Parses tables.now name text.now kinds.now body
+            (shown self.old) (shown self.new)) }
+        ensures room { IfOk result (λ body. RoomFor body self.new.output) }
+    {
+        let replied = parse(self.alloc, tables, &mut self.session, name, text, kinds)?;
+        let body = self.replied(replied)?;
+        Ok(body)
+    }
+
+    pub(crate) fn bind(&mut self, binding: Binding) -> Result<Option<OrderBody>, NoMemory>
+        ensures binds { IfOk result (λ body. RepliesSo (TellsBind (shown self.old).session binding)
+            body (shown self.old) (shown self.new)) }
+        ensures room { IfOk result (λ body. RoomFor body self.new.output) }
     {
         let replied = bind_portal(self.alloc, &mut self.session, binding)?;
-        self.replied(replied)
+        let body = self.replied(replied)?;
+        Ok(body)
     }
 
-    fn describe(&mut self, portal: bool, name: &[u8]) -> Result<Option<OrderBody>, NoMemory>
-        ensures rest { (shown self.new).rest ≡ (shown self.old).rest }
-        ensures stage { self.new.stage ≡ self.old.stage }
-        ensures room { (b : _) → IfOk result (λ body. body ≡ Some b → IsTrue (ends b)
-            → HasRoom self.new.output) }
+    fn described(&self, portal: bool, name: &[u8]) -> Result<Replied, NoMemory>
+        ensures { IfOk result (TellsDescribe portal (has_failed (shown self.now)) name.now
+            (shown self.now).session) }
     {
-        let replied = if portal {
-            describe_portal(self.alloc, &self.session, name)?
-        } else {
-            describe_statement(self.alloc, &self.session, name)?
-        };
-        self.replied(replied)
+        if portal {
+            let replied = describe_portal(self.alloc, &self.session, name)?;
+            return Ok(replied);
+        }
+        let replied = describe_statement(self.alloc, &self.session, name)?;
+        Ok(replied)
     }
 
-    fn close(&mut self, portal: bool, name: &[u8]) -> Result<Option<OrderBody>, NoMemory>
-        ensures rest { (shown self.new).rest ≡ (shown self.old).rest }
-        ensures stage { self.new.stage ≡ self.old.stage }
-        ensures room { (b : _) → IfOk result (λ body. body ≡ Some b → IsTrue (ends b)
-            → HasRoom self.new.output) }
+    pub(crate) fn describe(
+        &mut self,
+        portal: bool,
+        name: &[u8],
+    ) -> Result<Option<OrderBody>, NoMemory>
+        ensures describes { IfOk result (λ body. Describes portal name.now body (shown self.old)
+            (shown self.new)) }
+        ensures room { IfOk result (λ body. RoomFor body self.new.output) }
+    {
+        let replied = self.described(portal, name)?;
+        let body = self.replied(replied)?;
+        Ok(body)
+    }
+
+    pub(crate) fn close(&mut self, portal: bool, name: &[u8]) -> Result<Option<OrderBody>, NoMemory>
+        ensures closes { IfOk result (λ body. Closes body (shown self.old) (shown self.new)) }
+        ensures room { IfOk result (λ body. RoomFor body self.new.output) }
     {
         let reply = message_bytes(self.alloc, &ServerMessage::CloseComplete)?;
         self.output.bytes.extend_from_slice(reply.as_slice())?;
+        self.drop_name(portal, name);
+        Ok(None)
+    }
+
+    /// Drops the portal of a name, or else the statement, if it is there.
+    fn drop_name(&mut self, portal: bool, name: &[u8])
+        ensures names { shown self.new ≡ with_session self.new.session (shown self.old) }
+        ensures kept { KeepsStatus self.old.session self.new.session }
+    {
         if portal {
             self.session.portals.close(name);
         } else {
             self.session.statements.close(name);
         }
-        Ok(None)
     }
 
-    fn execute(&mut self, portal: List<u8>, limit: i32) -> Result<Option<OrderBody>, NoMemory>
-        ensures rest { (shown self.new).rest ≡ (shown self.old).rest }
-        ensures stage { self.new.stage ≡ self.old.stage }
-        ensures room { (b : _) → IfOk result (λ body. body ≡ Some b → IsTrue (ends b)
-            → HasRoom self.new.output) }
+    /// Executes a portal: its order, its rows, or why it is refused.
+    pub(crate) fn execute(
+        &mut self,
+        portal: List<u8>,
+        limit: i32,
+    ) -> Result<Option<OrderBody>, NoMemory>
+        ensures executes { IfOk result (λ body. Executes portal limit body (shown self.old)
+            (shown self.new)) }
+        ensures room { IfOk result (λ body. RoomFor body self.new.output) }
     {
         self.make_room()?;
-        match execute(self.alloc, &mut self.session, portal.as_slice(), limit)? {
+        let executed = execute(self.alloc, &mut self.session, portal.as_slice(), limit)?;
+        let body = self.led(portal, limit, executed)?;
+        Ok(body)
+    }
+
+    fn led(
+        &mut self,
+        portal: List<u8>,
+        limit: i32,
+        executed: Executed,
+    ) -> Result<Option<OrderBody>, NoMemory>
+        ensures leads { IfOk result (λ body. LeadsTo executed portal limit body (shown self.old)
+            (shown self.new)) }
+        ensures output { (b : _) → IfOk result (λ body. body ≡ Some b
+            → self.new.output ≡ self.old.output) }
+    {
+        match executed {
             Executed::Bytes { bytes, count } => {
                 self.output.bytes.extend_from_slice(bytes.as_slice())?;
-                if let Some(portal) = self.session.portals.get_mut(portal.as_slice()) {
-                    advance(portal, count);
-                }
+                advance_portal(&mut self.session.portals, portal.as_slice(), count);
                 Ok(None)
             }
             Executed::Order(body) => {
@@ -149,5 +163,12 @@ impl Wire {
             }
             Executed::Refused(refusal) => Ok(Some(self.decline(refusal))),
         }
+    }
+}
+
+/// So many more rows of a portal were given, if it is there.
+fn advance_portal(portals: &mut Portals, name: &[u8], count: usize) {
+    if let Some(portal) = portals.get_mut(name) {
+        advance(portal, count);
     }
 }

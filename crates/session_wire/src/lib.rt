@@ -11,6 +11,7 @@ mod laws;
 mod messages;
 mod nodes;
 mod output;
+mod queries;
 mod wire;
 
 pub use allowed::may_answer;

@@ -1,39 +1,40 @@
 //! What is done at each message.
-ghost use Rattle.std.specs.Prelude.{◌≡◌, ◌≢◌, ◌<◌, ◌≤◌, length, drop, true, false, [], None, Some, IfOk, IsTrue, OnOk, OnErr};
-ghost use Rattle.session_wire.specs.declared.wire.WireStep.TheVariants.{NeedInput, Close, Order as Ordered};
+ghost use Rattle.std.specs.Prelude.{◌≡◌, ◌<◌, ◌≤◌, length, drop, true, [], None, Some, is_some, IfOk, IsTrue, OnOk, OnErr};
+ghost use Rattle.session_wire.specs.declared.wire.WireStep.TheVariants.{NeedInput, NeedOutcome, Close, Order as Ordered};
 ghost use Rattle.pg_messages.specs.declared.read.Read.TheVariants.{Whole};
-ghost use Rattle.session_wire.specs.Waiting.{IsIdle, IsWaiting, work};
-ghost use Rattle.pg_messages.specs.declared.client.ClientMessage.TheVariants as said;
+ghost use Rattle.session_wire.specs.Waiting.{Falls, IsWaiting, work};
 ghost use Rattle.pg_messages.specs.Fronts.{start_front, client_front};
 ghost use Rattle.schema.specs.Grammar.{IsWithin};
-ghost use Rattle.wire_start.specs.Greetings.{Greets};
 ghost use Rattle.session_wire.specs.declared.wire.Stage.TheVariants.{Starting, Open, Closed};
-ghost use Rattle.session_wire.specs.Cuts.{Agrees, Takes};
-ghost use Rattle.session_wire.specs.Queries.{Queries, QueriesText, Starts as StartsText, is_mixed, started};
-ghost use Rattle.session_wire.specs.Sayings.{HasRoom, ends};
-ghost use Rattle.std.specs.List.{list_any};
-ghost use Rattle.wire_query.specs.Texts.{is_control};
+ghost use Rattle.session_wire.specs.Cuts.{Takes};
+ghost use Rattle.session_wire.specs.Sayings.{HasRoom, RoomBehind, RoomFor, ends};
 ghost use Rattle.session_wire.specs.Shown.{shown};
-ghost use Rattle.session_wire.specs.Starts.{leaving, failing, broken, too_long, Waits, rejected, greeted, without, Starts, GreetsAs};
-ghost use Rattle.session_wire.specs.Hears.{resumed, refusing, refuse};
+ghost use Rattle.session_wire.specs.Starts.{failing, broken, too_long, Waits, rejected, without, Starts, GreetsAs};
+ghost use Rattle.session_wire.specs.Heeds.{Heard, Hears, Heeds, HeedsOther};
+ghost use Rattle.session_wire.specs.Steps.{Goes, GoesAt, IsNext, Meets, Opens, is_answered, step_of};
 
-use crate::due::Due;
 use crate::output::report;
 use crate::wire::{Stage, Wire, WireStep};
 use catalogue::Catalogue;
-use pg_messages::{ClientMessage, Read, ServerMessage, StartMessage, read_client, read_start};
-use pool_base::{Code, List, NoMemory, Text};
+use pg_messages::{ClientMessage, Read, StartMessage, read_client, read_start};
+use pool_base::{Code, NoMemory};
 use session_orders::{Order, OrderBody};
-use sql_tree::Statement;
-use wire_query::{Reading, is_control, read_text};
-use wire_reply::{Saying, Severity, message_bytes};
-use wire_session::{Refusal, not_in_profile};
+use wire_extended::Binding;
+use wire_reply::{Saying, Severity};
 use wire_start::{Greeting, Rejection, greeting_of, opening_bytes};
 
 impl Wire {
     /// The next order, or why there is none.
     pub fn next(&mut self, tables: &Catalogue, moment: i64) -> Result<WireStep, NoMemory>
         requires within { IsWithin tables.now }
+        // It is the one that the rules of the dialogue lead to, step by step.
+        ensures exact { IfOk result (λ step. IsNext tables.now moment (shown self.old) step
+            (shown self.new)) }
+        // All orders but a Leave have an outcome, and while one is awaited nothing is ordered.
+        ensures due { (o : _) → IfOk result (λ step. step ≡ Ordered o
+            → is_answered o.body ≡ true → is_some (shown self.new).due ≡ true) }
+        ensures awaits { is_some (shown self.old).due ≡ true → IfOk result (λ step.
+            (step ≡ NeedOutcome) × (shown self.new ≡ shown self.old)) }
         // Whole messages are taken from the front of what was fed, one after another.
         ensures takes { OnOk result (Takes (shown self.old) (shown self.new)) }
         // More input is asked for where the bytes that are left are less than a message, nothing of
@@ -55,18 +56,28 @@ impl Wire {
     /// One step: an order, the end, or one message more; nothing while an outcome is awaited.
     fn one(&mut self, tables: &Catalogue, moment: i64) -> Result<Option<WireStep>, NoMemory>
         requires within { IsWithin tables.now }
+        ensures goes { IfOk result (λ step. Goes tables.now moment (shown self.old) step
+            (shown self.new)) }
         ensures takes { OnOk result (Takes (shown self.old) (shown self.new)) }
-        ensures falls { IfOk result (λ step. step ≡ None
-            → work (shown self.new) < work (shown self.old)) }
-        ensures waits { IfOk result (λ step. step ≡ Some NeedInput → IsWaiting (shown self.new)) }
-        ensures closes { (refused : _) → IfOk result (λ step. step ≡ Some (Close refused)
-            → (shown self.new).stage ≡ Closed refused) }
-        ensures room { (o : _) → IfOk result (λ step. step ≡ Some (Ordered o) → IsTrue (ends o.body)
-            → HasRoom self.new.output) }
+        ensures falls { IfOk result (λ step. Falls step (shown self.old) (shown self.new)) }
+        ensures room { IfOk result (λ step. RoomBehind step self.new.output) }
     {
         if self.due.is_some() {
             return Ok(Some(WireStep::NeedOutcome));
         }
+        let step = self.at_stage(tables, moment)?;
+        Ok(step)
+    }
+
+    /// One step of a wire that awaits no outcome.
+    fn at_stage(&mut self, tables: &Catalogue, moment: i64) -> Result<Option<WireStep>, NoMemory>
+        requires within { IsWithin tables.now }
+        ensures goes { IfOk result (λ step. GoesAt tables.now moment (shown self.old).stage
+            (shown self.old) step (shown self.new)) }
+        ensures takes { OnOk result (Takes (shown self.old) (shown self.new)) }
+        ensures falls { IfOk result (λ step. Falls step (shown self.old) (shown self.new)) }
+        ensures room { IfOk result (λ step. RoomBehind step self.new.output) }
+    {
         match self.stage {
             Stage::Closed { refused } => Ok(Some(WireStep::Close { refused })),
             Stage::Leaving { refused } => {
@@ -74,17 +85,32 @@ impl Wire {
                 Ok(Some(order(moment, OrderBody::Leave)))
             }
             Stage::Starting { ssl, gss } => self.start(ssl, gss),
-            Stage::Open => match self.asked(tables)? {
-                Some(body) => Ok(Some(order(moment, body))),
-                None => self.message(tables, moment),
-            },
+            Stage::Open => self.go_on(tables, moment),
+        }
+    }
+
+    /// One step of a client that was let in.
+    fn go_on(&mut self, tables: &Catalogue, moment: i64) -> Result<Option<WireStep>, NoMemory>
+        requires within { IsWithin tables.now }
+        requires open { (shown self.old).stage ≡ Open }
+        ensures opens { IfOk result (λ step. Opens tables.now moment (shown self.old).left
+            (shown self.old).settles (shown self.old) step (shown self.new)) }
+        ensures takes { OnOk result (Takes (shown self.old) (shown self.new)) }
+        ensures falls { IfOk result (λ step. Falls step (shown self.old) (shown self.new)) }
+        ensures room { IfOk result (λ step. RoomBehind step self.new.output) }
+    {
+        match self.asked(tables)? {
+            Some(body) => Ok(Some(order(moment, body))),
+            None => {
+                let step = self.message(tables, moment)?;
+                Ok(step)
+            }
         }
     }
 
     /// The bytes that there are begin no whole message.
     fn wait(&mut self) -> Option<WireStep>
         ensures waits { Waits (shown self.old) (shown self.new) result }
-        ensures no_order { (o : _) → result ≢ Some (Ordered o) }
     {
         if self.ended {
             self.stage = Stage::Leaving { refused: false };
@@ -125,9 +151,7 @@ impl Wire {
         ensures takes { OnOk result (Takes (shown self.old) (shown self.new)) }
         ensures ok { IfOk result (Starts ssl gss (start_front (shown self.old).rest)
             (shown self.old) (shown self.new)) }
-        ensures falls { IfOk result (λ step. step ≡ None
-            → work (shown self.new) < work (shown self.old)) }
-        ensures no_order { (o : _) → IfOk result (λ step. step ≢ Some (Ordered o)) }
+        ensures falls { IfOk result (λ step. Falls step (shown self.old) (shown self.new)) }
         ensures err { OnErr result (shown self.new ≡ shown self.old) }
     {
         match self.first_front()? {
@@ -232,7 +256,6 @@ impl Wire {
             (shown self.new)) }
         ensures takes { OnOk result (Takes (shown self.old) (shown self.new)) }
         ensures falls { OnOk result (work (shown self.new) < work (shown self.old)) }
-        ensures no_order { (o : _) → IfOk result (λ step. step ≢ Some (Ordered o)) }
         ensures err { OnErr result (shown self.new ≡ shown self.old) }
     {
         self.greet(ssl, gss, message)?;
@@ -252,12 +275,11 @@ impl Wire {
         requires some { 0 < count }
         requires fits { count ≤ length (shown self.old).rest }
         requires front { client_front (shown self.old).rest ≡ Whole message count }
+        ensures meets { IfOk result (λ step. Meets tables.now moment (Whole message count)
+            (shown self.old) step (shown self.new)) }
         ensures takes { OnOk result (Takes (shown self.old) (shown self.new)) }
         ensures falls { OnOk result (work (shown self.new) < work (shown self.old)) }
-        ensures waits { IfOk result (λ step. step ≢ Some NeedInput) }
-        ensures no_close { IfOk result (λ step. (refused : _) → step ≢ Some (Close refused)) }
-        ensures room { (o : _) → IfOk result (λ step. step ≡ Some (Ordered o) → IsTrue (ends o.body)
-            → HasRoom self.new.output) }
+        ensures room { IfOk result (λ step. RoomBehind step self.new.output) }
     {
         let body = self.take(tables, message)?;
         self.drop_input(count);
@@ -267,14 +289,11 @@ impl Wire {
     fn message(&mut self, tables: &Catalogue, moment: i64) -> Result<Option<WireStep>, NoMemory>
         requires within { IsWithin tables.now }
         requires open { (shown self.old).stage ≡ Open }
-        requires idle { IsIdle (shown self.old) }
+        ensures meets { IfOk result (λ step. Meets tables.now moment
+            (client_front (shown self.old).rest) (shown self.old) step (shown self.new)) }
         ensures takes { OnOk result (Takes (shown self.old) (shown self.new)) }
-        ensures falls { IfOk result (λ step. step ≡ None
-            → work (shown self.new) < work (shown self.old)) }
-        ensures waits { IfOk result (λ step. step ≡ Some NeedInput → IsWaiting (shown self.new)) }
-        ensures no_close { IfOk result (λ step. (refused : _) → step ≢ Some (Close refused)) }
-        ensures room { (o : _) → IfOk result (λ step. step ≡ Some (Ordered o) → IsTrue (ends o.body)
-            → HasRoom self.new.output) }
+        ensures falls { IfOk result (λ step. Falls step (shown self.old) (shown self.new)) }
+        ensures room { IfOk result (λ step. RoomBehind step self.new.output) }
     {
         match self.later_front()? {
             Read::More => Ok(self.wait()),
@@ -286,7 +305,10 @@ impl Wire {
                 self.fail_length()?;
                 Ok(None)
             }
-            Read::Whole { message, length } => self.take_later(tables, moment, message, length),
+            Read::Whole { message, length } => {
+                let step = self.take_later(tables, moment, message, length)?;
+                Ok(step)
+            }
         }
     }
 
@@ -297,20 +319,9 @@ impl Wire {
         message: ClientMessage,
     ) -> Result<Option<OrderBody>, NoMemory>
         requires within { IsWithin tables.now }
-        requires open { self.old.stage ≡ Open }
-        ensures terminate { message ≡ said.Terminate → IfOk result (λ body. (body ≡ None)
-            × (shown self.new ≡ leaving false (shown self.old))) }
-        ensures sync { message ≡ said.Sync → IfOk result (λ body. (body ≡ None)
-            × (shown self.new ≡ resumed (shown self.old))) }
-        ensures flush { message ≡ said.Flush → IfOk result (λ body. (body ≡ None)
-            × (shown self.new ≡ shown self.old)) }
-        ensures query { (text : _) → message ≡ said.Query text
-            → (shown self.old).session.skipping ≡ false
-            → IfOk result (λ body. QueriesText text body (shown self.old) (shown self.new)) }
-        ensures rest { (shown self.new).rest ≡ (shown self.old).rest }
-        ensures stage { Agrees self.new.stage true }
-        ensures room { (b : _) → IfOk result (λ body. body ≡ Some b → IsTrue (ends b)
-            → HasRoom self.new.output) }
+        ensures hears { IfOk result (λ body. Hears tables.now message body (shown self.old)
+            (shown self.new)) }
+        ensures room { IfOk result (λ body. RoomFor body self.new.output) }
     {
         match message {
             ClientMessage::Terminate => {
@@ -323,7 +334,10 @@ impl Wire {
                 Ok(None)
             }
             ClientMessage::Flush => Ok(None),
-            other => self.hear(tables, other),
+            other => {
+                let body = self.hear(tables, other)?;
+                Ok(body)
+            }
         }
     }
 
@@ -334,169 +348,76 @@ impl Wire {
         message: ClientMessage,
     ) -> Result<Option<OrderBody>, NoMemory>
         requires within { IsWithin tables.now }
-        ensures skipped { (shown self.old).session.skipping ≡ true
-            → IfOk result (λ body. (body ≡ None) × (shown self.new ≡ shown self.old)) }
-        ensures query { (text : _) → message ≡ said.Query text
-            → (shown self.old).session.skipping ≡ false
-            → IfOk result (λ body. QueriesText text body (shown self.old) (shown self.new)) }
-        ensures rest { (shown self.new).rest ≡ (shown self.old).rest }
-        ensures stage { self.new.stage ≡ self.old.stage }
-        ensures room { (b : _) → IfOk result (λ body. body ≡ Some b → IsTrue (ends b)
-            → HasRoom self.new.output) }
+        ensures heard { IfOk result (λ body. Heard tables.now message body (shown self.old)
+            (shown self.new)) }
+        ensures room { IfOk result (λ body. RoomFor body self.new.output) }
     {
         if self.session.skipping {
             drop(message);
             return Ok(None);
         }
+        // A reply finds room, so that a name is put only where its reply is.
+        self.make_room()?;
+        let body = self.heed(tables, message)?;
+        Ok(body)
+    }
+
+    /// Takes a message that is not dropped.
+    fn heed(
+        &mut self,
+        tables: &Catalogue,
+        message: ClientMessage,
+    ) -> Result<Option<OrderBody>, NoMemory>
+        requires within { IsWithin tables.now }
+        ensures heeds { IfOk result (λ body. Heeds tables.now message body (shown self.old)
+            (shown self.new)) }
+        ensures room { IfOk result (λ body. RoomFor body self.new.output) }
+    {
         match message {
             ClientMessage::Query { text } => self.query(text),
+            ClientMessage::Parse { name, text, kinds } => {
+                self.parse(tables, name, text.as_slice(), kinds.as_slice())
+            }
+            ClientMessage::Bind {
+                portal,
+                name,
+                formats,
+                values,
+                results,
+            } => self.bind(Binding {
+                portal,
+                name,
+                formats,
+                values,
+                results,
+            }),
+            ClientMessage::Describe { portal, name } => self.describe(portal, name.as_slice()),
+            ClientMessage::Close { portal, name } => self.close(portal, name.as_slice()),
+            ClientMessage::Execute { portal, limit } => self.execute(portal, limit),
             ClientMessage::Other { tag } => self.other(tag),
-            extended => self.extended(tables, extended),
+            ClientMessage::Flush | ClientMessage::Sync | ClientMessage::Terminate => Ok(None),
         }
     }
 
     /// A function call and a password are refused; parts of a COPY are passed over.
     fn other(&mut self, tag: u8) -> Result<Option<OrderBody>, NoMemory>
-        ensures rest { (shown self.new).rest ≡ (shown self.old).rest }
-        ensures stage { self.new.stage ≡ self.old.stage }
-        ensures room { (b : _) → IfOk result (λ body. body ≡ Some b → IsTrue (ends b)
-            → HasRoom self.new.output) }
-    {
-        let name = match tag {
-            b'F' => "message F",
-            b'p' => "message p",
-            _ => return Ok(None),
-        };
-        let refusal = not_in_profile(self.alloc, name)?;
-        Ok(Some(self.refuse_query(refusal, false)))
-    }
-
-    fn query(&mut self, text: List<u8>) -> Result<Option<OrderBody>, NoMemory>
-        ensures queries { IfOk result (λ body. QueriesText text body (shown self.old)
+        ensures heeds { IfOk result (λ body. HeedsOther tag body (shown self.old)
             (shown self.new)) }
-        ensures rest { (shown self.new).rest ≡ (shown self.old).rest }
-        ensures stage { self.new.stage ≡ self.old.stage }
-        ensures room { (b : _) → IfOk result (λ body. body ≡ Some b → IsTrue (ends b)
-            → HasRoom self.new.output) }
+        ensures room { IfOk result (λ body. RoomFor body self.new.output) }
     {
-        let reading = read_text(self.alloc, text.as_slice())?;
-        let empty = message_bytes(self.alloc, &ServerMessage::Empty)?;
-        let several = not_in_profile(
-            self.alloc,
-            "transaction control in a text of several statements",
-        )?;
-        self.make_room()?;
-        self.drop_unnamed();
-        let body = self.query_read(reading, several, empty)?;
-        Ok(body)
-    }
-
-    /// Drops the statement and the portal of the empty name.
-    fn drop_unnamed(&mut self)
-        ensures names { shown self.new ≡ record (shown self.old) { session = self.new.session } }
-        ensures stage { self.new.stage ≡ self.old.stage }
-    {
-        self.session.statements.close(&[]);
-        self.session.portals.close(&[]);
-    }
-
-    /// A text that was read: it is refused, or its statements are to be asked for.
-    fn query_read(
-        &mut self,
-        reading: Reading,
-        several: Refusal,
-        empty: List<u8>,
-    ) -> Result<Option<OrderBody>, NoMemory>
-        ensures queries { IfOk result (λ body. Queries reading several empty body (shown self.old)
-            (shown self.new)) }
-        ensures rest { (shown self.new).rest ≡ (shown self.old).rest }
-        ensures stage { self.new.stage ≡ self.old.stage }
-        ensures room { (b : _) → IfOk result (λ body. body ≡ Some b → IsTrue (ends b)
-            → HasRoom self.new.output) }
-    {
-        match reading {
-            Reading::Refused(refusal) => Ok(Some(self.refuse_query(refusal, false))),
-            Reading::Statements(statements) => {
-                let body = self.query_all(statements, several, empty)?;
-                Ok(body)
-            }
+        if tag == b'F' {
+            return self.refuse_named("message F");
         }
-    }
-
-    fn query_all(
-        &mut self,
-        statements: List<Statement>,
-        several: Refusal,
-        empty: List<u8>,
-    ) -> Result<Option<OrderBody>, NoMemory>
-        ensures queries { IfOk result (λ body. StartsText (is_mixed statements) statements several
-            empty body (shown self.old) (shown self.new)) }
-        ensures rest { (shown self.new).rest ≡ (shown self.old).rest }
-        ensures stage { self.new.stage ≡ self.old.stage }
-        ensures room { (b : _) → IfOk result (λ body. body ≡ Some b → IsTrue (ends b)
-            → HasRoom self.new.output) }
-    {
-        if is_mixed(statements.as_slice()) {
-            drop(statements);
-            return Ok(Some(self.refuse_query(several, false)));
+        if tag == b'p' {
+            return self.refuse_named("message p");
         }
-        self.begin(statements, empty)?;
         Ok(None)
     }
-
-    /// The statements of a text are to be asked for one by one, and then settled.
-    fn begin(&mut self, statements: List<Statement>, empty: List<u8>) -> Result<(), NoMemory>
-        ensures ok { OnOk result (shown self.new ≡ started statements empty (shown self.old)) }
-        ensures rest { (shown self.new).rest ≡ (shown self.old).rest }
-        ensures stage { self.new.stage ≡ self.old.stage }
-    {
-        match statements.as_slice() {
-            [] => self.output.held.extend_from_slice(empty.as_slice())?,
-            [_, ..] => {}
-        }
-        drop(std::mem::replace(&mut self.text, statements));
-        self.at = 0;
-        self.settles = true;
-        Ok(())
-    }
-
-    /// Orders that a Query be refused; it is settled then.
-    pub(crate) fn refuse_query(&mut self, refusal: Refusal, last: bool) -> OrderBody
-        ensures shown { shown self.new ≡ refusing refusal last (shown self.old) }
-        ensures order { result ≡ refuse refusal }
-        ensures output { self.new.output ≡ self.old.output }
-    {
-        let Refusal { saying, code, name } = refusal;
-        self.at = self.text.len();
-        self.settles = true;
-        self.due = Some(Due::Refused { code, saying, last });
-        OrderBody::Refuse { code, name }
-    }
-}
-
-fn has_control(statements: &[Statement]) -> bool
-    ensures { result ≡ list_any is_control statements.now }
-{
-    for statement in statements {
-        if is_control(statement) {
-            return true;
-        }
-    }
-    false
-}
-
-/// Whether control stands in a text of several statements.
-fn is_mixed(statements: &[Statement]) -> bool
-    ensures { result ≡ is_mixed statements.now }
-{
-    statements.len() > 1 && has_control(statements)
 }
 
 /// The order of a message, if it asks for one.
 fn step_of(moment: i64, body: Option<OrderBody>) -> Option<WireStep>
-    ensures waits { result ≢ Some NeedInput }
-    ensures no_close { (refused : _) → result ≢ Some (Close refused) }
-    ensures body { (o : _) → result ≡ Some (Ordered o) → body ≡ Some o.body }
+    ensures { result ≡ step_of moment body }
 {
     match body {
         Some(body) => Some(order(moment, body)),

@@ -9,6 +9,6 @@ use Rattle.wire_extended.specs.Binding.{TellsMade, WhyUnbound}
 
 pub unbound_so : (session : Session) (b : Binding) (what : Prepared) (failed : Bool) (r : Refusal) (found : Option Prepared)
     → (session.status ≡ 69 → failed ≡ true) → (failed ≡ true → session.status ≡ 69) → Some what ≡ found
-    → TellsMade failed what b (Refused r) → WhyUnbound session b found r
+    → TellsMade failed what session.portals b (Refused r) → WhyUnbound session b found r
 unbound_so session b what failed r found fails failing there h =
     subst (λ o. WhyUnbound session b o r) there ((λ f ends. h.0 (fails f) ends), (λ may counts. h.1 (λ f. may (failing f)) counts))

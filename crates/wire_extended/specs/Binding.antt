@@ -11,10 +11,12 @@ use Rattle.wire_reply.specs.declared.saying.Saying.TheVariants.{Aborted, Invalid
 use Rattle.wire_session.specs.declared.refusal.Refusal.{Refusal}
 use Rattle.wire_session.specs.declared.session.Control.TheVariants as control
 use Rattle.wire_session.specs.declared.session.Session.{Session}
+use Rattle.wire_session.specs.declared.portals.Portals.{Portals}
 use Rattle.wire_session.specs.declared.statements.Prepared.{Prepared}
 use Rattle.wire_session.specs.declared.statements.Prepared.TheVariants.{Empty, Control, Checked}
 use Rattle.wire_session.specs.Kept.{prepared}
 use Rattle.wire_session.specs.Refusals.{Says}
+use Rattle.wire_extended.specs.Naming.{TellsNewPortal}
 use Rattle.wire_extended.specs.declared.binding.Binding.{Binding}
 use Rattle.wire_extended.specs.declared.binding.Bound.{Bound}
 use Rattle.wire_extended.specs.declared.binding.Bound.TheVariants as bound
@@ -84,16 +86,23 @@ abbrev pub TellsRead : List ColType → List ℕ → List (Option (List ℕ)) �
 TellsRead kinds formats given (Values values) = AreRead kinds formats 0 given values
 TellsRead kinds formats given (Refused code) = Unit {0}
 
--- why a portal of a statement is not made; what is told of values and of the portal's name is left open here
-abbrev pub TellsMade : Bool → Prepared → Binding → Made → Type 0
-TellsMade failed what b (made.State state) = (failed ≡ true → ends_block what ≡ true) × CountsFit what b × FormatsFit b
-TellsMade failed what b (made.Refused r) = (failed ≡ true → ends_block what ≡ false → Says Aborted (codes "25P02") [] r)
+-- a portal is put only under a name that may be given; what is told of values is left open here
+abbrev pub TellsPut : Portals → Binding → Made → Type 0
+TellsPut portals b (made.State state) = TellsNewPortal b.portal portals None
+TellsPut portals b (made.Refused r) = Unit {0}
+
+-- why a portal of a statement is not made; what is told of values, and when of the portal's name, is left open here
+abbrev pub TellsMade : Bool → Prepared → Portals → Binding → Made → Type 0
+TellsMade failed what portals b (made.State state) =
+    (failed ≡ true → ends_block what ≡ true) × CountsFit what b × FormatsFit b × TellsNewPortal b.portal portals None
+TellsMade failed what portals b (made.Refused r) = (failed ≡ true → ends_block what ≡ false → Says Aborted (codes "25P02") [] r)
     × ((failed ≡ true → ends_block what ≡ true) → ¬ (CountsFit what b) → Says ProtocolViolation (codes "08P01") [] r)
 
 -- of the statement that a name stands for, in a session: its portal may be made
 abbrev pub MayBind : Session → Binding → Option Prepared → Type 0
 MayBind session b None = ⊥
-MayBind session b (Some what) = (session.status ≡ 69 → ends_block what ≡ true) × CountsFit what b × FormatsFit b
+MayBind session b (Some what) =
+    (session.status ≡ 69 → ends_block what ≡ true) × CountsFit what b × FormatsFit b × TellsNewPortal b.portal session.portals None
 
 -- why it is not: there is no such statement; the block has failed; a count is another than the statement's
 abbrev pub WhyUnbound : Session → Binding → Option Prepared → Refusal → Type 0

@@ -1,3 +1,5 @@
+pub mod Keeping
+pub mod Naming
 pub mod Binding
 pub mod Parsing
 pub mod Describing

@@ -1,21 +1,25 @@
 -- What Parse prepares.
-use Rattle.std.specs.Prelude.{◌≡◌, ◌⊎◌, ℕ, Bool, true, false, List, [], ◌∷◌, Some, codes}
+use Rattle.std.specs.Prelude.{◌≡◌, ℕ, Bool, true, false, List, [], ◌∷◌, Some, None, codes}
 use Rattle.std.specs.Fmt.{decimal}
 use Rattle.schema.specs.declared.catalogue.TableDef.{TableDef}
 use Rattle.sql_tree.specs.declared.statement.Statement.{Statement}
 use Rattle.sql_tree.specs.declared.statement.Statement.TheVariants as statement
 use Rattle.catalogue.specs.declared.checked.Checked.{Checked}
-use Rattle.wire_reply.specs.declared.saying.Saying.TheVariants.{Aborted, LimitPassed, StatementExists, SyntaxAt}
+use Rattle.pg_messages.specs.declared.server.ServerMessage.TheVariants.{ParseComplete}
+use Rattle.wire_reply.specs.Rows.{IsMessage}
+use Rattle.wire_reply.specs.declared.saying.Saying.TheVariants.{Aborted, SyntaxAt}
 use Rattle.wire_session.specs.declared.refusal.Refusal.{Refusal}
 use Rattle.wire_session.specs.declared.session.Control.TheVariants as control
 use Rattle.wire_session.specs.declared.statements.Prepared.{Prepared}
 use Rattle.wire_session.specs.declared.statements.Prepared.TheVariants as prepared
+use Rattle.wire_session.specs.declared.statements.Statements.{Statements}
 use Rattle.wire_session.specs.Refusals.{Says, IsNotTaken}
 use Rattle.wire_query.specs.declared.checking.Verdict.TheVariants as verdict
 use Rattle.wire_query.specs.declared.reading.Reading.{Reading}
 use Rattle.wire_query.specs.declared.reading.Reading.TheVariants as reading
 use Rattle.wire_query.specs.Texts.{IsReading}
 use Rattle.wire_query.specs.Verdicts.{Judges, WhyWrong}
+use Rattle.wire_extended.specs.Naming.{TellsNew}
 use Rattle.wire_extended.specs.declared.parsing.Made.{Made}
 use Rattle.wire_extended.specs.declared.parsing.Made.TheVariants as made
 use Rattle.wire_extended.specs.declared.replied.Replied.{Replied}
@@ -69,18 +73,18 @@ pub record Prepares (tables : List TableDef) (kinds : List ℕ) (failed : Bool) 
   pub is_read : IsReading text read
   pub made : PreparesRead tables kinds failed read m
 
--- the name is there, or there are too many
-abbrev pub IsNameRefused : Refusal → Type 0
-IsNameRefused r = Says StatementExists (codes "42P05") [] r ⊎ Says LimitPassed (codes "54000") [] r
+-- a statement is put under a name, or the name is refused
+abbrev pub TellsNamed : List ℕ → Statements → Replied → Type 0
+TellsNamed name s (replied.Bytes bytes) = TellsNew name s None × IsMessage ParseComplete bytes
+TellsNamed name s (replied.Refused r) = TellsNew name s (Some r)
 
 -- what is answered to what a text is prepared as
-abbrev pub TellsName : Made → Replied → Type 0
-TellsName (made.Refused r) reply = reply ≡ replied.Refused r
-TellsName (made.Prepared what) (replied.Bytes bytes) = Unit {0}
-TellsName (made.Prepared what) (replied.Refused r) = IsNameRefused r
+abbrev pub TellsName : Made → List ℕ → Statements → Replied → Type 0
+TellsName (made.Refused r) name s reply = reply ≡ replied.Refused r
+TellsName (made.Prepared what) name s reply = TellsNamed name s reply
 
 -- what is answered to a Parse
-pub record TellsParse (tables : List TableDef) (kinds : List ℕ) (failed : Bool) (text : List ℕ) (reply : Replied) : Type 0 where
+pub record TellsParse (tables : List TableDef) (kinds : List ℕ) (failed : Bool) (text name : List ℕ) (s : Statements) (reply : Replied) : Type 0 where
   pub made : Made
   pub prepares : Prepares tables kinds failed text made
-  pub told : TellsName made reply
+  pub told : TellsName made name s reply

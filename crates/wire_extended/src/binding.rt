@@ -1,7 +1,10 @@
 //! Bind: a portal of a statement with values.
-ghost use Rattle.std.specs.Prelude.{◌≡◌, ◌↔◌, IfOk, IsTrue};
-ghost use Rattle.wire_extended.specs.Binding.{CountsFit, FormatsFit, TellsBind, TellsBound, TellsForm, TellsMade, columns_of, ends_block, kinds_of};
+ghost use Rattle.std.specs.Prelude.{◌≡◌, ◌↔◌, IfOk, IsTrue, OnOk};
+ghost use Rattle.wire_extended.specs.Binding.{CountsFit, FormatsFit, TellsBind, TellsBound, TellsForm, TellsMade, TellsPut, columns_of, ends_block, kinds_of};
+ghost use Rattle.wire_extended.specs.Keeping.{KeepsStatus};
+ghost use Rattle.wire_extended.specs.Naming.{TellsNewPortal};
 
+use crate::naming::{Standing, refusal_of};
 use crate::replied::Replied;
 use crate::values::{Read, are_formats, counts, values_of};
 use catalogue::{Checked, ColumnDesc};
@@ -13,7 +16,7 @@ use std::alloc::Global;
 use wire_query::aborted;
 use wire_reply::{Saying, description_bytes, message_bytes, of_check};
 use wire_session::{
-    Control, PORTAL_LIMIT, Portal, PortalState, Prepared, Refusal, Session, limit_passed, refused,
+    Control, PORTAL_LIMIT, Portal, PortalState, Prepared, Refusal, Session, refused,
 };
 
 /// What a Bind says.
@@ -137,20 +140,17 @@ fn value_refusal(alloc: Global, code: Code) -> Result<Refusal, NoMemory> {
 }
 
 /// Why the name of a portal is refused.
-fn name_refusal(
-    alloc: Global,
-    session: &Session,
-    name: &[u8],
-) -> Result<Option<Refusal>, NoMemory> {
-    let there = session.portals.has(name);
-    if there && !name.is_empty() {
-        let code = Code { bytes: *b"42P03" };
-        return Ok(Some(refused(alloc, Saying::PortalExists, code)?));
-    }
-    if !there && session.portals.len() >= PORTAL_LIMIT {
-        return Ok(Some(limit_passed(alloc)?));
-    }
-    Ok(None)
+fn name_refusal(alloc: Global, session: &Session, name: &[u8]) -> Result<Option<Refusal>, NoMemory>
+    ensures { IfOk result (TellsNewPortal name.now session.now.portals) }
+{
+    let standing = Standing {
+        there: session.portals.get(name).is_some(),
+        unnamed: name.is_empty(),
+        full: session.portals.len() >= PORTAL_LIMIT,
+    };
+    let code = Code { bytes: *b"42P03" };
+    let refusal = refusal_of(alloc, Saying::PortalExists, code, standing)?;
+    Ok(refusal)
 }
 
 /// What a portal of a statement is made, or why it is not, in a failed block or not.
@@ -161,7 +161,7 @@ fn made_of(
     binding: &Binding,
     failed: bool,
 ) -> Result<Made, NoMemory>
-    ensures { IfOk result (TellsMade failed what.now binding.now) }
+    ensures { IfOk result (TellsMade failed what.now session.now.portals binding.now) }
 {
     if failed && !ends_block(what) {
         return Ok(Made::Refused(aborted(alloc)?));
@@ -180,7 +180,9 @@ fn made_with(
     session: &Session,
     what: &Prepared,
     binding: &Binding,
-) -> Result<Made, NoMemory> {
+) -> Result<Made, NoMemory>
+    ensures { IfOk result (TellsPut session.now.portals binding.now) }
+{
     let formats = binding.formats.as_slice();
     match values_of(alloc, kinds_of(what), formats, binding.values.as_slice())? {
         Read::Refused(code) => Ok(Made::Refused(value_refusal(alloc, code)?)),
@@ -243,7 +245,8 @@ pub fn bind_portal(
     session: &mut Session,
     binding: Binding,
 ) -> Result<Replied, NoMemory>
-    ensures { IfOk result (TellsBind session.old binding) }
+    ensures tells { IfOk result (TellsBind session.old binding) }
+    ensures kept { OnOk result (KeepsStatus session.old session.new) }
 {
     match bound_of(alloc, session, &binding)? {
         Bound::Refused(refusal) => Ok(Replied::Refused(refusal)),

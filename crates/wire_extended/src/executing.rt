@@ -1,10 +1,11 @@
 //! Execute: a portal runs whole once, and its rows are given in pieces.
-ghost use Rattle.std.specs.Prelude.{◌≡◌, [], None, Some, codes, false, nat_eq, IfOk};
+ghost use Rattle.std.specs.Prelude.{◌≡◌, [], None, Some, codes, false, nat_eq, IfOk, OnOk};
 ghost use Rattle.pg_messages.specs.declared.server.ServerMessage.TheVariants.{Empty};
 ghost use Rattle.wire_reply.specs.Rows.{AreInRange, IsMessage};
 ghost use Rattle.wire_reply.specs.declared.saying.Saying.TheVariants.{Aborted};
 ghost use Rattle.wire_session.specs.Kept.{portal_of};
 ghost use Rattle.wire_session.specs.Refusals.{Says};
+ghost use Rattle.wire_extended.specs.Keeping.{KeepsStatus};
 ghost use Rattle.wire_extended.specs.Executing.{IsDenied, IsGiven, IsOrdered, Looks, RunsControl, TellsExecute, control_order};
 
 use pg_messages::ServerMessage;
@@ -198,7 +199,8 @@ fn looked(
 
 /// Lets a portal run that has an order: it has run then.
 fn run(session: &mut Session, name: &[u8]) -> Executed
-    ensures { IsOrdered (λ body. Unit {0}) result }
+    ensures order { IsOrdered (λ body. Unit {0}) result }
+    ensures kept { KeepsStatus session.old session.new }
 {
     let Some(portal) = session.portals.get_mut(name) else {
         return Executed::Order(OrderBody::Settle);
@@ -230,8 +232,9 @@ pub fn execute(
     name: &[u8],
     limit: i32,
 ) -> Result<Executed, NoMemory>
-    ensures { IfOk result (TellsExecute (nat_eq session.old.status 69) session.old.implicit
+    ensures tells { IfOk result (TellsExecute (nat_eq session.old.status 69) session.old.implicit
         (portal_of name.now session.old.portals)) }
+    ensures kept { OnOk result (KeepsStatus session.old session.new) }
 {
     let failed = session.status == b'E';
     let implicit = session.implicit;
@@ -251,6 +254,7 @@ pub fn execute(
 fn ran(session: &mut Session, name: &[u8], looked: Option<Executed>) -> Executed
     ensures some { (executed : _) → looked ≡ Some executed → result ≡ executed }
     ensures none { looked ≡ None → IsOrdered (λ body. Unit {0}) result }
+    ensures kept { KeepsStatus session.old session.new }
 {
     match looked {
         Some(executed) => {

@@ -5,6 +5,7 @@
 mod binding;
 mod describing;
 mod executing;
+mod naming;
 mod parsing;
 mod replied;
 mod values;

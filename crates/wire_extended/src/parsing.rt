@@ -1,12 +1,14 @@
 //! Parse: a statement under a name.
-ghost use Rattle.std.specs.Prelude.{◌≡◌, [], codes, nat_eq, IfOk, IfSome};
+ghost use Rattle.std.specs.Prelude.{[], codes, nat_eq, IfOk, OnOk};
 ghost use Rattle.schema.specs.Grammar.{IsWithin};
 ghost use Rattle.catalogue.specs.Checking.{IsChecked};
 ghost use Rattle.wire_reply.specs.declared.saying.Saying.TheVariants.{Aborted};
 ghost use Rattle.wire_session.specs.Refusals.{IsNotTaken, Says};
-ghost use Rattle.wire_extended.specs.declared.replied.Replied.TheVariants.{Refused};
-ghost use Rattle.wire_extended.specs.Parsing.{IsNameRefused, IsRefused, IsSeveral, Prepares, PreparesOne, PreparesRead, PreparesWork, TellsName, TellsParse};
+ghost use Rattle.wire_extended.specs.Keeping.{KeepsStatus};
+ghost use Rattle.wire_extended.specs.Parsing.{IsRefused, IsSeveral, Prepares, PreparesOne, PreparesRead, PreparesWork, TellsName, TellsNamed, TellsParse};
+ghost use Rattle.wire_extended.specs.Naming.{TellsNew};
 
+use crate::naming::{Standing, refusal_of};
 use crate::replied::Replied;
 use catalogue::Catalogue;
 use pg_messages::ServerMessage;
@@ -15,10 +17,7 @@ use sql_tree::Statement;
 use std::alloc::Global;
 use wire_query::{Reading, Verdict, aborted, judged, read_text, second_place, syntax_at};
 use wire_reply::{Saying, message_bytes};
-use wire_session::{
-    Control, Prepared, Refusal, STATEMENT_NAME_LIMIT, Session, limit_passed, not_in_profile,
-    refused,
-};
+use wire_session::{Control, Prepared, Refusal, STATEMENT_NAME_LIMIT, Session, not_in_profile};
 
 /// What a statement is prepared as.
 #[derive(Drop)]
@@ -127,17 +126,16 @@ fn made_of(
 
 /// Whether the name may be given, or why not.
 fn name_refusal(alloc: Global, session: &Session, name: &[u8]) -> Result<Option<Refusal>, NoMemory>
-    ensures { IfOk result (λ refusal. IfSome refusal IsNameRefused) }
+    ensures { IfOk result (TellsNew name.now session.now.statements) }
 {
-    let there = session.statements.has(name);
-    if there && !name.is_empty() {
-        let code = Code { bytes: *b"42P05" };
-        return Ok(Some(refused(alloc, Saying::StatementExists, code)?));
-    }
-    if !there && session.statements.len() >= STATEMENT_NAME_LIMIT {
-        return Ok(Some(limit_passed(alloc)?));
-    }
-    Ok(None)
+    let standing = Standing {
+        there: session.statements.get(name).is_some(),
+        unnamed: name.is_empty(),
+        full: session.statements.len() >= STATEMENT_NAME_LIMIT,
+    };
+    let code = Code { bytes: *b"42P05" };
+    let refusal = refusal_of(alloc, Saying::StatementExists, code, standing)?;
+    Ok(refusal)
 }
 
 fn name_it(
@@ -146,7 +144,8 @@ fn name_it(
     name: List<u8>,
     what: Prepared,
 ) -> Result<Replied, NoMemory>
-    ensures { IfOk result (λ reply. (r : _) → reply ≡ Refused r → IsNameRefused r) }
+    ensures tells { IfOk result (TellsNamed name session.old.statements) }
+    ensures kept { OnOk result (KeepsStatus session.old session.new) }
 {
     match name_refusal(alloc, session, name.as_slice()) {
         Ok(None) => {
@@ -171,7 +170,8 @@ fn told(
     name: List<u8>,
     made: Made,
 ) -> Result<Replied, NoMemory>
-    ensures { IfOk result (TellsName made) }
+    ensures tells { IfOk result (TellsName made name session.old.statements) }
+    ensures kept { OnOk result (KeepsStatus session.old session.new) }
 {
     match made {
         Made::Prepared(what) => {
@@ -197,8 +197,9 @@ pub fn parse(
     kinds: &[u32],
 ) -> Result<Replied, NoMemory>
     requires within { IsWithin tables.now }
-    ensures { IfOk result (TellsParse tables.now kinds.now (nat_eq session.old.status 69)
-        text.now) }
+    ensures tells { IfOk result (TellsParse tables.now kinds.now (nat_eq session.old.status 69)
+        text.now name session.old.statements) }
+    ensures kept { OnOk result (KeepsStatus session.old session.new) }
 {
     let failed = session.status == b'E';
     let made = made_of(alloc, tables, text, kinds, failed)?;

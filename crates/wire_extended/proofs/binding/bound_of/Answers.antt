@@ -10,4 +10,4 @@ returns-in-Refused c = unbound_so c.args.session.now c.args.binding.now c.in-Som
     (prepared c.args.binding.now.name c.args.session.now.statements)
     (eq-eqb c.args.session.now.status 69) (eqb-true c.args.session.now.status 69)
     (c.in-Some.ensures ∙ ap (λ name. prepared name c.args.session.now.statements) c.as_slice.ensures)
-    (subst (λ m. TellsMade (eqb c.args.session.now.status 69) c.in-Some.what.now c.args.binding.now m) c.in-Refused.is c.in_ok-refusal-in-Some.ensures)
+    (subst (λ m. TellsMade (eqb c.args.session.now.status 69) c.in-Some.what.now c.args.session.now.portals c.args.binding.now m) c.in-Refused.is c.in_ok-refusal-in-Some.ensures)

@@ -1,6 +1,6 @@
-use Rattle.std.proofs.Common.{ap, ◌∙◌, subst}
+use Rattle.std.proofs.Common.{subst}
 use Rattle.wire_query.specs.Texts.{IsReading}
-use Rattle.session_wire.specs.Shown.{View, shown}
+use Rattle.session_wire.specs.Shown.{shown}
 use Rattle.session_wire.proofs.wire.Wire.query.Goals as goal
 
 pub returns-clause-queries : goal.returns-clause-queries
@@ -12,6 +12,7 @@ returns-clause-queries c = record {
   empty = c.in_ok-empty.empty;
   is_empty = c.in_ok-empty.ensures;
   mid = shown c.drop_unnamed.new.self;
-  names = c.drop_unnamed.ensures.names ∙ ap (λ (v : View). record v { session = c.drop_unnamed.new.self.session }) c.in_ok-make_room.ensures.same;
+  names = c.drop_unnamed.ensures.names;
+  kept = c.drop_unnamed.ensures.kept;
   done = c.in_ok-body.ensures.queries;
 }
