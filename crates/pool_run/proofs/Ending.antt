@@ -198,16 +198,6 @@ ends_from count tables lines NotBuilt n m a b x y z p = p
 ends_from count tables lines Stopped n m a b x y z p = p
 ends_from count tables lines NoneLeft n m a b x y z p = p
 
--- what is built is asked for
-pub is_built : (command : Command) (config : Config) (script : Option (List ℕ)) (lines : List Line) → (is_plain command ≡ true) × ((0 < length config.nodes) × (length config.nodes ≤ 8)) → IsReadAs script lines
-    → IsSession lines → AreSingle lines → IsBuilt command config script lines
-is_built command config script lines b reads is single = record { plain = b.0; some_backend = b.1.0; few_backends = b.1.1; reads = reads; session = is; single = single }
-
--- sessions are asked for
-pub are_sessions : (command : Command) (config : Config) (script : Option (List ℕ)) (lines : List Line) → (is_play command ≡ true) × ((0 < length config.nodes) × (length config.nodes ≤ 8)) → IsReadAs script lines
-    → AreKeeping lines → IsSeveral command config script lines
-are_sessions command config script lines b reads keeping = record { plays = b.0; some_backend = b.1.0; few_backends = b.1.1; reads = reads; keeping = keeping }
-
 -- nothing was written
 pub grows_none : (o : Outside) → o.has ≡ o.had → Grows o
 grows_none o same = ([], subst (λ (b : Option (List ℕ)). Appends o.had b []) (sym same) (appends_nothing o.had))

@@ -7,4 +7,5 @@ pub mod Touching
 pub mod Numbers
 pub mod ScriptNumbers
 pub mod ScriptReading
+pub mod DrawingLemmas
 pub mod ServingLemmas

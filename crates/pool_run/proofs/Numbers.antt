@@ -14,6 +14,7 @@ use Rattle.pool_run.specs.declared.status.Status.{Status}
 use Rattle.pool_run.specs.declared.status.Status.TheVariants.{Done, NoCommand, Refused, ScriptRefused, FilesFailed, SinkFailed, NoMemory, NotBuilt, Stopped, NoneLeft}
 use Rattle.pool_run.specs.Scripts.{lines_in}
 use Rattle.pool_run.specs.Texts.{IsRead, IsBuilt, IsSeveral, config_name, schema_name, is_plain}
+use Rattle.pool_run.specs.Drawing.{TakesNone}
 use Rattle.pool_run.specs.Ways.{SaysOneClient}
 use Rattle.schema.specs.declared.catalogue.TableDef.{TableDef}
 use Rattle.schema.specs.Reading.{Says}
@@ -389,9 +390,9 @@ schema_refuses words contents x y number o r command text named tells is =
 
 -- status 0
 -- a text of one client's single statements is not played as sessions
-no_sessions : (command : Command) (config : Config) (script : Option (List ℕ)) (lines : List Line) (text : List ℕ) → is_plain command ≡ true → SaysOneClient text → script ≡ Some text → IsSeveral command config script lines
-    → ((found : List Line) → IsBuilt command config script found → ⊥) → ⊥
-no_sessions command config script lines text plain one tells b none =
+no_sessions : (told : Told) (command : Command) (config : Config) (tables : List TableDef) (script : Option (List ℕ)) (lines : List Line) (text : List ℕ) → is_plain command ≡ true → (one : SaysOneClient told text) → TakesNone tables one.lines → script ≡ Some text → IsSeveral command config script lines
+    → ((found : List Line) → IsBuilt command config tables script found → ⊥) → ⊥
+no_sessions told command config tables script lines text plain one takes tells b none =
     let same : b.reads.text ≡ text = (let e : Some b.reads.text ≡ Some text = sym b.reads.is ∙ tells in cc) in
     none one.lines (record {
       plain = plain;
@@ -400,17 +401,18 @@ no_sessions command config script lines text plain one tells b none =
       reads = record { text = text; is = tells; few = subst (λ t. lines_in t ≤ 20000) same b.reads.few; says = one.says };
       session = one.session;
       single = one.single;
+      takes_none = takes;
     })
 
-done_texts : (command : Command) (config : Config) (tables : List TableDef) (script : Option (List ℕ)) (text : List ℕ) (s : Status) (o : Outside) → is_plain command ≡ true → SaysOneClient text → s ≡ Done → script ≡ Some text → TextsEnds command config tables script s o → PlayedOver config tables text o
-done_texts command config tables script text s o plain one is tells (refused bytes why rows f) = absurd (subst (λ s. RefusedEnds ScriptRefused bytes s o) is f)
-done_texts command config tables script text s o plain one is tells (built lines b f) =
+done_texts : (told : Told) (command : Command) (config : Config) (tables : List TableDef) (script : Option (List ℕ)) (text : List ℕ) (s : Status) (o : Outside) → is_plain command ≡ true → (one : SaysOneClient told text) → TakesNone tables one.lines → s ≡ Done → script ≡ Some text → TextsEnds command config tables script s o → PlayedOver config tables text o
+done_texts told command config tables script text s o plain one takes is tells (refused bytes why rows f) = absurd (subst (λ s. RefusedEnds ScriptRefused bytes s o) is f)
+done_texts told command config tables script text s o plain one takes is tells (built lines b f) =
     let ends : ScriptEnds (length config.nodes) tables lines Done o = subst (λ s. ScriptEnds (length config.nodes) tables lines s o) is f in
     let same : b.reads.text ≡ text = (let e : Some b.reads.text ≡ Some text = sym b.reads.is ∙ tells in cc) in
     record { lines = lines; says = subst (λ t. IsScript t lines) same b.reads.says; one = b.session; some = b.some_backend; left = ends.0; wrote = ends.1; rows = ends.2 }
-done_texts command config tables script text s o plain one is tells (several lines b none f) = absurd (no_sessions command config script lines text plain one tells b none)
-done_texts command config tables script text s o plain one is tells (unbuilt stands none others kept f) = absurd (subst (λ s. UnbuiltEnds s o) is f)
-done_texts command config tables script text s o plain one is tells (unchecked memory same kept) = let never : Done ≡ NoMemory = sym is ∙ memory in absurd (cc)
+done_texts told command config tables script text s o plain one takes is tells (several lines b none f) = absurd (no_sessions told command config tables script lines text plain one takes tells b none)
+done_texts told command config tables script text s o plain one takes is tells (unbuilt stands none others kept f) = absurd (subst (λ s. UnbuiltEnds s o) is f)
+done_texts told command config tables script text s o plain one takes is tells (unchecked memory same kept) = let never : Done ≡ NoMemory = sym is ∙ memory in absurd (cc)
 
 read_some : (told : Told) (limit : ℕ) (got : Option (List ℕ)) (text : List ℕ) → told ≡ content text → (got ≡ None → ⊥) → IsRead told limit got → got ≡ Some text
 read_some told limit None text is some r = absurd (some refl)
@@ -424,11 +426,11 @@ some_script command config tables script s o is (unbuilt stands nothing others k
 some_script command config tables script s o is (unchecked memory same kept) none = let never : Done ≡ NoMemory = sym is ∙ memory in absurd (cc)
 
 -- the command plays a script of that name
-done_script : (contents : List ℕ → Told) (x y : ℕ) (a b c : List ℕ) (config : Config) (tables : List TableDef) (text : List ℕ) (s : Status) (o : Outside) → SaysOneClient text → s ≡ Done → contents c ≡ content text
+done_script : (contents : List ℕ → Told) (x y : ℕ) (a b c : List ℕ) (config : Config) (tables : List TableDef) (text : List ℕ) (s : Status) (o : Outside) → (one : SaysOneClient (contents b) text) → TakesNone tables one.lines → s ≡ Done → contents c ≡ content text
     → ScriptStageEnds contents x y (Play a b c false) config tables s o → PlayedOver config tables text o
-done_script contents x y a b c config tables text s o one is tells (script_unread kept e) = absurd (subst (λ s. UnreadEnds x y s o) is e)
-done_script contents x y a b c config tables text s o one is tells (script_read script e f) =
-    done_texts (Play a b c false) config tables script text s o refl one is (read_some (contents c) 4194304 script text tells (some_script (Play a b c false) config tables script s o is f) e) f
+done_script contents x y a b c config tables text s o one takes is tells (script_unread kept e) = absurd (subst (λ s. UnreadEnds x y s o) is e)
+done_script contents x y a b c config tables text s o one takes is tells (script_read script e f) =
+    done_texts (contents b) (Play a b c false) config tables script text s o refl one takes is (read_some (contents c) 4194304 script text tells (some_script (Play a b c false) config tables script s o is f) e) f
 
 -- over the tables of the schema
 record Tabled (schema_told : Told) (config : Config) (text : List ℕ) (o : Outside) : Type 0 where
@@ -438,19 +440,19 @@ record Tabled (schema_told : Told) (config : Config) (text : List ℕ) (o : Outs
   says_tables : Says schema_text tables
   over : PlayedOver config tables text o
 
-done_schema : (contents : List ℕ → Told) (x y : ℕ) (a b c : List ℕ) (config : Config) (schema : Option (List ℕ)) (text : List ℕ) (s : Status) (o : Outside) → SaysOneClient text → s ≡ Done → contents c ≡ content text
+done_schema : (contents : List ℕ → Told) (x y : ℕ) (a b c : List ℕ) (config : Config) (schema : Option (List ℕ)) (text : List ℕ) (s : Status) (o : Outside) → SaysOneClient (contents b) text → s ≡ Done → contents c ≡ content text
     → IsRead (contents b) 262144 schema → SchemaEnds contents x y (Play a b c false) config schema s o → Tabled (contents b) config text o
 done_schema contents x y a b c config schema text s o one is tells was (schema_stands tables says e) = record {
   schema_text = says.text;
   tells_schema = (subst (IsRead (contents b) 262144) says.is was).0;
   tables = tables;
   says_tables = says.says;
-  over = done_script contents x y a b c config tables text s o one is tells e;
+  over = done_script contents x y a b c config tables text s o one (one.takes_none says.text tables (subst (IsRead (contents b) 262144) says.is was).0 says.says) is tells e;
 }
 done_schema contents x y a b c config schema text s o one is tells was (schema_refused bytes why rows e) = absurd (subst (λ s. RefusedEnds Refused bytes s o) is e)
 done_schema contents x y a b c config schema text s o one is tells was (schema_unparsed memory same kept) = let never : Done ≡ NoMemory = sym is ∙ memory in absurd (cc)
 
-done_rest : (contents : List ℕ → Told) (x y : ℕ) (a b c : List ℕ) (config : Config) (text : List ℕ) (s : Status) (o : Outside) → SaysOneClient text → s ≡ Done → contents c ≡ content text
+done_rest : (contents : List ℕ → Told) (x y : ℕ) (a b c : List ℕ) (config : Config) (text : List ℕ) (s : Status) (o : Outside) → SaysOneClient (contents b) text → s ≡ Done → contents c ≡ content text
     → RestEnds contents x y (Play a b c false) config s o → Tabled (contents b) config text o
 done_rest contents x y a b c config text s o one is tells (schema_unread kept e) = absurd (subst (λ s. UnreadEnds x y s o) is e)
 done_rest contents x y a b c config text s o one is tells (schema_read schema d e) = done_schema contents x y a b c config schema text s o one is tells d e
@@ -468,20 +470,20 @@ played_so config_told schema_told got config text o told said t = record {
   over = t.over;
 }
 
-done_config : (contents : List ℕ → Told) (x y : ℕ) (a b c : List ℕ) (got text : List ℕ) (s : Status) (o : Outside) → SaysOneClient text → s ≡ Done → contents c ≡ content text → IsTold (contents a) got
+done_config : (contents : List ℕ → Told) (x y : ℕ) (a b c : List ℕ) (got text : List ℕ) (s : Status) (o : Outside) → SaysOneClient (contents b) text → s ≡ Done → contents c ≡ content text → IsTold (contents a) got
     → ConfigEnds contents x y (Play a b c false) got s o → Played (contents a) (contents b) text o
 done_config contents x y a b c got text s o one is tells read_so (configured config said e) =
     played_so (contents a) (contents b) got config text o read_so said (done_rest contents x y a b c config text s o one is tells e)
 done_config contents x y a b c got text s o one is tells read_so (faulty fault first none rows e) = absurd (subst (λ s. RefusedEnds Refused (fault_line fault) s o) is e)
 done_config contents x y a b c got text s o one is tells read_so (unparsed memory same kept) = let never : Done ≡ NoMemory = sym is ∙ memory in absurd (cc)
 
-done_command : (contents : List ℕ → Told) (x y : ℕ) (a b c : List ℕ) (text : List ℕ) (s : Status) (o : Outside) → SaysOneClient text → s ≡ Done → contents c ≡ content text
+done_command : (contents : List ℕ → Told) (x y : ℕ) (a b c : List ℕ) (text : List ℕ) (s : Status) (o : Outside) → SaysOneClient (contents b) text → s ≡ Done → contents c ≡ content text
     → CommandEnds contents x y (Play a b c false) s o → Played (contents a) (contents b) text o
 done_command contents x y a b c text s o one is tells (unread kept e) = absurd (subst (λ s. UnreadEnds x y s o) is e)
 done_command contents x y a b c text s o one is tells (long d rows e) = absurd (subst (λ s. RefusedEnds Refused config_too_long s o) is e)
 done_command contents x y a b c text s o one is tells (read got d e) = done_config contents x y a b c got text s o one is tells d.0 e
 
 pub played : (words : List (List ℕ)) (contents : List ℕ → Told) (x y number : ℕ) (o : Outside) → Returns words contents x y number o → number ≡ 0
-    → (config schema script text : List ℕ) → command_of words ≡ Some (Play config schema script false) → contents script ≡ content text → SaysOneClient text → Played (contents config) (contents schema) text o
+    → (config schema script text : List ℕ) → command_of words ≡ Some (Play config schema script false) → contents script ≡ content text → SaysOneClient (contents schema) text → Played (contents config) (contents schema) text o
 played words contents x y number o r zero_is config schema script text is tells one =
     done_command contents x y config schema script text r.status o one (is_done r.status (sym r.is ∙ zero_is)) tells (subst (λ c. WordsEnd c contents x y r.status o) is r.ends)

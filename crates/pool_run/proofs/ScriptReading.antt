@@ -7,15 +7,19 @@ use Rattle.pgproto.specs.declared.line.ScriptLine.{ScriptLine}
 use Rattle.pgproto.specs.Script.{IsScript, IsBadAt, IfBadLine, IsScriptOr}
 use Rattle.pgproto.specs.declared.script.ScriptFault.{ScriptFault}
 use Rattle.pgproto.specs.declared.script.ScriptFault.TheVariants as scripts
-use Rattle.play.specs.Script.{IsSession}
 use Rattle.pool_command.specs.declared.command.Command.{Command}
 use Rattle.pool_command.specs.declared.command.Command.TheVariants.{Play, Generate, Serve}
 use Rattle.pool_config.specs.declared.config.Config.{Config}
 use Rattle.pool_run.specs.declared.scripts.ScriptStop.{ScriptStop}
 use Rattle.pool_run.specs.declared.scripts.ScriptStop.TheVariants.{TooLong, BadLine}
-use Rattle.pool_run.specs.Scripts.{IsAnswer, IsReading, ScriptCause, SaysNoScript, bad_line, script_too_long, has_script, lines_in}
-use Rattle.pool_run.specs.Texts.{IsBuilt, IsSeveral, is_plain, is_play}
-use Rattle.pool_run.specs.Ways.{AreSingle, AreKeeping}
+use Rattle.pool_run.specs.Scripts.{IsAnswer, IsReading, with, ScriptCause, SaysNoScript, bad_line, script_too_long, has_script, lines_in}
+use Rattle.pool_run.specs.Texts.{IsBuilt, IsSeveral}
+use Rattle.pool_run.specs.declared.plan.Way.{Way}
+use Rattle.pool_run.specs.declared.plan.Way.TheVariants.{OneClient, Sessions}
+use Rattle.pool_run.specs.declared.status.Status.{Status}
+use Rattle.pool_run.specs.Ends.{Outside, Untouched, UnbuiltEnds, TextsEnds, built, several, unbuilt}
+use Rattle.pool_run.specs.Plan.{FitsOneClient, FitsSessions, FitsWay, IsFew, IsWay, WayEnds}
+use Rattle.schema.specs.declared.catalogue.TableDef.{TableDef}
 
 -- one text has one reading
 pub reading : (script : Option (List ℕ)) (text : List ℕ) (lines : List Line) → script ≡ Some text → lines_in text ≤ 20000 → IsScript text lines → ((found : List Line) → IsScript text found → lines ≡ found) → IsReading script lines
@@ -25,17 +29,10 @@ reading script text lines some few says only = record {
 }
 
 -- a command without a script asks for what is not built
-pub none_without : (command : Command) (config : Config) (script : Option (List ℕ)) → has_script command ≡ false → (lines : List Line) → IsBuilt command config script lines → ⊥
-none_without (Play x y z journal) config script none lines b = absurd (false≢true (sym none))
-none_without (Generate x y number size) config script none lines b = false≢true b.plain
-none_without (Serve x y) config script none lines b = false≢true b.plain
-
--- what else is built, and that the lines are of one session
-abbrev pub Others : Command → Config → Type 0
-Others command config = (is_plain command ≡ true) × ((0 < length config.nodes) × (length config.nodes ≤ 8))
-
-pub others_of : (command : Command) (config : Config) (script : Option (List ℕ)) (lines : List Line) → IsBuilt command config script lines → Others command config
-others_of command config script lines b = (b.plain, (b.some_backend, b.few_backends))
+pub none_without : (command : Command) (config : Config) (tables : List TableDef) (script : Option (List ℕ)) → has_script command ≡ false → (lines : List Line) → IsBuilt command config tables script lines → ⊥
+none_without (Play x y z journal) config tables script none lines b = absurd (false≢true (sym none))
+none_without (Generate x y number size) config tables script none lines b = false≢true b.plain
+none_without (Serve x y) config tables script none lines b = false≢true b.plain
 
 -- no script of sessions without a script
 pub no_sessions_without : (command : Command) (config : Config) (script : Option (List ℕ)) → has_script command ≡ false → (lines : List Line) → IsSeveral command config script lines → ⊥
@@ -43,19 +40,46 @@ no_sessions_without (Play x y z journal) config script none lines b = absurd (fa
 no_sessions_without (Generate x y number size) config script none lines b = false≢true b.plays
 no_sessions_without (Serve x y) config script none lines b = false≢true b.plays
 
-pub session_of : (command : Command) (config : Config) (script : Option (List ℕ)) (lines found : List Line) → IsReading script lines → IsBuilt command config script found → IsSession lines
-session_of command config script lines found r b = subst IsSession (sym (r.only found b.reads)) b.session
+-- what fits other lines that were read fits these
+pub fits_one : (command : Command) (config : Config) (tables : List TableDef) (script : Option (List ℕ)) (lines found : List Line) → IsReading script lines → IsBuilt command config tables script found → FitsOneClient command config tables lines
+fits_one command config tables script lines found r b =
+    subst (λ (ls : List Line). FitsOneClient command config tables ls) (sym (r.only found b.reads)) (((b.plain, (b.some_backend, b.few_backends)), (b.session, b.single)), b.takes_none)
 
-pub single_of : (command : Command) (config : Config) (script : Option (List ℕ)) (lines found : List Line) → IsReading script lines → IsBuilt command config script found → AreSingle lines
-single_of command config script lines found r b = subst AreSingle (sym (r.only found b.reads)) b.single
+pub fits_sessions : (command : Command) (config : Config) (script : Option (List ℕ)) (lines found : List Line) → IsReading script lines → IsSeveral command config script found → FitsSessions command config lines
+fits_sessions command config script lines found r b =
+    subst (λ (ls : List Line). FitsSessions command config ls) (sym (r.only found b.reads)) ((b.plays, (b.some_backend, b.few_backends)), b.keeping)
 
--- what else is built of sessions, and that no line loses a backend
-pub session_others_of : (command : Command) (config : Config) (script : Option (List ℕ)) (lines : List Line) → IsSeveral command config script lines
-    → (is_play command ≡ true) × ((0 < length config.nodes) × (length config.nodes ≤ 8))
-session_others_of command config script lines b = (b.plays, (b.some_backend, b.few_backends))
+-- how lines end that are played so, and that may be played so
+pub way_ends : (command : Command) (config : Config) (tables : List TableDef) (script : Option (List ℕ)) (lines : List Line) (way : Way) (s : Status) (o : Outside) → IsReading script lines
+    → IsWay command config tables lines (Some way) → WayEnds way (length config.nodes) tables lines s o → TextsEnds command config tables script s o
+way_ends command config tables script lines OneClient s o r fits e =
+    built lines (record {
+      plain = fits.0.0.0;
+      some_backend = fits.0.0.1.0;
+      few_backends = fits.0.0.1.1;
+      reads = r.reads;
+      session = fits.0.1.0;
+      single = fits.0.1.1;
+      takes_none = fits.1;
+    }) e
+way_ends command config tables script lines (Sessions journal) s o r fits e =
+    several lines (record { plays = fits.1.0.0; some_backend = fits.1.0.1.0; few_backends = fits.1.0.1.1; reads = r.reads; keeping = fits.1.1 })
+    (λ found b. fits.0 (fits_one command config tables script lines found r b)) e
 
-pub keeping_of : (command : Command) (config : Config) (script : Option (List ℕ)) (lines found : List Line) → IsReading script lines → IsSeveral command config script found → AreKeeping lines
-keeping_of command config script lines found r b = subst AreKeeping (sym (r.only found b.reads)) b.keeping
+pub way_fits : (command : Command) (config : Config) (tables : List TableDef) (lines : List Line) (way : Way) → IsWay command config tables lines (Some way) → FitsWay way lines
+way_fits command config tables lines OneClient fits = fits.0.1.0
+way_fits command config tables lines (Sessions journal) fits = tt
+
+pub way_few : (command : Command) (config : Config) (tables : List TableDef) (lines : List Line) (way : Way) → IsWay command config tables lines (Some way) → IsFew (length config.nodes)
+way_few command config tables lines OneClient fits = record { some = fits.0.0.1.0; few = fits.0.0.1.1 }
+way_few command config tables lines (Sessions journal) fits = record { some = fits.1.0.1.0; few = fits.1.0.1.1 }
+
+-- lines that are played in no way
+pub no_way : (command : Command) (config : Config) (tables : List TableDef) (script : Option (List ℕ)) (lines : List Line) (s : Status) (o : Outside) → IsReading script lines
+    → IsWay command config tables lines None → Untouched o → UnbuiltEnds s o → TextsEnds command config tables script s o
+no_way command config tables script lines s o r fits kept e =
+    unbuilt (with lines r.reads) (λ found b. fits.0 (fits_one command config tables script lines found r b))
+    (λ found b. fits.1 (fits_sessions command config script lines found r b)) kept e
 
 -- the reader's answer, at each of its forms
 pub too_long_at : (command : Command) (script : Option (List ℕ)) (stop : ScriptStop) → stop ≡ TooLong → IsAnswer command script (Err stop) → ScriptCause command script script_too_long

@@ -168,9 +168,9 @@ pub record Played (config_told schema_told : Told) (text : List ℕ) (o : Outsid
 -- statements or as sessions, or it stands and asks for what is not built
 pub data TextsEnds (command : Command) (config : Config) (tables : List TableDef) (script : Option (List ℕ)) (status : Status) (o : Outside) : Type 0 where
   refused : (bytes : List ℕ) → ScriptCause command script bytes → Untouched o → RefusedEnds ScriptRefused bytes status o → TextsEnds command config tables script status o
-  built : (lines : List Line) → IsBuilt command config script lines → ScriptEnds (length config.nodes) tables lines status o → TextsEnds command config tables script status o
-  several : (lines : List Line) → IsSeveral command config script lines → ((found : List Line) → IsBuilt command config script found → ⊥) → SeveralEnds lines status o → TextsEnds command config tables script status o
-  unbuilt : Stands command script → ((lines : List Line) → IsBuilt command config script lines → ⊥) → ((lines : List Line) → IsSeveral command config script lines → ⊥) → Untouched o → UnbuiltEnds status o → TextsEnds command config tables script status o
+  built : (lines : List Line) → IsBuilt command config tables script lines → ScriptEnds (length config.nodes) tables lines status o → TextsEnds command config tables script status o
+  several : (lines : List Line) → IsSeveral command config script lines → ((found : List Line) → IsBuilt command config tables script found → ⊥) → SeveralEnds lines status o → TextsEnds command config tables script status o
+  unbuilt : Stands command script → ((lines : List Line) → IsBuilt command config tables script lines → ⊥) → ((lines : List Line) → IsSeveral command config script lines → ⊥) → Untouched o → UnbuiltEnds status o → TextsEnds command config tables script status o
   unchecked : status ≡ NoMemory → o.has ≡ o.had → Untouched o → TextsEnds command config tables script status o
 
 -- the schema stands: the script was read, if the command has one, or it was not

@@ -2,6 +2,7 @@ pub mod Status
 pub mod Schemas
 pub mod Scripts
 pub mod Texts
+pub mod Drawing
 pub mod Ways
 pub mod Reading
 pub mod Shelf

@@ -1,9 +1,11 @@
 -- What a run is to do once its words and its texts were read, and how it then ends.
-use Rattle.std.specs.Prelude.{◌≡◌, ◌≢◌, ◌<◌, ◌≤◌, ℕ, List, Result, Ok, Err, length, map}
+use Rattle.std.specs.Prelude.{◌≡◌, ◌≢◌, ◌<◌, ◌≤◌, ℕ, true, List, Option, None, Some, Result, Ok, Err, length, map}
 use Rattle.std.specs.List.{AllByRecursion}
 use Rattle.pgproto.specs.Spelling.{IsOfGrammar}
 use Rattle.pgproto.specs.Line.{Line, line_of}
 use Rattle.play.specs.Script.{IsSession}
+use Rattle.pool_command.specs.declared.command.Command.{Command}
+use Rattle.pool_config.specs.declared.config.Config.{Config}
 use Rattle.pool_config.specs.Configuration.{IsAllowed}
 use Rattle.pool_config.specs.declared.fault.ConfigFault.{ConfigFault}
 use Rattle.pool_config.specs.declared.fault.ConfigFault.TheVariants as faults
@@ -18,7 +20,10 @@ use Rattle.pool_run.specs.declared.scripts.ScriptStop.TheVariants as scripts
 use Rattle.pool_run.specs.declared.status.Status.{Status}
 use Rattle.pool_run.specs.declared.status.Status.TheVariants.{Refused, ScriptRefused, NoMemory}
 use Rattle.pool_run.specs.Ends.{Outside, Untouched, NoCommandEnds, RefusedEnds, UnbuiltEnds, ScriptEnds, SeveralEnds, IsSchemaRefusal, config_too_long, fault_line}
+use Rattle.pool_run.specs.Drawing.{TakesNone}
 use Rattle.pool_run.specs.Scripts.{script_too_long, bad_line}
+use Rattle.pool_run.specs.Texts.{is_plain, is_play}
+use Rattle.pool_run.specs.Ways.{AreSingle, AreKeeping}
 use Rattle.schema.specs.declared.catalogue.TableDef.{TableDef}
 use Rattle.schema_print.specs.Allowed.{AreAllowed}
 use Rattle.schema_print.specs.Printed.{AreInRange}
@@ -86,6 +91,22 @@ LinesEnd count tables (Err stop) status o = Untouched o × StopEnds stop status 
 abbrev pub Leads : Result Plan Stop → (Status → Outside → Type 0) → Type 0
 Leads asked Kind = (status : Status) (o : Outside) → PlanEnds asked status o → Kind status o
 
--- the same of lines, over any tables
-abbrev pub LinesLead : ℕ → Result Lines Stop → (List TableDef → Status → Outside → Type 0) → Type 0
-LinesLead count asked Kind = (tables : List TableDef) (status : Status) (o : Outside) → LinesEnd count tables asked status o → Kind tables status o
+-- the same of lines, over these tables
+abbrev pub LinesLead : ℕ → List TableDef → Result Lines Stop → (Status → Outside → Type 0) → Type 0
+LinesLead count tables asked Kind = (status : Status) (o : Outside) → LinesEnd count tables asked status o → Kind status o
+
+-- what is asked for beside the text of the script: one client's single statements that take no serial number; or sessions
+abbrev pub IsOneClient : Command → Config → List Line → Type 0
+IsOneClient command config lines = ((is_plain command ≡ true) × ((0 < length config.nodes) × (length config.nodes ≤ 8))) × (IsSession lines × AreSingle lines)
+
+abbrev pub FitsOneClient : Command → Config → List TableDef → List Line → Type 0
+FitsOneClient command config tables lines = IsOneClient command config lines × TakesNone tables lines
+
+abbrev pub FitsSessions : Command → Config → List Line → Type 0
+FitsSessions command config lines = ((is_play command ≡ true) × ((0 < length config.nodes) × (length config.nodes ≤ 8))) × AreKeeping lines
+
+-- the way in which lines are played, if they are
+abbrev pub IsWay : Command → Config → List TableDef → List Line → Option Way → Type 0
+IsWay command config tables lines None = ¬ (FitsOneClient command config tables lines) × ¬ (FitsSessions command config lines)
+IsWay command config tables lines (Some OneClient) = FitsOneClient command config tables lines
+IsWay command config tables lines (Some (Sessions journal)) = ¬ (FitsOneClient command config tables lines) × FitsSessions command config lines

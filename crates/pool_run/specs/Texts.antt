@@ -6,6 +6,8 @@ use Rattle.play.specs.Script.{IsSession}
 use Rattle.pool_command.specs.declared.command.Command.{Command}
 use Rattle.pool_command.specs.declared.command.Command.TheVariants.{Play, Generate, Serve}
 use Rattle.pool_config.specs.declared.config.Config.{Config}
+use Rattle.schema.specs.declared.catalogue.TableDef.{TableDef}
+use Rattle.pool_run.specs.Drawing.{TakesNone}
 use Rattle.pool_run.specs.Scripts.{IsReadAs}
 use Rattle.pool_run.specs.Ways.{AreSingle, AreKeeping}
 
@@ -47,14 +49,16 @@ is_play (Play config schema script journal) = true
 is_play (Generate config schema number size) = false
 is_play (Serve config schema) = false
 
--- a script of one client that sends single statements is played, over one to eight backends, without the journal
-pub record IsBuilt (command : Command) (config : Config) (script : Option (List ℕ)) (lines : List Line) : Type 0 where
+-- a script of one client that sends single statements, of which none takes a serial number of the tables, is played, over one to eight
+-- backends, without the journal
+pub record IsBuilt (command : Command) (config : Config) (tables : List TableDef) (script : Option (List ℕ)) (lines : List Line) : Type 0 where
   pub plain : is_plain command ≡ true
   pub some_backend : 0 < length config.nodes
   pub few_backends : length config.nodes ≤ 8
   pub reads : IsReadAs script lines
   pub session : IsSession lines
   pub single : AreSingle lines
+  pub takes_none : TakesNone tables lines
 
 -- a script in which no backend is lost is played, over one to eight backends
 pub record IsSeveral (command : Command) (config : Config) (script : Option (List ℕ)) (lines : List Line) : Type 0 where

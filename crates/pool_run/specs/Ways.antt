@@ -4,6 +4,10 @@ use Rattle.std.specs.List.{list_all}
 use Rattle.pgproto.specs.Line.{Line, lose, query}
 use Rattle.pgproto.specs.Script.{IsScript}
 use Rattle.play.specs.Script.{IsSession}
+use Rattle.pool_base.specs.Outside.{Told, IsTold}
+use Rattle.schema.specs.declared.catalogue.TableDef.{TableDef}
+use Rattle.schema.specs.Reading.{Says as SaysTables}
+use Rattle.pool_run.specs.Drawing.{TakesNone}
 
 -- a blank of SQL
 abbrev pub is_blank : ℕ → Bool
@@ -50,12 +54,13 @@ is_single_line line = true
 abbrev pub AreSingle : List Line → Type 0
 AreSingle lines = list_all is_single_line lines ≡ true
 
--- a script of one client that sends single statements
-pub record SaysOneClient (text : List ℕ) : Type 0 where
+-- a script of one client that sends single statements, of which none takes a serial number of the schema's tables
+pub record SaysOneClient (schema : Told) (text : List ℕ) : Type 0 where
   pub lines : List Line
   pub says : IsScript text lines
   pub session : IsSession lines
   pub single : AreSingle lines
+  pub takes_none : (schema_text : List ℕ) (tables : List TableDef) → IsTold schema schema_text → SaysTables schema_text tables → TakesNone tables lines
 
 -- whether a line keeps all backends
 abbrev pub is_keeping : Line → Bool

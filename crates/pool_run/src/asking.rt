@@ -1,16 +1,15 @@
 //! From the words to what a run is to do.
-ghost use Rattle.std.specs.Prelude.{◌≡◌, ◌≤◌, IsTrue, IsSome, ◌↔◌, ◌<◌, true, length, map, IfOk, IfSome};
+ghost use Rattle.std.specs.Prelude.{◌≤◌, IsTrue, IsSome, ◌↔◌, length, map, IfOk, IfSome};
 ghost use Rattle.pgproto.specs.Line.{line_of};
-ghost use Rattle.play.specs.Script.{IsSession};
 ghost use Rattle.pool_config.specs.Configuration.{IsAllowed};
 ghost use Rattle.pool_run.specs.Ends.{CommandEnds, ConfigEnds, Ends, RestEnds, SchemaEnds, ScriptStageEnds, TextsEnds};
-ghost use Rattle.pool_run.specs.Plan.{IsFew, IsPlayable, IsSound, Leads, LinesEnd, LinesLead};
+ghost use Rattle.pool_run.specs.Plan.{FitsOneClient, FitsSessions, IsFew, IsOneClient, IsPlayable, IsSound, IsWay, Leads, LinesEnd, LinesLead};
 ghost use Rattle.pool_run.specs.Scripts.{IsReading};
-ghost use Rattle.pool_run.specs.Texts.{is_plain, is_play};
-ghost use Rattle.pool_run.specs.Ways.{AreKeeping, AreSingle};
+ghost use Rattle.schema.specs.Grammar.{IsWithin};
 ghost use Rattle.schema_print.specs.Allowed.{AreAllowed};
 ghost use Rattle.schema_print.specs.Printed.{AreInRange};
 
+use crate::drawing::takes_none;
 use crate::plan::{Lines, Plan, Stop, Way};
 use crate::schemas::read_tables;
 use crate::scripts::read_lines;
@@ -21,7 +20,7 @@ use crate::texts::{
 use crate::ways::{are_keeping, are_single};
 use pgproto::{Script, ScriptLine, lines_of_grammar};
 use play::is_session;
-use pool_base::{Files, List};
+use pool_base::{Files, List, NoMemory};
 use pool_command::{Command, read_words};
 use pool_config::{Config, parse_config};
 use schema::Catalogue;
@@ -89,6 +88,7 @@ fn ask_rest<F: Files>(
 }
 
 /// Goes on with the text of the schema.
+#[tactic(auto, using(crate::proofs::Tables::within_of))]
 fn ask_schema<F: Files>(
     alloc: Global,
     command: &Command,
@@ -105,7 +105,7 @@ fn ask_schema<F: Files>(
     match read_tables(alloc, schema) {
         Err(stop) => Err(Stop::Schema(stop)),
         Ok(catalogue) => {
-            let lines = ask_script(alloc, command, &config, files);
+            let lines = ask_script(alloc, command, &config, &catalogue, files);
             with_tables(config, catalogue, lines)
         }
     }
@@ -144,17 +144,19 @@ fn ask_script<F: Files>(
     alloc: Global,
     command: &Command,
     config: &Config,
+    catalogue: &Catalogue,
     files: &mut F,
 ) -> Result<Lines, Stop>
-    ensures ends { LinesLead (length config.now.nodes) result (ScriptStageEnds
+    requires within { IsWithin catalogue.now }
+    ensures ends { LinesLead (length config.now.nodes) catalogue.now result (ScriptStageEnds
         (F.contents files.old) (F.fault_count files.old) (F.fault_count files.new)
-        command.now config.now) }
+        command.now config.now catalogue.now) }
     ensures playable { IfOk result IsPlayable }
     ensures few { IfOk result (λ _. IsFew (length config.now.nodes)) }
 {
     match read_script_text(alloc, command, files) {
         Err(status) => Err(Stop::Unread(status)),
-        Ok(script) => ask_lines(alloc, command, config, &script),
+        Ok(script) => ask_lines(alloc, command, config, catalogue, &script),
     }
 }
 
@@ -163,18 +165,20 @@ fn ask_lines(
     alloc: Global,
     command: &Command,
     config: &Config,
+    catalogue: &Catalogue,
     script: &Option<List<u8>>,
 ) -> Result<Lines, Stop>
+    requires within { IsWithin catalogue.now }
     requires short { IfSome script.now (λ text. length text ≤ 4194304) }
-    ensures ends { LinesLead (length config.now.nodes) result (λ tables. TextsEnds command.now
-        config.now tables script.now) }
+    ensures ends { LinesLead (length config.now.nodes) catalogue.now result (TextsEnds command.now
+        config.now catalogue.now script.now) }
     ensures playable { IfOk result IsPlayable }
     ensures few { IfOk result (λ _. IsFew (length config.now.nodes)) }
 {
     match read_lines(alloc, command, script) {
         Err(stop) => Err(Stop::Script(stop)),
         Ok(None) => Err(Stop::NotBuilt),
-        Ok(Some(lines)) => built_lines(alloc, command, config, script, lines),
+        Ok(Some(lines)) => built_lines(alloc, command, config, catalogue, script, lines),
     }
 }
 
@@ -183,39 +187,50 @@ fn built_lines(
     alloc: Global,
     command: &Command,
     config: &Config,
+    catalogue: &Catalogue,
     script: &Option<List<u8>>,
     lines: Script,
 ) -> Result<Lines, Stop>
+    requires within { IsWithin catalogue.now }
     requires read { IsReading script.now (map line_of lines) }
-    ensures ends { LinesLead (length config.now.nodes) result (λ tables. TextsEnds command.now
-        config.now tables script.now) }
+    ensures ends { LinesLead (length config.now.nodes) catalogue.now result (TextsEnds command.now
+        config.now catalogue.now script.now) }
     ensures playable { IfOk result IsPlayable }
     ensures few { IfOk result (λ _. IsFew (length config.now.nodes)) }
 {
-    if is_built(alloc, command, config, lines.as_slice()) {
-        lines_of_grammar();
-        return Ok(Lines {
-            script: lines,
-            way: Way::OneClient,
-        });
-    }
-    match sessions_of(command, config, lines.as_slice()) {
-        Some(journal) => {
+    match way_of(alloc, command, config, catalogue, lines.as_slice()) {
+        Ok(Some(way)) => {
             lines_of_grammar();
-            Ok(Lines {
-                script: lines,
-                way: Way::Sessions { journal },
-            })
+            Ok(Lines { script: lines, way })
         }
-        None => Err(Stop::NotBuilt),
+        Ok(None) => Err(Stop::NotBuilt),
+        Err(NoMemory) => Err(Stop::Unread(Status::NoMemory)),
+    }
+}
+
+/// How lines are played. None: what was read asks for what is not built.
+fn way_of(
+    alloc: Global,
+    command: &Command,
+    config: &Config,
+    catalogue: &Catalogue,
+    lines: &[ScriptLine],
+) -> Result<Option<Way>, NoMemory>
+    requires within { IsWithin catalogue.now }
+    ensures { IfOk result (IsWay command.now config.now catalogue.now (map line_of lines.now)) }
+{
+    if is_built(alloc, command, config, catalogue, lines)? {
+        return Ok(Some(Way::OneClient));
+    }
+    match sessions_of(command, config, lines) {
+        Some(journal) => Ok(Some(Way::Sessions { journal })),
+        None => Ok(None),
     }
 }
 
 /// Whether all that was read asks for sessions, as they are built: then whether with their journal.
 fn sessions_of(command: &Command, config: &Config, lines: &[ScriptLine]) -> Option<bool>
-    ensures { IsSome result ↔ (((is_play command.now ≡ true)
-        × ((0 < length config.now.nodes) × (length config.now.nodes ≤ 8)))
-        × AreKeeping (map line_of lines.now)) }
+    ensures { IsSome result ↔ FitsSessions command.now config.now (map line_of lines.now) }
 {
     if !are_few(config.nodes.len()) || !are_keeping(lines) {
         return None;
@@ -223,11 +238,28 @@ fn sessions_of(command: &Command, config: &Config, lines: &[ScriptLine]) -> Opti
     journal_of(command)
 }
 
+/// Whether all that was read asks for one client's single statements, of which none takes a serial
+/// number.
+fn is_built(
+    alloc: Global,
+    command: &Command,
+    config: &Config,
+    catalogue: &Catalogue,
+    lines: &[ScriptLine],
+) -> Result<bool, NoMemory>
+    requires within { IsWithin catalogue.now }
+    ensures { IfOk result (λ built. IsTrue built
+        ↔ FitsOneClient command.now config.now catalogue.now (map line_of lines.now)) }
+{
+    if !is_one_client(alloc, command, config, lines) {
+        return Ok(false);
+    }
+    takes_none(alloc, catalogue, lines)
+}
+
 /// Whether all that was read asks for one client's single statements.
-fn is_built(alloc: Global, command: &Command, config: &Config, lines: &[ScriptLine]) -> bool
-    ensures { IsTrue result ↔ (((is_plain command.now ≡ true)
-        × ((0 < length config.now.nodes) × (length config.now.nodes ≤ 8)))
-        × (IsSession (map line_of lines.now) × AreSingle (map line_of lines.now))) }
+fn is_one_client(alloc: Global, command: &Command, config: &Config, lines: &[ScriptLine]) -> bool
+    ensures { IsTrue result ↔ IsOneClient command.now config.now (map line_of lines.now) }
 {
     are_built(command, config) && is_session(alloc, lines) && are_single(lines)
 }

@@ -5,6 +5,7 @@
 
 mod asking;
 mod backends;
+mod drawing;
 mod plan;
 mod running;
 mod schemas;

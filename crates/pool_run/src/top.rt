@@ -38,11 +38,13 @@ pub fn pool_run<F: Files, O: Sink>(
         (O.taken out.new) (map (λ x. meaning x) shelf.old.items)
         (map (λ x. meaning x) shelf.new.items)) }
 
-    // Status 0, where the script that the file contains is one client's single statements: the
-    // transcript of one store, and each backend, the first boxes, has the rows that it leaves.
+    // Status 0, where the script that the file contains is one client's single statements and takes
+    // no serial number of the schema's tables: the transcript of one store, and each backend, the
+    // first boxes, has the rows that it leaves.
     ensures played { result ≡ 0 → (config schema script text : Sequence ℕ)
         → command_of (map (λ w. w.now) words.now) ≡ Some (Play config schema script false)
-        → F.contents files.old script ≡ content text → SaysOneClient text
+        → F.contents files.old script ≡ content text
+        → SaysOneClient (F.contents files.old schema) text
         → Played (F.contents files.old config) (F.contents files.old schema) text
         (outside (O.fault_count out.old) (O.fault_count out.new) (O.taken out.old) (O.taken out.new)
         (map (λ x. meaning x) shelf.old.items) (map (λ x. meaning x) shelf.new.items)) }

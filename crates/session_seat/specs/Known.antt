@@ -25,31 +25,40 @@ abbrev pub awaits_as : Option Request → Awaits
 awaits_as None = awaiting.Nothing
 awaits_as (Some requests.TakeSnapshot) = awaiting.Begin
 awaits_as (Some (requests.Run checked)) = awaiting.Work
-awaits_as (Some (requests.Lock table)) = awaiting.Work
+awaits_as (Some (requests.Lock table)) = awaiting.Lock table
 awaits_as (Some requests.Commit) = awaiting.End
 awaits_as (Some requests.Rollback) = awaiting.End
 awaits_as (Some (requests.ReadSerial table)) = awaiting.Work
 awaits_as (Some (requests.SetSerial table n)) = awaiting.Work
 
-abbrev pub known_as : Holds → Awaits → Known
-known_as holds awaits = record { holds = holds; awaits = awaits }
+abbrev pub known_as : Holds → Awaits → Option ℕ → Known
+known_as holds awaits locked = record { holds = holds; awaits = awaits; locked = locked }
 
 abbrev pub nothing_known : Known
-nothing_known = known_as holding.Nothing awaiting.Nothing
+nothing_known = known_as holding.Nothing awaiting.Nothing None
 
--- what a store has of a session, as far as it is known
-abbrev pub known_of : Line → Known
-known_of line = known_as (holds_as line.standing) (awaits_as line.waits)
+-- the table that is known to be locked is locked
+abbrev pub IsLockOf : Option ℕ → (ℕ → Bool) → Type 0
+IsLockOf locked locks = (t : ℕ) → locked ≡ Some t → locks t ≡ true
+
+-- what is known of a session is so: its transaction, what it waits for, and the table that it has locked last
+abbrev pub Tells : Known → Line → Type 0
+Tells k line = (k.holds ≡ holds_as line.standing) × ((k.awaits ≡ awaits_as line.waits) × IsLockOf k.locked line.locks)
 
 -- what is known of each session is what the store has of it
 abbrev pub Knows : (ℕ → Known) → Store → Type 0
-Knows all st = (s : ℕ) → all s ≡ known_of (line_of st s)
+Knows all st = (s : ℕ) → Tells (all s) (line_of st s)
 
--- a live transaction may run a statement that takes no lock first
+-- the table whose lock a statement wants is the one that was locked last; or it wants none
+abbrev pub HasLock : Option ℕ → Option ℕ → Type 0
+HasLock locked None = Unit {0}
+HasLock locked (Some table) = locked ≡ Some table
+
+-- a live transaction may run a statement where it has the lock that the statement wants
 abbrev pub MayRun : List TableDef → Known → Checked → Type 0
-MayRun tables k checked = (k.holds ≡ holding.Live) × ((lock_of checked.body ≡ None) × IsRunnable tables checked)
+MayRun tables k checked = (k.holds ≡ holding.Live) × (HasLock k.locked (lock_of checked.body) × IsRunnable tables checked)
 
--- what a session of which this is known may post; what speaks of serial numbers, nobody
+-- what a session of which this is known may post; what reads or sets serial numbers, nobody
 abbrev pub Admits : List TableDef → Known → Request → Type 0
 Admits tables k requests.TakeSnapshot = k.holds ≡ holding.Nothing
 Admits tables k (requests.Run checked) = MayRun tables k checked
@@ -60,17 +69,28 @@ Admits tables k (requests.ReadSerial table) = ⊥
 Admits tables k (requests.SetSerial table n) = ⊥
 
 abbrev pub after_post : Known → Request → Known
-after_post k request = known_as k.holds (awaits_as (Some request))
+after_post k request = known_as k.holds (awaits_as (Some request)) k.locked
 
 -- whether there is a transaction behind an answer that is no refusal
 abbrev pub holds_behind : Holds → Awaits → Holds
 holds_behind holds awaiting.Nothing = holds
 holds_behind holds awaiting.Begin = holding.Live
 holds_behind holds awaiting.Work = holds
+holds_behind holds (awaiting.Lock table) = holds
 holds_behind holds awaiting.End = holding.Nothing
 
+-- and the table that it has locked last
+abbrev pub locked_behind : Option ℕ → Awaits → Option ℕ
+locked_behind locked awaiting.Nothing = locked
+locked_behind locked awaiting.Begin = None
+locked_behind locked awaiting.Work = locked
+locked_behind locked (awaiting.Lock table) = Some table
+locked_behind locked awaiting.End = None
+
 abbrev pub after_answer : Known → Bool → Known
-after_answer k refused = if refused then known_as holding.Dead awaiting.Nothing else known_as (holds_behind k.holds k.awaits) awaiting.Nothing
+after_answer k refused =
+    if refused then known_as holding.Dead awaiting.Nothing None
+    else known_as (holds_behind k.holds k.awaits) awaiting.Nothing (locked_behind k.locked k.awaits)
 
 abbrev pub after_poll : Known → Polled → Known
 after_poll k (polls.Answered answer) = after_answer k (is_refusal answer)

@@ -1,3 +1,6 @@
 pub mod Known
 pub mod Rolls
+pub mod Policy
+pub mod Told
+pub mod Schedule
 pub mod Steps

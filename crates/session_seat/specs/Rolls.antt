@@ -6,7 +6,7 @@ use Rattle.schema.specs.declared.catalogue.TableDef.{TableDef}
 use Rattle.backend_trait.specs.Store.{Store, line_of}
 use Rattle.session_seat.specs.declared.known.Known.{Known}
 use Rattle.session_seat.specs.declared.roll.Roll.{Roll}
-use Rattle.session_seat.specs.Known.{Knows, known_of, nothing_known}
+use Rattle.session_seat.specs.Known.{Knows, nothing_known}
 
 abbrev pub known_in : Roll → ℕ → Known
 known_in roll s = slice_index_or roll.known s nothing_known
@@ -26,7 +26,7 @@ abbrev pub AreTrue : {X : Type 0} → (X → Store) → List TableDef → ℕ �
 AreTrue {X} meaning tables count shelf rolls = (b : ℕ) (x : X) → b < count → slice_get shelf b ≡ Some x → IsTrueOf tables (roll_at rolls b) (meaning x)
 
 IsTrueOf-prop : (tables : List TableDef) (roll : Roll) (st : Store) → IsProp (IsTrueOf tables roll st)
-IsTrueOf-prop tables roll st = ×_prop (Prim.hlevel props) (Π_prop (λ s. Prim.hlevel props))
+IsTrueOf-prop tables roll st = ×_prop (Prim.hlevel props) (Π_prop (λ s. ×_prop (Prim.hlevel props) (×_prop (Prim.hlevel props) (Π_prop (λ t. Π_prop (λ locked. Prim.hlevel props))))))
 
 pub prop : {X : Type 0} (meaning : X → Store) (tables : List TableDef) (count : ℕ) (shelf : List X) (rolls : List Roll) → IsProp (AreTrue meaning tables count shelf rolls)
 prop meaning tables count shelf rolls = Π_prop (λ b. Π_prop (λ x. Π_prop (λ below. Π_prop (λ there. IsTrueOf-prop tables (roll_at rolls b) (meaning x)))))

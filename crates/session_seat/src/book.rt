@@ -1,5 +1,7 @@
 //! What is written of a play: the lines of the part that is played, and the journal.
-ghost use Rattle.std.specs.Prelude.{◌≡◌, ◌≤◌, ◌+◌, OnOk};
+ghost use Rattle.std.specs.Prelude.{◌≡◌, ◌≤◌, ◌+◌, ◌++◌, ◌∷◌, [], IfOk, OnOk, OnErr};
+ghost use Rattle.journal.specs.Events.{spelled_event};
+ghost use Rattle.session_seat.specs.Told.{added};
 
 use crate::fault::StepFault;
 use crate::setting::Setting;
@@ -26,7 +28,8 @@ pub struct Book {
 impl Book {
     /// No lines.
     pub fn new(alloc: Global, journal: Journal) -> Book
-        ensures { result.events ≡ 0 }
+        ensures events { result.events ≡ 0 }
+        ensures journal { result.journal ≡ journal }
     {
         Book {
             lines: List::new(alloc),
@@ -35,17 +38,23 @@ impl Book {
         }
     }
 
-    /// Counts an event, and puts it into the journal.
+    /// Counts an event, and puts its line into the journal.
     pub fn note(&mut self, setting: Setting, event: Event) -> Result<(), StepFault>
+        ensures line { OnOk result (self.new.journal ≡ added self.old.journal (spelled_event
+            setting.entry.tables.now event.entry ++ 10 ∷ [])) }
         ensures counted { OnOk result (self.new.events ≡ self.old.events + 1) }
         ensures events { self.old.events ≤ self.new.events }
+        ensures as_before { OnErr result (self.new.journal ≡ self.old.journal) }
     {
         let line = self.spelled(setting, event)?;
         self.keep(&line)
     }
 
     /// The journal's line of an event; no text where no journal is kept.
-    pub(crate) fn spelled(&self, setting: Setting, event: Event) -> Result<Text, NoMemory> {
+    pub(crate) fn spelled(&self, setting: Setting, event: Event) -> Result<Text, NoMemory>
+        ensures { IfOk result (λ line. added self.now.journal line ≡ added self.now.journal
+            (spelled_event setting.entry.tables.now event.entry ++ 10 ∷ [])) }
+    {
         match &self.journal {
             Journal::Off => Ok(Text::from_string(String::new(setting.alloc))),
             Journal::On(_) => print_event(setting.alloc, setting.tables, event),
@@ -54,8 +63,10 @@ impl Book {
 
     /// Counts an event whose line this is, and puts the line into the journal.
     pub(crate) fn keep(&mut self, line: &Text) -> Result<(), StepFault>
+        ensures line { OnOk result (self.new.journal ≡ added self.old.journal line.now) }
         ensures counted { OnOk result (self.new.events ≡ self.old.events + 1) }
         ensures events { self.old.events ≤ self.new.events }
+        ensures as_before { OnErr result (self.new.journal ≡ self.old.journal) }
     {
         let Some(events) = self.events.checked_add(1) else {
             return Err(StepFault::Stopped);
@@ -73,6 +84,7 @@ impl Book {
     /// Puts bytes into the transcript.
     pub fn say(&mut self, bytes: &[u8]) -> Result<(), NoMemory>
         ensures events { self.new.events ≡ self.old.events }
+        ensures journal { self.new.journal ≡ self.old.journal }
     {
         self.lines.extend_from_slice(bytes)
     }
@@ -80,6 +92,7 @@ impl Book {
     /// Puts the line of a number and a word.
     pub fn say_of(&mut self, alloc: Global, s: SessionId, word: &str) -> Result<(), NoMemory>
         ensures events { self.new.events ≡ self.old.events }
+        ensures journal { self.new.journal ≡ self.old.journal }
     {
         let number = s.number;
         let line = format!(in alloc; "{number} {word}\n")?;

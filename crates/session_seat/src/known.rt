@@ -1,5 +1,5 @@
-//! What is known of a session at a backend: whether it has a transaction there, and what it waits
-//! for.
+//! What is known of a session at a backend: whether it has a transaction there, what it waits for,
+//! and which table it has locked last.
 //!
 //! ```text
 //!             Begin                    Commit, Rollback
@@ -11,11 +11,11 @@
 //!
 //! All transitions are made by `after_answer`, once an answer comes; a post changes what is waited
 //! for alone.
-ghost use Rattle.std.specs.Prelude.{◌≡◌, ◌↔◌, IsTrue, None, Some};
+ghost use Rattle.std.specs.Prelude.{◌≡◌, ◌↔◌, IsTrue, Some};
 ghost use Rattle.backend_trait.specs.Runnable.{IsRunnable};
 ghost use Rattle.backend_trait.specs.Store.{is_refusal};
 ghost use Rattle.classifier.specs.Classes.{lock_of};
-ghost use Rattle.session_seat.specs.Known.{Admits, MayRun, after_answer, after_poll, after_post, awaits_as, nothing_known};
+ghost use Rattle.session_seat.specs.Known.{Admits, HasLock, MayRun, after_answer, after_poll, after_post, awaits_as, holds_behind, locked_behind, nothing_known};
 ghost use Rattle.session_seat.specs.declared.known.Awaits.TheVariants as awaiting;
 ghost use Rattle.session_seat.specs.declared.known.Holds.TheVariants as holding;
 
@@ -38,6 +38,8 @@ pub(crate) enum Awaits {
     Begin,
     /// The transaction goes on.
     Work,
+    /// The transaction goes on with that table locked.
+    Lock(u8),
     /// The transaction ends.
     End,
 }
@@ -47,6 +49,8 @@ pub(crate) enum Awaits {
 pub(crate) struct Known {
     pub(crate) holds: Holds,
     pub(crate) awaits: Awaits,
+    /// The table that its transaction has locked last.
+    pub(crate) locked: Option<u8>,
 }
 
 impl Known {
@@ -57,6 +61,7 @@ impl Known {
         Known {
             holds: Holds::Nothing,
             awaits: Awaits::Nothing,
+            locked: None,
         }
     }
 
@@ -66,7 +71,7 @@ impl Known {
     {
         match self.awaits {
             Awaits::Nothing => true,
-            Awaits::Begin | Awaits::Work | Awaits::End => false,
+            Awaits::Begin | Awaits::Work | Awaits::Lock(_) | Awaits::End => false,
         }
     }
 
@@ -90,12 +95,24 @@ impl Known {
         }
     }
 
-    /// Whether its transaction may run a statement, at a backend of these tables. A statement that
-    /// wants the lock of a table may not.
+    /// Whether it has the lock that is wanted, if one is.
+    fn has_lock(self, wanted: Option<u8>) -> bool
+        ensures { IsTrue result ↔ HasLock self.locked wanted }
+    {
+        match wanted {
+            None => true,
+            Some(table) => match self.locked {
+                Some(locked) => locked == table,
+                None => false,
+            },
+        }
+    }
+
+    /// Whether its transaction may run a statement, at a backend of these tables.
     fn may_run(self, tables: &Catalogue, statement: &Checked) -> bool
         ensures { IsTrue result ↔ MayRun tables.now self statement.now }
     {
-        self.is_live() && lock_of(statement).is_none() && is_runnable(tables, statement)
+        self.is_live() && self.has_lock(lock_of(statement)) && is_runnable(tables, statement)
     }
 
     /// Whether its transaction allows the request, at a backend of these tables. What sets or reads
@@ -127,6 +144,7 @@ impl Known {
         Known {
             holds: self.holds,
             awaits: awaits_of(request),
+            locked: self.locked,
         }
     }
 
@@ -138,16 +156,35 @@ impl Known {
             return Known {
                 holds: Holds::Dead,
                 awaits: Awaits::Nothing,
+                locked: None,
             };
         }
-        let holds = match self.awaits {
+        Known {
+            holds: self.holds_behind(),
+            awaits: Awaits::Nothing,
+            locked: self.locked_behind(),
+        }
+    }
+
+    /// Whether there is a transaction behind an answer that is no refusal.
+    fn holds_behind(self) -> Holds
+        ensures { result ≡ holds_behind self.holds self.awaits }
+    {
+        match self.awaits {
             Awaits::Begin => Holds::Live,
             Awaits::End => Holds::Nothing,
-            Awaits::Nothing | Awaits::Work => self.holds,
-        };
-        Known {
-            holds,
-            awaits: Awaits::Nothing,
+            Awaits::Nothing | Awaits::Work | Awaits::Lock(_) => self.holds,
+        }
+    }
+
+    /// The table that is locked last behind an answer that is no refusal.
+    fn locked_behind(self) -> Option<u8>
+        ensures { result ≡ locked_behind self.locked self.awaits }
+    {
+        match self.awaits {
+            Awaits::Begin | Awaits::End => None,
+            Awaits::Lock(table) => Some(table),
+            Awaits::Nothing | Awaits::Work => self.locked,
         }
     }
 
@@ -168,9 +205,8 @@ fn awaits_of(request: &Request) -> Awaits
 {
     match request {
         Request::TakeSnapshot => Awaits::Begin,
-        Request::Run(_) | Request::Lock(_) | Request::ReadSerial(_) | Request::SetSerial(_, _) => {
-            Awaits::Work
-        }
+        Request::Run(_) | Request::ReadSerial(_) | Request::SetSerial(_, _) => Awaits::Work,
+        Request::Lock(table) => Awaits::Lock(*table),
         Request::Commit | Request::Rollback => Awaits::End,
     }
 }

@@ -11,6 +11,7 @@ mod replies;
 mod roll;
 mod seat;
 mod setting;
+mod start;
 mod step;
 mod talk;
 mod world;

@@ -17,6 +17,7 @@ pub(crate) fn put_output(
     book: &mut Book,
 ) -> Result<(), StepFault>
     ensures events { book.new.events ≡ book.old.events }
+    ensures journal { book.new.journal ≡ book.old.journal }
 {
     put_replies(alloc, s, wire.output(), book)?;
     let count = wire.output().len();
@@ -27,6 +28,7 @@ pub(crate) fn put_output(
 /// Puts the lines of whole messages.
 fn put_replies(alloc: Global, s: SessionId, bytes: &[u8], book: &mut Book) -> Result<(), StepFault>
     ensures events { book.new.events ≡ book.old.events }
+    ensures journal { book.new.journal ≡ book.old.journal }
 {
     let mut rest = bytes;
     'replies: while !rest.is_empty() {
@@ -42,6 +44,7 @@ fn put_replies(alloc: Global, s: SessionId, bytes: &[u8], book: &mut Book) -> Re
 /// Puts the line of the message at the front, and gives its length; 0 where there is no whole one.
 fn put_reply(alloc: Global, s: SessionId, bytes: &[u8], book: &mut Book) -> Result<usize, NoMemory>
     ensures events { book.new.events ≡ book.old.events }
+    ensures journal { book.new.journal ≡ book.old.journal }
 {
     match read_server(alloc, bytes)? {
         Read::Whole { message, length } => {
@@ -73,6 +76,7 @@ fn no_place(alloc: Global) -> Result<ServerMessage, NoMemory> {
 /// Puts the lines by which a client that finds no place is refused.
 pub fn put_no_place(alloc: Global, s: SessionId, book: &mut Book) -> Result<(), NoMemory>
     ensures events { book.new.events ≡ book.old.events }
+    ensures journal { book.new.journal ≡ book.old.journal }
 {
     let message = no_place(alloc)?;
     let line = render(alloc, s, &message)?;

@@ -1,5 +1,7 @@
 //! The seat of a session.
 ghost use Rattle.std.specs.Prelude.{◌≡◌, IfOk, false};
+ghost use Rattle.session_machine.specs.Rules.{new_machine};
+ghost use Rattle.session_engine.specs.Cores.{machine_in};
 ghost use Rattle.session_seat.specs.declared.seat.Turn.TheVariants as turns;
 
 use pool_base::{NoMemory, SessionId};
@@ -31,6 +33,7 @@ impl Seat {
     /// A session whose client has sent nothing yet.
     pub fn new(alloc: Global, s: SessionId, policy: ReadPolicy) -> Result<Seat, NoMemory>
         ensures s { IfOk result (λ seat. seat.s ≡ s) }
+        ensures core { IfOk result (λ seat. machine_in seat.core ≡ new_machine s policy) }
         ensures turn { IfOk result (λ seat. seat.turn ≡ turns.Free) }
         ensures begins { IfOk result (λ seat. seat.over ≡ false) }
     {

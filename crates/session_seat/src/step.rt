@@ -18,16 +18,23 @@ ghost use Rattle.session_machine.specs.Allowed.{MayHappen};
 ghost use Rattle.session_machine.specs.Rules.{next_action};
 ghost use Rattle.session_machine.specs.declared.action.Action.TheVariants as actions;
 ghost use Rattle.session_machine.specs.declared.action.SessionEvent.TheVariants as events;
+ghost use Rattle.snapshot_gate.specs.declared.state.GateState.{GateState};
+ghost use Rattle.session_engine.specs.declared.ask.Ask.TheVariants as asks;
 ghost use Rattle.session_engine.specs.Cores.{machine_in};
-ghost use Rattle.session_engine.specs.Handing.{IsPost, IsReply};
+ghost use Rattle.session_engine.specs.Handing.{IsPost, IsReply, asked_of};
 ghost use Rattle.session_wire.specs.Answers.{MayAnswer};
-ghost use Rattle.session_seat.specs.Steps.{IsDid, Stays};
+ghost use Rattle.session_seat.specs.Policy.{policy_in};
+ghost use Rattle.session_seat.specs.Told.{added, told_of};
+ghost use Rattle.session_seat.specs.Schedule.{led};
+ghost use Rattle.session_seat.specs.Steps.{IsDid, IsStep, at};
 
 use crate::book::Book;
 use crate::fault::StepFault;
+use crate::policy::policy_of;
 use crate::replies::put_output;
 use crate::seat::Seat;
 use crate::setting::Setting;
+use crate::start::is_new;
 use crate::talk::{detach, hear};
 use crate::world::World;
 use backend_trait::{Backend, Request};
@@ -60,10 +67,13 @@ pub fn take_step<B: Backend>(
     book: &mut Book,
 ) -> Result<Step, StepFault>
     requires within { IsWithin setting.tables.now }
-    // An event is counted, so that a run of steps ends. A step without one leaves the machine.
+    // An event takes place where it may, and the journal tells of it; or nothing does.
+    ensures noted { IfOk result (λ step. IsStep setting.entry.tables.now
+        (policy_in setting.entry.config.now) seat.old.s
+        (at world.old.gate.state (machine_in seat.old.core) book.old.journal) step
+        (at world.new.gate.state (machine_in seat.new.core) book.new.journal)) }
+    // An event is counted, so that a run of steps ends.
     ensures did { IfOk result (λ step. IsDid step → book.old.events < book.new.events) }
-    ensures stays { IfOk result (λ step. Stays (machine_in seat.old.core) step (machine_in
-        seat.new.core)) }
     ensures events { book.old.events ≤ book.new.events }
     ensures s { seat.new.s ≡ seat.old.s }
     ensures turn { seat.new.turn ≡ seat.old.turn }
@@ -71,8 +81,7 @@ pub fn take_step<B: Backend>(
     ensures boxes { length world.new.shelf.items ≡ length world.old.shelf.items }
 {
     if seat.over {
-        book.say_of(setting.alloc, seat.s, "closed")?;
-        return Ok(Step::Closed);
+        return close(setting, seat, book);
     }
     match seat.core.asks() {
         Ask::Rest => take_order(setting, seat, book),
@@ -85,12 +94,31 @@ pub fn take_step<B: Backend>(
     }
 }
 
+/// Closes a session that has ended, or has taken no order. Its number has the machine of a start.
+fn close(setting: Setting, seat: &Seat, book: &mut Book) -> Result<Step, StepFault>
+    ensures noted { (gate : GateState) → IfOk result (λ step. IsStep setting.entry.tables.now
+        (policy_in setting.entry.config.now) seat.now.s
+        (at gate (machine_in seat.now.core) book.old.journal) step
+        (at gate (machine_in seat.now.core) book.new.journal)) }
+    ensures events { book.new.events ≡ book.old.events }
+    ensures none { IfOk result (λ step. IsDid step → ⊥) }
+{
+    let policy = policy_of(setting.config);
+    if !is_new(&seat.core, seat.s, &policy) {
+        return Err(StepFault::Stopped);
+    }
+    book.say_of(setting.alloc, seat.s, "closed")?;
+    Ok(Step::Closed)
+}
+
 /// Asks the wire for its client's next order.
 fn take_order(setting: Setting, seat: &mut Seat, book: &mut Book) -> Result<Step, StepFault>
     requires within { IsWithin setting.tables.now }
     ensures did { IfOk result (λ step. IsDid step → book.old.events < book.new.events) }
-    ensures stays { IfOk result (λ step. Stays (machine_in seat.old.core) step (machine_in
-        seat.new.core)) }
+    ensures noted { (gate : GateState) → IfOk result (λ step. IsStep setting.entry.tables.now
+        (policy_in setting.entry.config.now) seat.old.s
+        (at gate (machine_in seat.old.core) book.old.journal) step
+        (at gate (machine_in seat.new.core) book.new.journal)) }
     ensures events { book.old.events ≤ book.new.events }
     ensures s { seat.new.s ≡ seat.old.s }
     ensures turn { seat.new.turn ≡ seat.old.turn }
@@ -103,8 +131,7 @@ fn take_order(setting: Setting, seat: &mut Seat, book: &mut Book) -> Result<Step
         WireStep::NeedOutcome => Err(StepFault::Stopped),
         WireStep::Close { .. } => {
             put_output(setting.alloc, seat.s, &mut seat.wire, book)?;
-            book.say_of(setting.alloc, seat.s, "closed")?;
-            Ok(Step::Closed)
+            close(setting, seat, book)
         }
         WireStep::Order(order) => obey(setting, seat, order, book),
     }
@@ -113,8 +140,10 @@ fn take_order(setting: Setting, seat: &mut Seat, book: &mut Book) -> Result<Step
 /// Takes an order.
 fn obey(setting: Setting, seat: &mut Seat, order: Order, book: &mut Book) -> Result<Step, StepFault>
     ensures did { IfOk result (λ step. IsDid step → book.old.events < book.new.events) }
-    ensures stays { IfOk result (λ step. Stays (machine_in seat.old.core) step (machine_in
-        seat.new.core)) }
+    ensures noted { (gate : GateState) → IfOk result (λ step. IsStep setting.entry.tables.now
+        (policy_in setting.entry.config.now) seat.old.s
+        (at gate (machine_in seat.old.core) book.old.journal) step
+        (at gate (machine_in seat.new.core) book.new.journal)) }
     ensures events { book.old.events ≤ book.new.events }
     ensures s { seat.new.s ≡ seat.old.s }
     ensures turn { seat.new.turn ≡ seat.old.turn }
@@ -135,8 +164,11 @@ fn note_order(
     book: &mut Book,
 ) -> Result<(), StepFault>
     ensures may { OnOk result (MayHappen (machine_in seat.new.core) (events.Ordered order.now)) }
+    ensures line { OnOk result (book.new.journal ≡ added book.old.journal (told_of
+        setting.entry.tables.now seat.old.s (events.Ordered order.now))) }
     ensures did { OnOk result (book.old.events < book.new.events) }
     ensures events { book.old.events ≤ book.new.events }
+    ensures core { seat.new.core ≡ seat.old.core }
     ensures s { seat.new.s ≡ seat.old.s }
     ensures turn { seat.new.turn ≡ seat.old.turn }
 {
@@ -156,9 +188,12 @@ fn call_gate<B: Backend>(
     world: &mut World<B>,
     book: &mut Book,
 ) -> Result<Step, StepFault>
+    requires asked { asked_of (next_action (machine_in seat.old.core)) ≡ asks.Gate call }
     ensures did { IfOk result (λ step. IsDid step → book.old.events < book.new.events) }
-    ensures stays { IfOk result (λ step. Stays (machine_in seat.old.core) step (machine_in
-        seat.new.core)) }
+    ensures noted { IfOk result (λ step. IsStep setting.entry.tables.now
+        (policy_in setting.entry.config.now) seat.old.s
+        (at world.old.gate.state (machine_in seat.old.core) book.old.journal) step
+        (at world.new.gate.state (machine_in seat.new.core) book.new.journal)) }
     ensures events { book.old.events ≤ book.new.events }
     ensures s { seat.new.s ≡ seat.old.s }
     ensures turn { seat.new.turn ≡ seat.old.turn }
@@ -196,9 +231,12 @@ fn post<B: Backend>(
     book: &mut Book,
 ) -> Result<Step, StepFault>
     requires due { IsPost (next_action (machine_in seat.old.core)) }
+    requires asked { asked_of (next_action (machine_in seat.old.core)) ≡ asks.Post b }
     ensures did { IfOk result (λ step. IsDid step → book.old.events < book.new.events) }
-    ensures stays { IfOk result (λ step. Stays (machine_in seat.old.core) step (machine_in
-        seat.new.core)) }
+    ensures noted { IfOk result (λ step. IsStep setting.entry.tables.now
+        (policy_in setting.entry.config.now) seat.old.s
+        (at world.old.gate.state (machine_in seat.old.core) book.old.journal) step
+        (at world.new.gate.state (machine_in seat.new.core) book.new.journal)) }
     ensures events { book.old.events ≤ book.new.events }
     ensures s { seat.new.s ≡ seat.old.s }
     ensures turn { seat.new.turn ≡ seat.old.turn }
@@ -231,9 +269,12 @@ fn send<B: Backend>(
     book: &mut Book,
 ) -> Result<Step, StepFault>
     requires due { IsPost (next_action (machine_in seat.old.core)) }
-    ensures did { IfOk result (λ step. IsDid step → book.old.events < book.new.events) }
-    ensures stays { IfOk result (λ step. Stays (machine_in seat.old.core) step (machine_in
-        seat.new.core)) }
+    ensures is { IfOk result IsDid }
+    ensures leads { OnOk result (machine_in seat.new.core ≡
+        led (machine_in seat.old.core) (events.Posted b request)) }
+    ensures line { OnOk result (book.new.journal ≡ added book.old.journal line.now) }
+    ensures did { OnOk result (book.old.events < book.new.events) }
+    ensures gate { world.new.gate ≡ world.old.gate }
     ensures events { book.old.events ≤ book.new.events }
     ensures s { seat.new.s ≡ seat.old.s }
     ensures turn { seat.new.turn ≡ seat.old.turn }
@@ -250,8 +291,10 @@ fn send<B: Backend>(
 fn reply(setting: Setting, seat: &mut Seat, book: &mut Book) -> Result<Step, StepFault>
     requires due { IsReply (next_action (machine_in seat.old.core)) }
     ensures did { IfOk result (λ step. IsDid step → book.old.events < book.new.events) }
-    ensures stays { IfOk result (λ step. Stays (machine_in seat.old.core) step (machine_in
-        seat.new.core)) }
+    ensures noted { (gate : GateState) → IfOk result (λ step. IsStep setting.entry.tables.now
+        (policy_in setting.entry.config.now) seat.old.s
+        (at gate (machine_in seat.old.core) book.old.journal) step
+        (at gate (machine_in seat.new.core) book.new.journal)) }
     ensures events { book.old.events ≤ book.new.events }
     ensures s { seat.new.s ≡ seat.old.s }
     ensures turn { seat.new.turn ≡ seat.old.turn }
@@ -269,8 +312,11 @@ fn tell(
     status: Status,
     book: &mut Book,
 ) -> Result<(), StepFault>
+    ensures line { OnOk result (book.new.journal ≡ added book.old.journal (told_of
+        setting.entry.tables.now seat.old.s (events.Replied outcome status))) }
     ensures did { OnOk result (book.old.events < book.new.events) }
     ensures events { book.old.events ≤ book.new.events }
+    ensures core { seat.new.core ≡ seat.old.core }
     ensures s { seat.new.s ≡ seat.old.s }
     ensures turn { seat.new.turn ≡ seat.old.turn }
 {
@@ -292,6 +338,8 @@ fn note_reply(
     book: &mut Book,
 ) -> Result<(), StepFault>
     ensures may { OnOk result (MayAnswer outcome.now) }
+    ensures line { OnOk result (book.new.journal ≡ added book.old.journal (told_of
+        setting.entry.tables.now seat.now.s (events.Replied outcome.now status))) }
     ensures did { OnOk result (book.old.events < book.new.events) }
     ensures events { book.old.events ≤ book.new.events }
 {
@@ -312,8 +360,10 @@ fn note_reply(
 fn end(setting: Setting, seat: &mut Seat, book: &mut Book) -> Result<Step, StepFault>
     requires due { next_action (machine_in seat.old.core) ≡ actions.End }
     ensures did { IfOk result (λ step. IsDid step → book.old.events < book.new.events) }
-    ensures stays { IfOk result (λ step. Stays (machine_in seat.old.core) step (machine_in
-        seat.new.core)) }
+    ensures noted { (gate : GateState) → IfOk result (λ step. IsStep setting.entry.tables.now
+        (policy_in setting.entry.config.now) seat.old.s
+        (at gate (machine_in seat.old.core) book.old.journal) step
+        (at gate (machine_in seat.new.core) book.new.journal)) }
     ensures events { book.old.events ≤ book.new.events }
     ensures s { seat.new.s ≡ seat.old.s }
     ensures turn { seat.new.turn ≡ seat.old.turn }

@@ -1,11 +1,17 @@
 //! What a session hears of a backend, and its detachment.
-ghost use Rattle.std.specs.Prelude.{◌≡◌, ◌<◌, ◌≤◌, length, IfOk, OnOk};
+ghost use Rattle.std.specs.Prelude.{◌≡◌, ◌<◌, ◌≤◌, ◌⊎◌, length, IfOk, OnOk};
+ghost use Rattle.snapshot_gate.specs.declared.state.GateState.{GateState};
 ghost use Rattle.session_machine.specs.Allowed.{MayHappen};
 ghost use Rattle.session_machine.specs.Rules.{next_action};
 ghost use Rattle.session_machine.specs.declared.action.SessionEvent.TheVariants as events;
+ghost use Rattle.session_machine.specs.declared.action.Cause.{Cause};
+ghost use Rattle.session_engine.specs.declared.ask.Ask.TheVariants as asks;
 ghost use Rattle.session_engine.specs.Cores.{machine_in};
-ghost use Rattle.session_engine.specs.Handing.{IsDetach};
-ghost use Rattle.session_seat.specs.Steps.{IsDid, Stays};
+ghost use Rattle.session_engine.specs.Handing.{Detaches, IsDetach, asked_of};
+ghost use Rattle.session_seat.specs.Policy.{policy_in};
+ghost use Rattle.session_seat.specs.Told.{added, told_lost, told_of};
+ghost use Rattle.session_seat.specs.Schedule.{led};
+ghost use Rattle.session_seat.specs.Steps.{IsDid, IsStep, at};
 
 use crate::book::Book;
 use crate::fault::StepFault;
@@ -30,8 +36,10 @@ pub(crate) fn hear<B: Backend>(
     book: &mut Book,
 ) -> Result<Step, StepFault>
     ensures did { IfOk result (λ step. IsDid step → book.old.events < book.new.events) }
-    ensures stays { IfOk result (λ step. Stays (machine_in seat.old.core) step (machine_in
-        seat.new.core)) }
+    ensures noted { IfOk result (λ step. IsStep setting.entry.tables.now
+        (policy_in setting.entry.config.now) seat.old.s
+        (at world.old.gate.state (machine_in seat.old.core) book.old.journal) step
+        (at world.new.gate.state (machine_in seat.new.core) book.new.journal)) }
     ensures events { book.old.events ≤ book.new.events }
     ensures s { seat.new.s ≡ seat.old.s }
     ensures turn { seat.new.turn ≡ seat.old.turn }
@@ -63,8 +71,10 @@ fn take(
     book: &mut Book,
 ) -> Result<Step, StepFault>
     ensures did { IfOk result (λ step. IsDid step → book.old.events < book.new.events) }
-    ensures stays { IfOk result (λ step. Stays (machine_in seat.old.core) step (machine_in
-        seat.new.core)) }
+    ensures noted { (gate : GateState) → IfOk result (λ step. IsStep setting.entry.tables.now
+        (policy_in setting.entry.config.now) seat.old.s
+        (at gate (machine_in seat.old.core) book.old.journal) step
+        (at gate (machine_in seat.new.core) book.new.journal)) }
     ensures events { book.old.events ≤ book.new.events }
     ensures s { seat.new.s ≡ seat.old.s }
     ensures turn { seat.new.turn ≡ seat.old.turn }
@@ -86,6 +96,8 @@ fn note_answer(
     book: &mut Book,
 ) -> Result<(), StepFault>
     ensures may { OnOk result (MayHappen (machine_in seat.now.core) (events.Taken b answer.now)) }
+    ensures lines { OnOk result (book.new.journal ≡ added book.old.journal (told_of
+        setting.entry.tables.now seat.now.s (events.Taken b answer.now))) }
     ensures did { OnOk result (book.old.events < book.new.events) }
     ensures events { book.old.events ≤ book.new.events }
 {
@@ -104,7 +116,10 @@ pub fn note_loss<B: Backend>(
     world: &mut World<B>,
     book: &mut Book,
 ) -> Result<(), StepFault>
+    ensures line { OnOk result ((book.new.journal ≡ book.old.journal)
+        ⊎ (book.new.journal ≡ added book.old.journal (told_lost b))) }
     ensures events { book.old.events ≤ book.new.events }
+    ensures gate { world.new.gate ≡ world.old.gate }
     ensures count { world.new.count ≡ world.old.count }
     ensures boxes { length world.new.shelf.items ≡ length world.old.shelf.items }
 {
@@ -123,9 +138,14 @@ fn miss(
     after: u64,
     book: &mut Book,
 ) -> Result<Step, StepFault>
-    ensures did { IfOk result (λ step. IsDid step → book.old.events < book.new.events) }
-    ensures stays { IfOk result (λ step. Stays (machine_in seat.old.core) step (machine_in
-        seat.new.core)) }
+    ensures is { IfOk result IsDid }
+    ensures may { OnOk result (MayHappen (machine_in seat.old.core)
+        (events.Faulted b before after)) }
+    ensures leads { OnOk result (machine_in seat.new.core ≡
+        led (machine_in seat.old.core) (events.Faulted b before after)) }
+    ensures line { OnOk result (book.new.journal ≡ added book.old.journal (told_of
+        setting.entry.tables.now seat.old.s (events.Faulted b before after))) }
+    ensures did { OnOk result (book.old.events < book.new.events) }
     ensures events { book.old.events ≤ book.new.events }
     ensures s { seat.new.s ≡ seat.old.s }
     ensures turn { seat.new.turn ≡ seat.old.turn }
@@ -155,9 +175,12 @@ pub(crate) fn detach<B: Backend>(
     book: &mut Book,
 ) -> Result<Step, StepFault>
     requires due { IsDetach (next_action (machine_in seat.old.core)) }
+    requires asked { asked_of (next_action (machine_in seat.old.core)) ≡ asks.Detach b }
     ensures did { IfOk result (λ step. IsDid step → book.old.events < book.new.events) }
-    ensures stays { IfOk result (λ step. Stays (machine_in seat.old.core) step (machine_in
-        seat.new.core)) }
+    ensures noted { IfOk result (λ step. IsStep setting.entry.tables.now
+        (policy_in setting.entry.config.now) seat.old.s
+        (at world.old.gate.state (machine_in seat.old.core) book.old.journal) step
+        (at world.new.gate.state (machine_in seat.new.core) book.new.journal)) }
     ensures events { book.old.events ≤ book.new.events }
     ensures s { seat.new.s ≡ seat.old.s }
     ensures turn { seat.new.turn ≡ seat.old.turn }
@@ -182,6 +205,9 @@ fn note_detached(
     book: &mut Book,
 ) -> Result<(), StepFault>
     requires due { IsDetach (next_action (machine_in seat.now.core)) }
+    ensures line { OnOk result ((cause : Cause) × Detaches (next_action (machine_in seat.now.core))
+        cause × (book.new.journal ≡ added book.old.journal (told_of setting.entry.tables.now
+        seat.now.s (events.Detached b cause answer)))) }
     ensures did { OnOk result (book.old.events < book.new.events) }
     ensures events { book.old.events ≤ book.new.events }
 {
@@ -203,6 +229,7 @@ fn note_detached(
 /// Puts the line of a detachment.
 fn put_detached(alloc: Global, b: BackendId, cause: &Cause, book: &mut Book) -> Result<(), NoMemory>
     ensures events { book.new.events ≡ book.old.events }
+    ensures journal { book.new.journal ≡ book.old.journal }
 {
     let number = b.number;
     let line = match cause {

@@ -1,6 +1,7 @@
 //! The gate and the backends, which all sessions share.
-ghost use Rattle.std.specs.Prelude.{◌≡◌, ◌↔◌, ◌<◌, ◌≤◌, All, IsTrue, length, take};
+ghost use Rattle.std.specs.Prelude.{◌≡◌, ◌↔◌, ◌<◌, ◌≤◌, All, IfOk, IsTrue, length, take};
 ghost use Rattle.backend_trait.specs.Store.{prepared};
+ghost use Rattle.snapshot_gate.specs.Function.{step, MayCall};
 ghost use Rattle.session_seat.specs.Rolls.{AreTrue, prop};
 
 use crate::calls::may_call;
@@ -57,6 +58,9 @@ impl<B: Backend> World<B> {
 
     /// One call of the gate.
     pub fn call(&mut self, call: GateCall) -> Result<GateAnswer, StepFault>
+        ensures may { IfOk result (λ answer. MayCall self.old.gate.state call) }
+        ensures answered { IfOk result (λ answer. (self.new.gate.state, answer) ≡ step
+            self.old.gate.state call) }
         ensures count { self.new.count ≡ self.old.count }
         ensures boxes { self.new.shelf.items ≡ self.old.shelf.items }
     {
@@ -68,6 +72,7 @@ impl<B: Backend> World<B> {
 
     /// Posts a request of a session.
     pub fn post(&mut self, s: SessionId, b: BackendId, request: Request) -> Result<(), StepFault>
+        ensures gate { self.new.gate ≡ self.old.gate }
         ensures count { self.new.count ≡ self.old.count }
         ensures boxes { length self.new.shelf.items ≡ length self.old.shelf.items }
     {
@@ -82,6 +87,7 @@ impl<B: Backend> World<B> {
 
     /// Looks for the answer to a session's request.
     pub fn poll(&mut self, s: SessionId, b: BackendId) -> Result<Looked, StepFault>
+        ensures gate { self.new.gate ≡ self.old.gate }
         ensures count { self.new.count ≡ self.old.count }
         ensures boxes { length self.new.shelf.items ≡ length self.old.shelf.items }
     {
@@ -102,6 +108,7 @@ impl<B: Backend> World<B> {
 
     /// Loses a backend, where it is one.
     pub fn lose(&mut self, b: BackendId)
+        ensures gate { self.new.gate ≡ self.old.gate }
         ensures count { self.new.count ≡ self.old.count }
         ensures boxes { length self.new.shelf.items ≡ length self.old.shelf.items }
     {
@@ -113,6 +120,7 @@ impl<B: Backend> World<B> {
 
     /// Takes a backend for lost; whether it was not so before.
     pub fn take_for_lost(&mut self, b: BackendId) -> bool
+        ensures gate { self.new.gate ≡ self.old.gate }
         ensures count { self.new.count ≡ self.old.count }
         ensures boxes { self.new.shelf.items ≡ self.old.shelf.items }
     {

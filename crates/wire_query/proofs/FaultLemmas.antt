@@ -1,5 +1,5 @@
 -- What faults of texts and of statements lead to.
-use Rattle.std.proofs.Common.{◌≡◌, ◌≢◌, ℕ, List, Option, Ok, Err, sym, subst, refl}
+use Rattle.std.proofs.Common.{ℕ, List, Option, Ok, Err, sym, subst}
 use Rattle.schema.specs.declared.catalogue.TableDef.{TableDef}
 use Rattle.sql_tree.specs.declared.statement.Statement.{Statement}
 use Rattle.sql_reader.specs.declared.fault.SqlFault.{SqlFault}
@@ -9,13 +9,11 @@ use Rattle.typed_sql.specs.declared.fault.CheckFault.{CheckFault}
 use Rattle.typed_sql.specs.declared.fault.CheckFault.TheVariants as fault
 use Rattle.catalogue.specs.declared.checked.Checked.{Checked}
 use Rattle.catalogue.specs.Checking.{AnswersCheck}
-use Rattle.classifier.specs.declared.class.Class.TheVariants.{SerialInsert}
-use Rattle.classifier.specs.Classes.{class_of}
 use Rattle.wire_session.specs.declared.refusal.Refusal.{Refusal}
 use Rattle.wire_query.specs.declared.checking.Verdict.{Verdict}
 use Rattle.wire_query.specs.declared.checking.Verdict.TheVariants.{Taken, Refused}
 use Rattle.wire_query.specs.Texts.{TellsFault}
-use Rattle.wire_query.specs.Verdicts.{Judges, JudgesTaken, TellsWrong, WhyWrong, faulty, draws}
+use Rattle.wire_query.specs.Verdicts.{Judges, JudgesTaken, TellsWrong, faulty}
 
 -- a text that is read has no fault that is told
 pub no_fault : (f : SqlFault) (all : List Statement) (r : Refusal) → IsReadAs (Err f) all → TellsFault f r → ⊥
@@ -26,11 +24,8 @@ no_fault NoMemory all r h t = t
 
 pub judged_so : (tables : List TableDef) (s : Statement) (kinds : Option (List ℕ)) (checked : Checked) → AnswersCheck tables s kinds (Ok checked)
     → (v : Verdict) → JudgesTaken checked v → Judges tables s kinds v
-judged_so tables s kinds checked answer (Taken given) h = (
-  subst (λ one. AnswersCheck tables s kinds (Ok one)) (sym h.0) answer,
-  subst (λ one. class_of one.body ≢ SerialInsert) (sym h.0) h.1,
-)
-judged_so tables s kinds checked answer (Refused r) h = draws checked answer h.0 h.1
+judged_so tables s kinds checked answer (Taken given) h = subst (λ one. AnswersCheck tables s kinds (Ok one)) (sym h) answer
+judged_so tables s kinds checked answer (Refused r) h = absurd h
 
 pub wrong_so : (tables : List TableDef) (s : Statement) (kinds : Option (List ℕ)) (f : CheckFault) → AnswersCheck tables s kinds (Err f)
     → (v : Verdict) → TellsWrong s f v → Judges tables s kinds v

@@ -1,37 +1,22 @@
 //! A statement against the tables.
-ghost use Rattle.std.specs.Prelude.{◌≡◌, ◌≢◌, IfOk};
-ghost use Rattle.std.specs.Bool.{MatchBool};
+ghost use Rattle.std.specs.Prelude.{◌≡◌, IfOk};
 ghost use Rattle.std.specs.Option.{option_map};
 ghost use Rattle.schema.specs.Grammar.{IsWithin};
-ghost use Rattle.classifier.specs.declared.class.Class.TheVariants.{SerialInsert};
-ghost use Rattle.classifier.specs.Classes.{class_of};
 ghost use Rattle.wire_query.specs.Verdicts.{Judges, JudgesTaken, TellsWrong, is_update};
 ghost use Rattle.catalogue.specs.Checking.{IsChecked};
 
 use catalogue::{Catalogue, CheckFault, Checked, check};
-use classifier::{Class, class_of};
 use pool_base::{Boxed, NoMemory};
 use sql_tree::Statement;
 use std::alloc::Global;
 use wire_reply::of_check;
-use wire_session::{Refusal, not_in_profile};
+use wire_session::Refusal;
 
 /// What the tables say of a statement.
 #[derive(Drop)]
 pub enum Verdict {
     Taken(Boxed<Checked>),
     Refused(Refusal),
-}
-
-/// Whether a statement takes a serial number.
-fn draws(checked: &Checked) -> bool
-    ensures { MatchBool result (class_of checked.now.body ≡ SerialInsert)
-        (class_of checked.now.body ≢ SerialInsert) }
-{
-    match class_of(checked) {
-        Class::SerialInsert => true,
-        Class::Read | Class::LockingRead | Class::Write => false,
-    }
 }
 
 fn updates(statement: &Statement) -> bool
@@ -46,19 +31,11 @@ fn updates(statement: &Statement) -> bool
 fn taken(alloc: Global, checked: Checked) -> Result<Verdict, NoMemory>
     ensures { IfOk result (JudgesTaken checked) }
 {
-    let draws = draws(&checked);
-    let boxed = Boxed::new(alloc, checked)?;
-    if draws {
-        drop(boxed);
-        return Ok(Verdict::Refused(not_in_profile(alloc, "serial")?));
-    }
-    Ok(Verdict::Taken(boxed))
+    Ok(Verdict::Taken(Boxed::new(alloc, checked)?))
 }
 
 /// Checks a SELECT, INSERT, UPDATE or DELETE against the tables; `kinds` are the numbers of the
 /// types of its parameters, and without it no parameter may stand.
-///
-/// House rule: an INSERT that takes a serial number is not taken yet.
 pub fn judged(
     alloc: Global,
     tables: &Catalogue,

@@ -9,4 +9,4 @@ returns-in-Err-clause-ends g c = λ s o e.
 pub returns-in-Ok-clause-ends : goal.returns-in-Ok-clause-ends
 returns-in-Ok-clause-ends g c = λ s o e.
     let tables = c.in-Ok.catalogue in
-    schema_stands tables c.in-Ok.ensures.answer (c.ask_script-lines.ensures.ends tables s o (c.with_tables.ensures.ends s o e))
+    schema_stands tables c.in-Ok.ensures.answer (c.ask_script-lines.ensures.ends s o (c.with_tables.ensures.ends s o e))

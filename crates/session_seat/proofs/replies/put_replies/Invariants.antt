@@ -2,7 +2,10 @@ use Rattle.std.proofs.Common.{◌≡◌, length}
 use Rattle.session_seat.proofs.replies.put_replies.Given as goal
 
 abbrev pub invariant-replies : goal.invariant-replies
-invariant-replies l = l.book.events ≡ l.initial.book.events
+invariant-replies l = record {
+  events : l.book.events ≡ l.initial.book.events;
+  journal : l.book.journal ≡ l.initial.book.journal;
+}
 
 abbrev pub decreases-replies : goal.decreases-replies
 decreases-replies l = length l.rest
