@@ -92,7 +92,7 @@ impl<L: Link> Session<L> {
                 self.work
                     .post(b, options, &mut around.maker, &mut around.gate)
             }
-            Ask::WaitFor(b) => self.work.wait(b, &mut around.gate),
+            Ask::WaitFor(b) => self.work.wait(b, &around.maker, &mut around.gate),
             Ask::Reply => self.talk.reply(config, &mut self.work.core),
             Ask::End => {
                 self.work.core.end();

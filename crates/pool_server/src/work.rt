@@ -24,12 +24,16 @@ const MEMORY_TRIES: u32 = 1000;
 /// server waits 50 milliseconds at most, so that a server that hangs is given up after 30 seconds.
 const POLL_TRIES: u32 = 600;
 
+/// How many looks may come to nothing where another session may be waited for, before the server is
+/// asked whether it answers at all. It is asked again behind as many more: every 20 seconds.
+const QUIET_TRIES: u32 = 400;
+
 /// How long a backend may take.
 #[derive(Clone, Copy, PartialEq, Eq)]
 enum Patience {
     /// The request waits for no other session: a backend that does not answer it hangs.
     Short,
-    /// The request may wait for the rows of another session.
+    /// The request may wait for the rows of another session, as long as the backend answers others.
     Endless,
 }
 
@@ -202,7 +206,12 @@ impl<L: Link> Work<L> {
     }
 
     /// A look for an answer.
-    pub fn wait<G: GatePass>(&mut self, b: BackendId, gate: &mut G) -> Step
+    pub fn wait<M: LinkMaker<L = L>, G: GatePass>(
+        &mut self,
+        b: BackendId,
+        maker: &M,
+        gate: &mut G,
+    ) -> Step
         ensures { IsQuiet result }
     {
         if !self.links.is_awaited(b) {
@@ -212,7 +221,7 @@ impl<L: Link> Work<L> {
             Found::Answered(answer) => self.hear(b, answer),
             Found::Lost(loss) => self.lose(b, loss),
             Found::NotYet => {
-                self.look_around(b, gate);
+                self.look_around(b, maker, gate);
                 Step::Goes
             }
             Found::NoMemory => self.short(gate),
@@ -242,10 +251,23 @@ impl<L: Link> Work<L> {
         Step::Goes
     }
 
-    /// A backend has not answered: one that is attached no more, or hangs, is waited for no longer.
-    fn look_around<G: GatePass>(&mut self, b: BackendId, gate: &mut G) {
+    /// Whether a backend that has not answered so often is waited for in vain.
+    fn hangs<M: LinkMaker<L = L>>(&self, b: BackendId, maker: &M) -> bool {
+        match self.patience {
+            Patience::Short => self.tries >= POLL_TRIES,
+            Patience::Endless => self.tries % QUIET_TRIES == 0 && !maker.answers(b),
+        }
+    }
+
+    /// A backend has not answered: one that hangs, or is attached no more, is waited for no longer.
+    fn look_around<M: LinkMaker<L = L>, G: GatePass>(
+        &mut self,
+        b: BackendId,
+        maker: &M,
+        gate: &mut G,
+    ) {
         self.tries = self.tries.saturating_add(1);
-        if self.patience == Patience::Short && self.tries >= POLL_TRIES {
+        if self.hangs(b, maker) {
             return self.links.give_up(b);
         }
         if let GateAnswer::Seen(view) = gate.step(GateCall::Look) {

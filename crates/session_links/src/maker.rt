@@ -29,6 +29,9 @@ pub trait LinkMaker {
             → Rose (fault_count self.old) (fault_count self.new) }
         ensures later { fault_count self.old ≤ fault_count self.new };
 
+    /// Whether that backend says anything to one who comes anew. No session is begun.
+    fn answers(&self, b: BackendId) -> bool;
+
     /// How many connections failed. The count stands still at `u64::MAX`.
     fn faults(&self) -> u64
         ensures { result ≡ fault_count self.now };

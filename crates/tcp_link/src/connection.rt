@@ -6,7 +6,7 @@ use crate::TcpLink;
 use crate::outbox::{Emptied, Outbox};
 use crate::patient::PatientLink;
 use crate::stream::TcpWire;
-use crate::wire::{Received, Wire};
+use crate::wire::{Received, Sent, Wire};
 use catalogue::Catalogue;
 use pg_messages::Pair;
 use pool_base::{List, NoMemory};
@@ -32,6 +32,12 @@ const START_TRIES: u32 = 200;
 
 /// How many bytes are taken at once while the server lets the session in.
 const PIECE: usize = 1024;
+
+/// A request for encryption. A server answers it by a byte, before it lets anybody in or turns
+/// anybody away.
+///
+/// Shape: `Int32 8`, `Int32 80877103`.
+const ENCRYPTION: [u8; 8] = [0, 0, 0, 8, 4, 210, 22, 47];
 
 /// What became of the beginning of a session.
 #[derive(Drop)]
@@ -119,6 +125,28 @@ fn started<'a>(
         return Ok(Connected::Failed);
     }
     Ok(Connected::Ready(PatientLink::new(alloc, tables, wire, inbox)?))
+}
+
+/// Whether something comes, as long as a server may take at the start.
+fn hears<W: Wire>(wire: &mut W) -> bool {
+    let mut piece = [0u8; 1];
+    for _ in 0..START_TRIES {
+        match wire.receive(&mut piece) {
+            Received::Bytes(_) => return true,
+            Received::NotYet => {}
+            Received::Failed => return false,
+        }
+    }
+    false
+}
+
+/// Whether the server of that address says anything to one who comes anew. It begins no session, so
+/// that a server that has no connection free answers too.
+pub fn answers<R: Net<Stream = TcpStream>>(rt: &R, host: &str, port: u16) -> bool {
+    let Ok(mut wire) = reach(rt, host, port) else {
+        return false;
+    };
+    matches!(wire.send(&ENCRYPTION), Sent::Taken(_)) && hears(&mut wire)
 }
 
 /// Begins a session at the server of that address, with these options, as `user` and `database`.

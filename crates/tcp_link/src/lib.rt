@@ -9,7 +9,7 @@ mod patient;
 mod stream;
 mod wire;
 
-pub use connection::{Connected, connect};
+pub use connection::{Connected, answers, connect};
 pub use patient::PatientLink;
 pub use stream::{TcpSink, TcpSource, TcpWire, split};
 pub use wire::{Received, Sent, Wire};

@@ -10,6 +10,7 @@ mod pass_at;
 mod room;
 mod start;
 mod turned_away;
+mod turns;
 mod why;
 
 pub use accept::{ServeEnd, serve};

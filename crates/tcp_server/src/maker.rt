@@ -11,7 +11,7 @@ use session_links::{Connected, LinkMaker};
 use std::alloc::Global;
 use std::cell::Cell;
 use std::net::{Net, TcpStream};
-use tcp_link::{TcpLink, connect};
+use tcp_link::{TcpLink, answers, connect};
 
 /// Makes links over TCP to the backends of a configuration.
 #[derive(Drop)]
@@ -83,6 +83,13 @@ impl<'a, R: Net<Stream = TcpStream>> LinkMaker for TcpMaker<'a, R> {
             }
             tcp_link::Connected::Failed => self.fail(b),
             tcp_link::Connected::NoMemory => Connected::NoMemory,
+        }
+    }
+
+    fn answers(&self, b: BackendId) -> bool {
+        match self.config.nodes.get(usize::from(b.number)) {
+            Some(node) => answers(self.rt, node.host.as_str(), node.port),
+            None => false,
         }
     }
 

@@ -4,6 +4,7 @@ ghost use Rattle.shared_gate.specs.History.{IsOut, stand_of, copy_of, Out, Idle}
 ghost use Rattle.pool_server.specs.Passes.{stand_in};
 
 use crate::room::{AtGate, OutPass};
+use crate::turns::Turns;
 use pool_base::{GateAnswer, GateCall};
 use pool_server::{Footing, GatePass};
 use shared_gate::{Pass, SharedGate};
@@ -29,6 +30,7 @@ const DOUBLINGS: u32 = 4;
 pub(crate) struct PassAt<'a, R, G: AtGate> {
     rt: &'a R,
     gate: &'a SharedGate,
+    turns: &'a Turns,
     pass: Pass,
     footing: Footing,
     of: PhantomData<G>,
@@ -40,7 +42,12 @@ pub(crate) struct PassAt<'a, R, G: AtGate> {
 
 impl<'a, R, G: AtGate> PassAt<'a, R, G> {
     /// A pass that is out, at its gate.
-    pub fn new(rt: &'a R, gate: &'a SharedGate, pass: OutPass<G>) -> PassAt<'a, R, G>
+    pub fn new(
+        rt: &'a R,
+        gate: &'a SharedGate,
+        turns: &'a Turns,
+        pass: OutPass<G>,
+    ) -> PassAt<'a, R, G>
         requires { gate.now ≡ G.gate }
         ensures { stand_of result.pass.mine ≡ Out }
     {
@@ -48,6 +55,7 @@ impl<'a, R, G: AtGate> PassAt<'a, R, G> {
         PassAt {
             rt,
             gate,
+            turns,
             pass,
             footing: Footing::new(),
             of: PhantomData,
@@ -91,7 +99,9 @@ impl<'a, R: Wait + Clock, G: AtGate> GatePass for PassAt<'a, R, G> {
     }
 
     fn step(&mut self, call: GateCall) -> GateAnswer {
+        self.turns.wait(self.rt, call);
         let answer = self.gate.step(self.rt, &mut self.pass, call);
+        self.turns.heed(self.rt, call, answer);
         self.footing = self.footing.after(call, answer);
         answer
     }

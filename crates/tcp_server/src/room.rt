@@ -1,4 +1,5 @@
-//! What the sessions share: the gate, the seats with their passes, the configuration, the tables.
+//! What the sessions share: the gate with the turns there, the seats with their passes, the
+//! configuration, the tables.
 //!
 //! ```text
 //! free, its pass is there --take--> taken, its pass is with a session --give--> free
@@ -8,6 +9,7 @@ ghost use Rattle.schema.specs.Grammar.{IsWithin};
 ghost use Rattle.shared_gate.specs.History.{IsOut};
 ghost use Rattle.tcp_server.specs.Rooms.{AreMatched};
 
+use crate::turns::Turns;
 use pool_base::{NoMemory, SessionId};
 use pool_config::Config;
 use pool_server::Seats;
@@ -110,6 +112,7 @@ pub(crate) struct Room<G: AtGate> {
     pub gate: SharedGate,
     pub config: Config,
     pub tables: Catalogue,
+    pub turns: Turns,
     places: Mutex<Places<G>>,
     ghost gate_is: { gate ≡ G.gate },
     ghost within: { IsWithin tables },
@@ -135,6 +138,7 @@ impl<G: AtGate> Room<G> {
             gate,
             config,
             tables,
+            turns: Turns::new(),
             places: Mutex::new(places),
         })
     }

@@ -59,7 +59,7 @@ fn serve_client<R: Host, G: AtGate>(
             faults: 0,
         },
         clock: SystemClock::new(*rt),
-        gate: PassAt::new(rt, &room.gate, pass),
+        gate: PassAt::new(rt, &room.gate, &room.turns, pass),
         notices: ErrorLines {
             rt,
             config,

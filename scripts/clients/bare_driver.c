@@ -1,0 +1,86 @@
+/* bare_driver KIND CLIENTS SECONDS PORT..: what the pool asks of its servers, sent without the pool. KIND is read, update or
+   block. It prints how many transactions were committed in a second. */
+#include <libpq-fe.h>
+#include <pthread.h>
+#include <stdio.h>
+#include <stdlib.h>
+#include <string.h>
+#include <time.h>
+
+enum { MOST = 8 };
+static const char *BEGIN = "BEGIN ISOLATION LEVEL REPEATABLE READ; SELECT 1";
+static const char *kind;
+static int servers, seconds;
+static char **ports;
+
+struct client {
+  pthread_t thread;
+  unsigned seed;
+  long committed;
+};
+
+static double now(void) {
+  struct timespec t;
+  clock_gettime(CLOCK_MONOTONIC, &t);
+  return t.tv_sec + t.tv_nsec / 1e9;
+}
+
+/* whether the servers from the first on, so many, take the text, one after another */
+static int all(PGconn **links, int count, const char *text) {
+  int good = 1;
+  for (int at = 0; at < count && good; at++) {
+    PGresult *result = PQexec(links[at], text);
+    ExecStatusType status = PQresultStatus(result);
+    good = status == PGRES_COMMAND_OK || status == PGRES_TUPLES_OK;
+    PQclear(result);
+  }
+  return good;
+}
+
+static int transaction(PGconn **links, unsigned *seed) {
+  char read[80], write[80];
+  int key = rand_r(seed) % 100 + 1;
+  snprintf(read, sizeof read, "SELECT v FROM accounts WHERE id = %d", key);
+  snprintf(write, sizeof write, "UPDATE accounts SET v = v + 1 WHERE id = %d", key);
+  int good = all(links, servers, BEGIN);
+  if (strcmp(kind, "update") != 0) good = good && all(links, 1, read);
+  if (strcmp(kind, "read") != 0) good = good && all(links, servers, write);
+  if (good) return all(links, servers, "COMMIT");
+  for (int at = 0; at < servers; at++) PQclear(PQexec(links[at], "ROLLBACK"));
+  return 0;
+}
+
+static void *run(void *given) {
+  struct client *self = given;
+  PGconn *links[MOST];
+  char place[120];
+  for (int at = 0; at < servers; at++) {
+    snprintf(place, sizeof place, "host=127.0.0.1 port=%s user=pool dbname=pool sslmode=disable gssencmode=disable", ports[at]);
+    links[at] = PQconnectdb(place);
+    if (PQstatus(links[at]) != CONNECTION_OK) exit(1);
+  }
+  for (double end = now() + seconds; now() < end;) self->committed += transaction(links, &self->seed);
+  for (int at = 0; at < servers; at++) PQfinish(links[at]);
+  return NULL;
+}
+
+int main(int count, char **words) {
+  if (count < 5 || count > 4 + MOST) return 1;
+  int clients = atoi(words[2]);
+  kind = words[1];
+  seconds = atoi(words[3]);
+  servers = count - 4;
+  ports = words + 4;
+  struct client *all_clients = calloc(clients, sizeof *all_clients);
+  long committed = 0;
+  for (int at = 0; at < clients; at++) {
+    all_clients[at].seed = at + 1;
+    if (pthread_create(&all_clients[at].thread, NULL, run, &all_clients[at])) return 1;
+  }
+  for (int at = 0; at < clients; at++) {
+    pthread_join(all_clients[at].thread, NULL);
+    committed += all_clients[at].committed;
+  }
+  printf("%ld\n", committed / seconds);
+  return 0;
+}

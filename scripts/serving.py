@@ -1,0 +1,153 @@
+"""Three PostgreSQL servers with one schema, and the pool before them, in a folder that goes again."""
+import os
+import shutil
+import socket
+import subprocess
+import tempfile
+import time
+
+from postgres import USER, Client, Server, free_port
+
+TOP = os.path.dirname(os.path.dirname(os.path.realpath(__file__)))
+SCHEMA = """CREATE TABLE accounts (id int4 PRIMARY KEY, v int4 NOT NULL);
+CREATE TABLE notes (id int4 PRIMARY KEY, body text, made timestamptz DEFAULT now());
+CREATE TABLE tickets (id serial PRIMARY KEY, name text NOT NULL);
+"""
+TABLES = ("accounts", "notes", "tickets")
+DATABASE = "pool"
+ROWS = 100  # accounts at the start
+SEATS = 64
+
+
+class NotServed(Exception):
+    """The pool does not listen."""
+
+
+class Pool:
+    """The pool before servers. Its lines are those that it wrote on standard error."""
+
+    def __init__(self, folder, words, ports, seats=SEATS, schema=SCHEMA):
+        self.port, self.lines_path = free_port(), f"{folder}/lines"
+        config = ["backend_clustering_mode = 'snapshot_isolation'", "listen_addresses = '127.0.0.1'"]
+        config += [f"port = {self.port}", f"num_init_children = {seats}"]
+        for number, port in enumerate(ports):
+            config += [f"backend_hostname{number} = '127.0.0.1'", f"backend_port{number} = {port}"]
+        for name, text in (("config", "\n".join(config) + "\n"), ("schema", schema)):
+            with open(f"{folder}/{name}", "w", encoding="utf-8") as file:
+                file.write(text)
+        with open(self.lines_path, "wb") as lines:
+            self.child = subprocess.Popen(
+                [*words, "serve", f"{folder}/config", f"{folder}/schema"], stdin=subprocess.DEVNULL, stdout=lines, stderr=lines
+            )
+
+    def lines(self):
+        """What the pool has told its operator."""
+        with open(self.lines_path, encoding="utf-8", errors="replace") as file:
+            return file.read().splitlines()
+
+    def wait(self, patience=30):
+        """Waits until the pool listens."""
+        end = time.monotonic() + patience
+        while self.child.poll() is None and time.monotonic() < end:
+            try:
+                socket.create_connection(("127.0.0.1", self.port), 1).close()
+                return
+            except OSError:
+                time.sleep(0.02)
+        raise NotServed(f"the pool ends with {self.child.poll()}: {' / '.join(self.lines()) or 'it says nothing'}")
+
+    def connect(self):
+        """A session of the pool."""
+        return Client(("127.0.0.1", self.port), DATABASE)
+
+    def stop(self):
+        """Ends the pool."""
+        self.child.terminate()
+        self.child.wait()
+
+
+class Servers:
+    """Three servers whose tables are those of the schema."""
+
+    def __init__(self):
+        self.folder = tempfile.mkdtemp(prefix="pool-servers-", dir="/tmp")
+        os.chmod(self.folder, 0o755)
+        self.all = []
+
+    def __enter__(self):
+        try:
+            for number in range(3):
+                server = Server(f"{self.folder}/{number}", free_port(), max_connections=SEATS + 16)
+                self.all.append(server)
+                server.make()
+                server.start()
+            for server in self.all:
+                self.prepare(server)
+        except BaseException:
+            self.__exit__()
+            raise
+        return self
+
+    def __exit__(self, *_):
+        for server in self.all:
+            server.__exit__()
+        shutil.rmtree(self.folder, ignore_errors=True)
+
+    def ports(self):
+        """Where the servers listen."""
+        return [server.port for server in self.all]
+
+    def prepare(self, server):
+        """Gives a new server the database with its tables."""
+        self.at(server, f"CREATE DATABASE {DATABASE}", "postgres")
+        self.at(server, SCHEMA)
+
+    @staticmethod
+    def at(server, text, database=DATABASE):
+        """The answer of one server itself."""
+        client = server.connect(database)
+        try:
+            return client.ask(text)
+        finally:
+            client.close()
+
+    def reset(self):
+        """All servers run, and have the rows of the start."""
+        for server in self.all:
+            if not server.is_running():
+                server.start()
+        for server in self.all:
+            fill = f"INSERT INTO accounts SELECT g, 0 FROM generate_series(1, {ROWS}) g"
+            for text in (f"DROP TABLE IF EXISTS {', '.join(TABLES)}", SCHEMA, fill):
+                code = self.at(server, text).code
+                assert not code, f"{text}: {code}"
+
+    def rows(self, server):
+        """All rows of a server's tables."""
+        return [(table, self.at(server, f"SELECT * FROM {table} ORDER BY id").rows) for table in TABLES]
+
+    def differing(self):
+        """Which running servers have other rows than the first of them."""
+        running = [number for number, server in enumerate(self.all) if server.is_running()]
+        rows = {number: self.rows(self.all[number]) for number in running}
+        return [number for number in running if rows[number] != rows[running[0]]]
+
+    def total(self):
+        """What the accounts come to, at the first server that runs."""
+        server = next(server for server in self.all if server.is_running())
+        return int(self.at(server, "SELECT sum(v) FROM accounts").rows[0][0])
+
+    def pool(self, words, **given):
+        """The pool before the servers, as soon as it listens."""
+        pool = Pool(self.folder, words, self.ports(), **given)
+        try:
+            pool.wait()
+        except BaseException:
+            pool.stop()
+            raise
+        return pool
+
+
+def words_of(pool, program="psql"):
+    """The words that start a program of PostgreSQL as a client of the pool."""
+    return [program, "-h", "127.0.0.1", "-p", str(pool.port), "-U", USER]
