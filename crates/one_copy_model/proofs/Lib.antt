@@ -1,0 +1,6 @@
+pub mod Schedules
+pub mod MarkLaws
+pub mod InvariantLaws
+pub mod FollowingLaws
+pub mod LossLaws
+pub mod ProgramMarks

@@ -1,0 +1,13 @@
+pub mod Numbers
+pub mod Marks
+pub mod SingleRun
+pub mod World
+pub mod Places
+pub mod Deaths
+pub mod Tracking
+pub mod Replies
+pub mod Statement
+pub mod Standing
+pub mod Chains
+pub mod Orders
+pub mod Invariant

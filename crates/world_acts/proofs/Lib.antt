@@ -1,0 +1,13 @@
+pub mod Acting
+pub mod Acts
+pub mod Beginning
+pub mod Committing
+pub mod Effects
+pub mod Holding
+pub mod Inserting
+pub mod Locking
+pub mod Refusals
+pub mod Refusing
+pub mod Resulting
+pub mod Running
+pub mod Settling

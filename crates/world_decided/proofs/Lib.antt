@@ -1,0 +1,10 @@
+pub mod Parting
+pub mod Turning
+pub mod Deciding
+pub mod Same
+pub mod Opens
+pub mod Locks
+pub mod Ends
+pub mod Committed
+pub mod Alone
+pub mod Last

@@ -1,0 +1,4 @@
+pub mod Deaths
+pub mod Dying
+pub mod Leaving
+pub mod Splitting

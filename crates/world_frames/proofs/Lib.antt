@@ -1,0 +1,12 @@
+pub mod Calm
+pub mod Counts
+pub mod Fewer
+pub mod Landing
+pub mod Made
+pub mod Passing
+pub mod Places
+pub mod Quiet
+pub mod Silent
+pub mod Tables
+pub mod Turning
+pub mod Turns

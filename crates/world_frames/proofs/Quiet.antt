@@ -1,0 +1,70 @@
+-- An event of a session that adds nothing to the single run keeps the invariant where it keeps what is of that session.
+use Rattle.std.proofs.Common.{◌≡◌, ℕ, ◌<◌, Bool, true, List, refl, sym, ◌∙◌, arith, inl, inr}
+use Rattle.std.specs.Prelude.{Option, None}
+use Rattle.pool_base.specs.declared.session_id.SessionId.{SessionId}
+use Rattle.schema.specs.declared.catalogue.TableDef.{TableDef}
+use Rattle.backend_trait.specs.declared.answer.Answer.{Answer}
+use Rattle.backend_trait.specs.Rows.{with_at}
+use Rattle.snapshot_gate.specs.declared.state.GateState.{GateState}
+use Rattle.session_machine.specs.declared.machine.Machine.{Machine}
+use Rattle.one_copy_model.specs.declared.deed.Entry.{Entry}
+use Rattle.one_copy_model.specs.Deaths.{stage_at}
+use Rattle.one_copy_model.specs.Tracking.{Told, Tracked, in_commit}
+use Rattle.one_copy_model.specs.Invariant.{Invariant, IsStranger, inserted_in}
+use Rattle.world_frames.specs.Own.{told_by, stand, IsIn, Own}
+use Rattle.world_frames.proofs.Counts.{Moves, counted}
+use Rattle.world_frames.proofs.Silent.{IsSilent, silent}
+use Rattle.world_frames.proofs.Calm.{inserts_none}
+use Rattle.world_frames.proofs.Turning.{FactsOf, facts_of, live_there}
+use Rattle.world_frames.proofs.Landing.{moved_holds, same_mail}
+
+-- a session's number is no stranger's
+pub real : (s : SessionId) → IsStranger s.number → ⊥
+real s (inl zero) = let one = s.from_one in omega (arith, zero, one)
+real s (inr above) = let most = s.up_to_64 in omega (arith, above, most)
+
+pub below_65 : (s : SessionId) → s.number < 65
+below_65 s = let most = s.up_to_64 in omega (arith, most)
+
+pub stands_silent : (tables : List TableDef) → (attached : ℕ) (history : List Entry) (m n : Machine) (mail post : ℕ → Option Answer)
+    → ((b : ℕ) → IsIn attached b → stand n post b ≡ stand m mail b)
+    → ((b : ℕ) → IsIn attached b → inserted_in (stage_at m.point) (told_by m mail b) ≡ inserted_in (stage_at n.point) (told_by n post b))
+    → (in_commit n.session.gate ≡ true → in_commit m.session.gate ≡ true)
+    → IsSilent tables attached history m n mail post
+stands_silent tables attached history m n mail post same inserts commits = record {
+  leaves = λ b at e. same b at ∙ e;
+  stays = λ b at e. sym (same b at) ∙ e;
+  inserts = inserts;
+  commits = λ a u is e. commits e;
+}
+
+pub calm_silent : (tables : List TableDef) → (attached : ℕ) (history : List Entry) (m n : Machine) (mail : ℕ → Option Answer)
+    → ((b : ℕ) → IsIn attached b → stand n mail b ≡ stand m mail b)
+    → stage_at m.point ≡ None → stage_at n.point ≡ None
+    → (in_commit n.session.gate ≡ true → in_commit m.session.gate ≡ true)
+    → IsSilent tables attached history m n mail mail
+calm_silent tables attached history m n mail same before behind commits =
+    stands_silent tables attached history m n mail mail same
+    (λ b at. inserts_none (stage_at m.point) (told_by m mail b) before ∙ sym (inserts_none (stage_at n.point) (told_by n mail b) behind)) commits
+
+module _ (t : Tracked) (h : Invariant t) (s : SessionId) (n : Machine) (next : GateState) (by : Option Told) (did : ℕ → Bool) where
+  abbrev pub quiet_moved : Tracked
+  quiet_moved = record {
+    world = record { tables = t.world.tables; gate = next; machine = with_at t.world.machine s.number n; store = t.world.store; mail = t.world.mail };
+    history = t.history;
+    orders = with_at t.orders s.number by;
+    done = with_at t.done s.number did;
+  }
+
+  pub quiet_holds : next.attached ≡ t.world.gate.attached
+      → Moves t.world.gate next (t.world.machine s.number).session.gate n.session.gate
+      → IsSilent t.world.tables t.world.gate.attached.bits t.history (t.world.machine s.number) n (t.world.mail s.number) (t.world.mail s.number)
+      → Own t.world.tables t.world.gate.attached.bits t.history t.world.store n (t.world.mail s.number) by did (live_there t s.number) s.number
+      → Invariant quiet_moved
+  quiet_holds same moves quiet own =
+      let f : FactsOf t = facts_of t h in
+      same_mail t s.number n next (t.world.mail s.number) t.history by did refl
+      (moved_holds t s.number n next (t.world.mail s.number) t.history by did same own (λ o other. f.own o)
+      (silent t.world.tables t.world.gate.attached.bits t.world.gate.attached.bits t.history t.world.store t.world.machine t.world.mail s.number n (t.world.mail s.number) (λ b at. at) quiet f.shared)
+      (counted t.world.machine s.number n (below_65 s) t.world.gate next moves f.counts)
+      h.alive)

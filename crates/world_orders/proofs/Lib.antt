@@ -1,0 +1,12 @@
+pub mod Answering
+pub mod Committing
+pub mod Leading
+pub mod Leaving
+pub mod OrderLaw
+pub mod Ordering
+pub mod Parting
+pub mod Resting
+pub mod Rolling
+pub mod Starting
+pub mod Stating
+pub mod Written

@@ -1,0 +1,11 @@
+mod Trees
+mod Statements
+mod SameLemmas
+mod GateLemmas
+mod Backends
+mod Sessions
+mod Beginning
+mod Stepping
+mod UnderWay
+pub mod Alike
+pub mod Playing

@@ -1,0 +1,5 @@
+pub mod Amending
+pub mod Read
+pub mod ReadLaw
+pub mod Refusing
+pub mod Rereading

@@ -1,0 +1,4 @@
+pub mod Itself
+pub mod Groups
+pub mod SplitLaw
+pub mod StayLaw
