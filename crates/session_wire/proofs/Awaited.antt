@@ -57,7 +57,7 @@ replies_awaits (replied.Bytes bytes) mid new b h = no_order b (Awaits new) h.0
 replies_awaits (replied.Refused r) mid new b h = ap (λ (v : View). is_some v.due) h.1
 
 leads_awaits : (what : Executed) (portal : List ℕ) (limit : ℤ) (mid new : View) (b : OrderBody) → LeadsTo what portal limit (Some b) mid new → Awaits new
-leads_awaits (executed.Bytes bytes count) portal limit mid new b h = no_order b (Awaits new) h.2
+leads_awaits (executed.Bytes bytes) portal limit mid new b h = no_order b (Awaits new) h.2
 leads_awaits (executed.Order given) portal limit mid new b h = ap (λ (v : View). is_some v.due) h.1
 leads_awaits (executed.Refused r) portal limit mid new b h = ap (λ (v : View). is_some v.due) h.1
 

@@ -52,7 +52,7 @@ replies_holds (replied.Bytes bytes) old new body h = (ap (λ (v : View). v.rest)
 replies_holds (replied.Refused r) old new body h = (ap (λ (v : View). v.rest) h.1, ap (λ (v : View). v.stage) h.1)
 
 leads_holds : (what : Executed) (portal : List ℕ) (limit : ℤ) (old new : View) (body : Option OrderBody) → LeadsTo what portal limit body old new → Holds old new
-leads_holds (executed.Bytes bytes count) portal limit old new body h = (ap (λ (v : View). v.rest) h.3, ap (λ (v : View). v.stage) h.3)
+leads_holds (executed.Bytes bytes) portal limit old new body h = (ap (λ (v : View). v.rest) h.3, ap (λ (v : View). v.stage) h.3)
 leads_holds (executed.Order given) portal limit old new body h = (ap (λ (v : View). v.rest) h.1, ap (λ (v : View). v.stage) h.1)
 leads_holds (executed.Refused r) portal limit old new body h = (ap (λ (v : View). v.rest) h.1, ap (λ (v : View). v.stage) h.1)
 

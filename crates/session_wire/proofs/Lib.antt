@@ -6,3 +6,4 @@ pub mod Hearing
 pub mod Awaited
 pub mod Holds
 pub mod Quiet
+pub mod Saying

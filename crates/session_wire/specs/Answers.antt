@@ -1,6 +1,7 @@
 -- Which outcomes may answer an order, and what a wire does at the outcome of its last order.
-use Rattle.std.specs.Prelude.{◌≡◌, ◌≤◌, ℕ, Bool, true, false, List, [], ◌++◌, Option, Some, None, length, codes, bytes_eq, nat_eq, if◌then◌else◌}
+use Rattle.std.specs.Prelude.{◌≡◌, ◌≤◌, ℕ, ℤ, Bool, true, false, List, [], ◌++◌, Option, Some, None, length, codes, bytes_eq, nat_eq, if◌then◌else◌}
 use Rattle.pool_base.specs.declared.code.Code.{Code}
+use Rattle.pool_config.specs.declared.config.Node.{Node}
 use Rattle.session_orders.specs.declared.outcome.Outcome.{Outcome}
 use Rattle.session_orders.specs.declared.outcome.Outcome.TheVariants as outcome
 use Rattle.session_orders.specs.declared.outcome.Tag.TheVariants as tag
@@ -10,6 +11,9 @@ use Rattle.wire_reply.specs.Codes.{of_backend}
 use Rattle.wire_reply.specs.Replies.{report_bytes, text_with, complete_bytes, ready_bytes}
 use Rattle.wire_reply.specs.Rows.{AreInRange, AreRows}
 use Rattle.wire_reply.specs.Tags.{tag_text}
+use Rattle.wire_session.specs.Kept.{portal_of}
+use Rattle.wire_extended.specs.Giving.{GivesFirst}
+use Rattle.wire_nodes.specs.Nodes.{TellsNodes}
 use Rattle.session_wire.specs.declared.due.Due.{Due}
 use Rattle.session_wire.specs.declared.due.Due.TheVariants as due
 use Rattle.session_wire.specs.Sayings.{Puts, error_bytes, done_bytes, said_bytes}
@@ -36,14 +40,15 @@ Gives last bytes old new = Puts last bytes old.output old.held new.output new.he
 abbrev pub saying_of : List ℕ → Saying → List ℕ → Saying
 saying_of asked saying code = if bytes_eq code asked then saying else of_backend code
 
--- of a statement of a Query: its rows behind their description, its tag, the nodes, or an error
-abbrev pub SaysStatement : List ℕ → Bool → Outcome → View → View → Type 0
-SaysStatement description last (outcome.Rows rows tag) old new =
+-- of a statement of a Query: its rows behind their description, its tag, the configured nodes, or an error
+abbrev pub SaysStatement : List Node → List ℕ → Bool → Outcome → View → View → Type 0
+SaysStatement nodes description last (outcome.Rows rows tag) old new =
     (bytes : List ℕ) × AreRows [] rows bytes × Gives last (description ++ bytes ++ complete_bytes (tag_text tag)) old new
-SaysStatement description last (outcome.Done tag warning) old new = Gives last (done_bytes tag warning) old new
-SaysStatement description last (outcome.Nodes attached) old new = (bytes : List ℕ) × Gives last (bytes ++ complete_bytes (codes "SHOW")) old new
-SaysStatement description last (outcome.Error code name) old new = Gives last (error_bytes code.bytes) old new
-SaysStatement description last outcome.Settled old new = Gives last [] old new
+SaysStatement nodes description last (outcome.Done tag warning) old new = Gives last (done_bytes tag warning) old new
+SaysStatement nodes description last (outcome.Nodes attached) old new =
+    (bytes : List ℕ) × TellsNodes attached.bits nodes bytes × Gives last (bytes ++ complete_bytes (codes "SHOW")) old new
+SaysStatement nodes description last (outcome.Error code name) old new = Gives last (error_bytes code.bytes) old new
+SaysStatement nodes description last outcome.Settled old new = Gives last [] old new
 
 -- of a refusal: the code that was refused has the text of its cause, another that of a backend's
 abbrev pub SaysRefused : Code → Saying → Bool → Outcome → View → View → Type 0
@@ -54,21 +59,22 @@ SaysRefused asked saying last (outcome.Done tag warning) old new = Gives last []
 SaysRefused asked saying last (outcome.Nodes attached) old new = Gives last [] old new
 SaysRefused asked saying last outcome.Settled old new = Gives last [] old new
 
--- of an Execute: what is told of rows is left open here
-abbrev pub SaysExecute : Outcome → View → View → Type 0
-SaysExecute (outcome.Rows rows tag) old new = (bytes : List ℕ) × Gives false bytes old new
-SaysExecute (outcome.Done tag warning) old new = Gives false (done_bytes tag warning) old new
-SaysExecute (outcome.Error code name) old new = Gives false (error_bytes code.bytes) old new
-SaysExecute (outcome.Nodes attached) old new = Gives false [] old new
-SaysExecute outcome.Settled old new = Gives false [] old new
+-- of an Execute with that limit: the first rows of its portal, its tag, or an error
+abbrev pub SaysExecute : List ℕ → ℤ → Outcome → View → View → Type 0
+SaysExecute portal limit (outcome.Rows rows tag) old new = (bytes : List ℕ)
+    × GivesFirst limit portal rows (portal_of portal old.session.portals) old.session.portals new.session.portals bytes × Gives false bytes old new
+SaysExecute portal limit (outcome.Done tag warning) old new = Gives false (done_bytes tag warning) old new
+SaysExecute portal limit (outcome.Error code name) old new = Gives false (error_bytes code.bytes) old new
+SaysExecute portal limit (outcome.Nodes attached) old new = Gives false [] old new
+SaysExecute portal limit outcome.Settled old new = Gives false [] old new
 
--- what is told of an outcome, by what its order was for
-abbrev pub Says : Due → Outcome → ℕ → View → View → Type 0
-Says (due.Statement description last) outcome status old new = SaysStatement description last outcome old new
-Says (due.Refused code saying last) outcome status old new = SaysRefused code saying last outcome old new
-Says (due.Declined code saying) outcome status old new = SaysRefused code saying false outcome old new
-Says (due.Execute portal limit) outcome status old new = SaysExecute outcome old new
-Says due.Settle outcome status old new = (new.output ≡ old.output ++ said_bytes (code_of outcome) old.held ++ ready_bytes status) × (new.held ≡ [])
+-- what is told of an outcome with these nodes configured, by what its order was for
+abbrev pub Says : List Node → Due → Outcome → ℕ → View → View → Type 0
+Says nodes (due.Statement description last) outcome status old new = SaysStatement nodes description last outcome old new
+Says nodes (due.Refused code saying last) outcome status old new = SaysRefused code saying last outcome old new
+Says nodes (due.Declined code saying) outcome status old new = SaysRefused code saying false outcome old new
+Says nodes (due.Execute portal limit) outcome status old new = SaysExecute portal limit outcome old new
+Says nodes due.Settle outcome status old new = (new.output ≡ old.output ++ said_bytes (code_of outcome) old.held ++ ready_bytes status) × (new.held ≡ [])
 
 -- whether messages are dropped up to the next Sync: after an error of an extended message they are
 abbrev pub skips : Due → Outcome → Bool → Bool

@@ -6,19 +6,24 @@ use Rattle.pg_messages.specs.declared.client.ClientMessage.TheVariants as said
 use Rattle.pg_messages.specs.declared.server.ServerMessage.TheVariants.{CloseComplete}
 use Rattle.session_orders.specs.declared.order.OrderBody.{OrderBody}
 use Rattle.wire_reply.specs.Rows.{IsMessage}
+use Rattle.std.specs.Option.{option_map}
+use Rattle.wire_session.specs.declared.portals.Portals.{Portals}
 use Rattle.wire_session.specs.declared.refusal.Refusal.{Refusal}
 use Rattle.wire_session.specs.declared.session.Session.{Session}
+use Rattle.wire_session.specs.Giving.{advanced}
 use Rattle.wire_session.specs.Kept.{portal_of, prepared}
 use Rattle.wire_session.specs.Refusals.{IsNotTaken}
+use Rattle.wire_session.specs.Standing.{PortalStands}
+use Rattle.wire_extended.specs.declared.binding.Binding.{Binding}
 use Rattle.wire_extended.specs.declared.executing.Executed.{Executed}
 use Rattle.wire_extended.specs.declared.executing.Executed.TheVariants as executed
 use Rattle.wire_extended.specs.declared.replied.Replied.{Replied}
 use Rattle.wire_extended.specs.declared.replied.Replied.TheVariants as replied
-use Rattle.wire_extended.specs.Binding.{TellsBind}
+use Rattle.wire_extended.specs.Binding.{LeavesBind, TellsBind}
 use Rattle.wire_extended.specs.Describing.{TellsPortal, TellsStatement}
-use Rattle.wire_extended.specs.Executing.{TellsExecute}
-use Rattle.wire_extended.specs.Keeping.{KeepsStatus}
-use Rattle.wire_extended.specs.Parsing.{TellsParse}
+use Rattle.wire_extended.specs.Executing.{Leaves, TellsExecute}
+use Rattle.wire_extended.specs.Keeping.{Drops}
+use Rattle.wire_extended.specs.Parsing.{LeavesParse, TellsParse}
 use Rattle.session_wire.specs.declared.due.Due.TheVariants as due
 use Rattle.session_wire.specs.Asking.{has_failed}
 use Rattle.session_wire.specs.Hears.{declining, refuse, resumed, told, with_session}
@@ -35,17 +40,21 @@ abbrev pub Replies : Replied → Option OrderBody → View → View → Type 0
 Replies (replied.Bytes bytes) body old new = (body ≡ None) × (new ≡ told bytes old)
 Replies (replied.Refused r) body old new = (body ≡ Some (refuse r)) × (new ≡ declining r old)
 
--- such a reply, behind which other statements and portals may stand under names
-pub record RepliesSo (Tells : Replied → Type 0) (body : Option OrderBody) (old new : View) : Type 0 where
+-- a text is prepared under a name, or refused: its reply, and what it leaves under names
+pub record Parses (tables : List TableDef) (name text kinds : List ℕ) (body : Option OrderBody) (old new : View) : Type 0 where
   pub session : Session
-  pub kept : KeepsStatus old.session session
   pub reply : Replied
-  pub tells : Tells reply
+  pub tells : TellsParse tables kinds (has_failed old) text name old.session.statements reply
+  pub leaves : LeavesParse tables kinds (has_failed old) text name old.session session reply
   pub replies : Replies reply body (with_session session old) new
 
--- a text is prepared under a name, or refused
-abbrev pub Parses : List TableDef → List ℕ → List ℕ → List ℕ → Option OrderBody → View → View → Type 0
-Parses tables name text kinds body old new = RepliesSo (TellsParse tables kinds (has_failed old) text name old.session.statements) body old new
+-- a Bind: its reply, and what it leaves under names
+pub record BindsPortal (b : Binding) (body : Option OrderBody) (old new : View) : Type 0 where
+  pub session : Session
+  pub reply : Replied
+  pub tells : TellsBind old.session b reply
+  pub leaves : LeavesBind old.session b session reply
+  pub replies : Replies reply body (with_session session old) new
 
 -- of a portal, or else of a statement
 abbrev pub TellsDescribe : Bool → Bool → List ℕ → Session → Replied → Type 0
@@ -58,25 +67,27 @@ pub record Describes (portal : Bool) (name : List ℕ) (body : Option OrderBody)
   pub replies : Replies reply body old new
 
 -- a name is dropped, if it is there
-pub record Closes (body : Option OrderBody) (old new : View) : Type 0 where
+pub record Closes (portal : Bool) (name : List ℕ) (body : Option OrderBody) (old new : View) : Type 0 where
   pub session : Session
-  pub kept : KeepsStatus old.session session
+  pub drops : Drops portal name old.session session
   pub bytes : List ℕ
   pub is_reply : IsMessage CloseComplete bytes
   pub done : (body ≡ None) × (new ≡ told bytes (with_session session old))
 
--- what an Execute is told leads to: bytes are told; an order is given, and its outcome awaited; the message is refused
+-- what an Execute is told leads to: bytes are told, and the portal's place stands behind the rows that were given; an order is given, and
+-- its outcome awaited; the message is refused
 abbrev pub LeadsTo : Executed → List ℕ → ℤ → Option OrderBody → View → View → Type 0
-LeadsTo (executed.Bytes bytes count) portal limit body old new =
-    (session : Session) × KeepsStatus old.session session × (body ≡ None) × (new ≡ told bytes (with_session session old))
+LeadsTo (executed.Bytes bytes) portal limit body old new =
+    (portals : Portals) × PortalStands portal (option_map (advanced limit) (portal_of portal old.session.portals)) old.session.portals portals
+    × (body ≡ None) × (new ≡ told bytes (with_session (record old.session { portals = portals }) old))
 LeadsTo (executed.Order given) portal limit body old new = (body ≡ Some given) × (new ≡ record old { due = Some (due.Execute portal limit) })
 LeadsTo (executed.Refused r) portal limit body old new = (body ≡ Some (refuse r)) × (new ≡ declining r old)
 
 pub record Executes (portal : List ℕ) (limit : ℤ) (body : Option OrderBody) (old new : View) : Type 0 where
   pub what : Executed
-  pub tells : TellsExecute (has_failed old) old.session.implicit (portal_of portal old.session.portals) what
+  pub tells : TellsExecute (has_failed old) old.session.implicit limit (portal_of portal old.session.portals) what
   pub session : Session
-  pub kept : KeepsStatus old.session session
+  pub leaves : Leaves what portal old.session session
   pub leads : LeadsTo what portal limit body (with_session session old) new
 
 -- what is named is refused as a Query is
@@ -96,10 +107,10 @@ abbrev pub Heeds : List TableDef → ClientMessage → Option OrderBody → View
 Heeds tables (said.Query text) body old new = QueriesText text body old new
 Heeds tables (said.Parse name text kinds) body old new = Parses tables name text kinds body old new
 Heeds tables (said.Bind portal name formats values results) body old new =
-    RepliesSo (TellsBind old.session (record { portal = portal; name = name; formats = formats; values = values; results = results })) body old new
+    BindsPortal (record { portal = portal; name = name; formats = formats; values = values; results = results }) body old new
 Heeds tables (said.Describe portal name) body old new = Describes portal name body old new
 Heeds tables (said.Execute portal limit) body old new = Executes portal limit body old new
-Heeds tables (said.Close portal name) body old new = Closes body old new
+Heeds tables (said.Close portal name) body old new = Closes portal name body old new
 Heeds tables (said.Other tag) body old new = HeedsOther tag body old new
 Heeds tables said.Flush body old new = Passes body old new
 Heeds tables said.Sync body old new = Passes body old new

@@ -9,7 +9,7 @@ use Rattle.wire_query.specs.declared.reading.Reading.TheVariants as reading
 use Rattle.wire_query.specs.Texts.{IsReading, is_control}
 use Rattle.wire_reply.specs.Rows.{IsMessage}
 use Rattle.wire_session.specs.declared.refusal.Refusal.{Refusal}
-use Rattle.wire_extended.specs.Keeping.{KeepsStatus}
+use Rattle.wire_extended.specs.Keeping.{DropsUnnamed}
 use Rattle.wire_session.specs.Refusals.{IsNotTaken}
 use Rattle.session_wire.specs.Hears.{refuse, refusing}
 use Rattle.session_wire.specs.Shown.{View}
@@ -40,7 +40,7 @@ abbrev pub Queries : Reading → Refusal → List ℕ → Option OrderBody → V
 Queries (reading.Refused r) several empty body old new = IsDropped r body old new
 Queries (reading.Statements all) several empty body old new = Starts (is_mixed all) all several empty body old new
 
--- what is done at a Query with that text: the names that are empty are dropped first
+-- what is done at a Query with that text: the statement and the portal of the empty name are dropped first
 pub record QueriesText (text : List ℕ) (body : Option OrderBody) (old new : View) : Type 0 where
   pub read : Reading
   pub is_read : IsReading text read
@@ -50,5 +50,5 @@ pub record QueriesText (text : List ℕ) (body : Option OrderBody) (old new : Vi
   pub is_empty : IsMessage Empty empty
   pub mid : View
   pub names : mid ≡ record old { session = mid.session }
-  pub kept : KeepsStatus old.session mid.session
+  pub drops : DropsUnnamed old.session mid.session
   pub done : Queries read several empty body mid new

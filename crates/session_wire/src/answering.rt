@@ -1,21 +1,22 @@
 //! What becomes of an order, as bytes for the client.
-ghost use Rattle.std.specs.Prelude.{◌≡◌, ◌≤◌, length, true, None, Some, IfOk, IsTrue, IsOk, OnOk};
+ghost use Rattle.std.specs.Prelude.{◌≡◌, ◌≤◌, length, false, true, None, Some, IfOk, IsTrue, IsOk, OnOk};
 ghost use Rattle.wire_reply.specs.Rows.{AreInRange};
 ghost use Rattle.session_wire.specs.Answers.{MayAnswer, Says, SaysExecute, SaysRefused, SaysStatement, code_of, ends_block, ends_now, implicit_after, saying_of, skips};
 ghost use Rattle.wire_session.specs.Kept.{HasNone};
+ghost use Rattle.session_wire.specs.Hears.{with_session};
 ghost use Rattle.session_wire.specs.Sayings.{HasRoom};
 ghost use Rattle.session_wire.specs.Shown.{shown};
 ghost use Rattle.session_wire.specs.declared.due.Due.TheVariants as dues;
 ghost use Rattle.session_orders.specs.declared.outcome.Outcome.TheVariants.{Rows, Nodes, Error as Failed};
 
 use crate::due::Due;
-use crate::nodes::nodes_bytes;
 use crate::wire::Wire;
 use pool_base::{BackendSet, Code, List, NoMemory, Text};
 use pool_config::Config;
 use session_orders::{Outcome, Tag};
 use sql_eval::Row;
-use wire_extended::{advance, keep_rows, next_rows};
+use wire_extended::first_rows;
+use wire_nodes::nodes_bytes;
 use wire_reply::{Saying, of_backend, rows_bytes};
 
 impl Wire {
@@ -25,7 +26,8 @@ impl Wire {
         requires range { MayAnswer outcome }
         // What is told, by what the order was for.
         ensures says { (due : _) → (shown self.old).due ≡ Some due
-            → OnOk result (Says due outcome status (shown self.old) (shown self.new)) }
+            → OnOk result (Says config.now.nodes due outcome status (shown self.old)
+            (shown self.new)) }
         ensures status { (due : _) → (shown self.old).due ≡ Some due
             → OnOk result ((shown self.new).session.status ≡ status) }
         ensures implicit { (due : _) → (shown self.old).due ≡ Some due
@@ -67,7 +69,8 @@ impl Wire {
         status: u8,
     ) -> Result<(), NoMemory>
         requires range { MayAnswer outcome }
-        ensures says { OnOk result (Says due outcome status (shown self.old) (shown self.new)) }
+        ensures says { OnOk result (Says config.now.nodes due outcome status (shown self.old)
+            (shown self.new)) }
         ensures status { OnOk result (self.new.session.status ≡ status) }
         ensures implicit { OnOk result (self.new.session.implicit
             ≡ implicit_after self.old.session.implicit outcome status) }
@@ -93,6 +96,8 @@ impl Wire {
         ensures skipping { self.new.session.skipping ≡ self.old.session.skipping }
         ensures output { self.new.output ≡ self.old.output }
         ensures due { self.new.due ≡ self.old.due }
+        ensures session { shown self.new ≡ with_session self.new.session (shown self.old) }
+        ensures portals { ends ≡ false → self.new.session.portals ≡ self.old.session.portals }
         ensures ended { ends ≡ true → HasNone self.new.session.portals }
         ensures kept { HasNone self.old.session.portals → HasNone self.new.session.portals }
     {
@@ -111,7 +116,8 @@ impl Wire {
         status: u8,
     ) -> Result<(), NoMemory>
         requires range { MayAnswer outcome }
-        ensures says { OnOk result (Says due outcome status (shown self.old) (shown self.new)) }
+        ensures says { OnOk result (Says config.now.nodes due outcome status (shown self.old)
+            (shown self.new)) }
         ensures skips { OnOk result (self.new.session.skipping
             ≡ skips due outcome self.old.session.skipping) }
         ensures due { self.new.due ≡ self.old.due }
@@ -153,8 +159,8 @@ impl Wire {
         outcome: Outcome,
     ) -> Result<(), NoMemory>
         requires range { MayAnswer outcome }
-        ensures says { OnOk result (SaysStatement description last outcome (shown self.old)
-            (shown self.new)) }
+        ensures says { OnOk result (SaysStatement config.now.nodes description last outcome
+            (shown self.old) (shown self.new)) }
         ensures session { self.new.session ≡ self.old.session }
         ensures due { self.new.due ≡ self.old.due }
         ensures commit { IsTrue (ends_now (dues.Statement description last) outcome)
@@ -195,8 +201,8 @@ impl Wire {
         last: bool,
     ) -> Result<(), NoMemory>
         requires range { AreInRange rows.now }
-        ensures says { OnOk result (SaysStatement description last (Rows rows.now tag)
-            (shown self.old) (shown self.new)) }
+        ensures says { OnOk result ((nodes : _) → SaysStatement nodes description last
+            (Rows rows.now tag) (shown self.old) (shown self.new)) }
         ensures session { self.new.session ≡ self.old.session }
         ensures due { self.new.due ≡ self.old.due }
     {
@@ -209,12 +215,12 @@ impl Wire {
 
     /// The rows of SHOW pool_nodes.
     fn nodes(&mut self, config: &Config, attached: BackendSet, last: bool) -> Result<(), NoMemory>
-        ensures says { OnOk result ((description : _) → SaysStatement description last
-            (Nodes attached) (shown self.old) (shown self.new)) }
+        ensures says { OnOk result ((description : _) → SaysStatement config.now.nodes description
+            last (Nodes attached) (shown self.old) (shown self.new)) }
         ensures session { self.new.session ≡ self.old.session }
         ensures due { self.new.due ≡ self.old.due }
     {
-        let bytes = nodes_bytes(self.alloc, config, attached)?;
+        let bytes = nodes_bytes(self.alloc, config.nodes.as_slice(), attached)?;
         self.output.put(last, bytes.as_slice())?;
         self.output.put_done(self.alloc, last, Tag::Show, None)?;
         Ok(())
@@ -269,7 +275,8 @@ impl Wire {
     /// The outcome of an Execute. After an error messages are dropped up to the next Sync.
     fn executed(&mut self, portal: List<u8>, limit: i32, outcome: Outcome) -> Result<(), NoMemory>
         requires range { MayAnswer outcome }
-        ensures says { OnOk result (SaysExecute outcome (shown self.old) (shown self.new)) }
+        ensures says { OnOk result (SaysExecute portal limit outcome (shown self.old)
+            (shown self.new)) }
         ensures skips { OnOk result (self.new.session.skipping
             ≡ skips (dues.Execute portal limit) outcome self.old.session.skipping) }
         ensures due { self.new.due ≡ self.old.due }
@@ -298,21 +305,16 @@ impl Wire {
         }
     }
 
+    /// The first rows of a portal.
     fn first_rows(&mut self, portal: List<u8>, limit: i32, rows: &[Row]) -> Result<(), NoMemory>
         requires range { AreInRange rows.now }
-        ensures says { OnOk result ((tag : _) → SaysExecute (Rows rows.now tag) (shown self.old)
-            (shown self.new)) }
+        ensures says { OnOk result ((tag : _) → SaysExecute portal limit (Rows rows.now tag)
+            (shown self.old) (shown self.new)) }
         ensures skipping { self.new.session.skipping ≡ self.old.session.skipping }
         ensures due { self.new.due ≡ self.old.due }
     {
-        let alloc = self.alloc;
-        let Some(portal) = self.session.portals.get_mut(portal.as_slice()) else {
-            self.output.put(false, &[])?;
-            return Ok(());
-        };
-        keep_rows(alloc, portal, rows)?;
-        let (bytes, count) = next_rows(alloc, portal, limit)?;
-        advance(portal, count);
+        let name = portal.as_slice();
+        let bytes = first_rows(self.alloc, &mut self.session.portals, name, limit, rows)?;
         self.output.put(false, bytes.as_slice())?;
         Ok(())
     }
@@ -320,8 +322,8 @@ impl Wire {
     /// The outcome of a Settle: the reply that waited, or an error in its place, and the end of the
     /// answer. Outside a block no portal is left.
     fn settled(&mut self, outcome: Outcome, status: u8) -> Result<(), NoMemory>
-        ensures says { OnOk result (Says dues.Settle outcome status (shown self.old)
-            (shown self.new)) }
+        ensures says { OnOk result ((nodes : _) → Says nodes dues.Settle outcome status
+            (shown self.old) (shown self.new)) }
         ensures skipping { self.new.session.skipping ≡ self.old.session.skipping }
         ensures due { self.new.due ≡ self.old.due }
         ensures settled { status ≡ 73 → OnOk result (HasNone self.new.session.portals) }

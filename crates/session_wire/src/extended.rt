@@ -1,10 +1,9 @@
 //! The messages of the extended query.
 ghost use Rattle.std.specs.Prelude.{◌≡◌, Some, IfOk};
 ghost use Rattle.schema.specs.Grammar.{IsWithin};
-ghost use Rattle.wire_extended.specs.Binding.{TellsBind};
-ghost use Rattle.wire_extended.specs.Keeping.{KeepsStatus};
+ghost use Rattle.wire_extended.specs.Keeping.{Drops};
 ghost use Rattle.session_wire.specs.Asking.{has_failed};
-ghost use Rattle.session_wire.specs.Heeds.{Closes, Describes, Executes, LeadsTo, Parses, Replies, RepliesSo, TellsDescribe};
+ghost use Rattle.session_wire.specs.Heeds.{BindsPortal, Closes, Describes, Executes, LeadsTo, Parses, Replies, TellsDescribe};
 ghost use Rattle.session_wire.specs.Hears.{declining, refuse, with_session};
 ghost use Rattle.session_wire.specs.Sayings.{RoomFor};
 ghost use Rattle.session_wire.specs.Shown.{shown};
@@ -16,11 +15,10 @@ use pg_messages::ServerMessage;
 use pool_base::{List, NoMemory};
 use session_orders::OrderBody;
 use wire_extended::{
-    Binding, Executed, Replied, advance, bind_portal, describe_portal, describe_statement, execute,
-    parse,
+    Binding, Executed, Replied, bind_portal, describe_portal, describe_statement, execute, parse,
 };
 use wire_reply::message_bytes;
-use wire_session::{Portals, Refusal};
+use wire_session::Refusal;
 
 impl Wire {
     /// A reply without an order, or the order of a refusal.
@@ -67,8 +65,8 @@ impl Wire {
     }
 
     pub(crate) fn bind(&mut self, binding: Binding) -> Result<Option<OrderBody>, NoMemory>
-        ensures binds { IfOk result (λ body. RepliesSo (TellsBind (shown self.old).session binding)
-            body (shown self.old) (shown self.new)) }
+        ensures binds { IfOk result (λ body. BindsPortal binding body (shown self.old)
+            (shown self.new)) }
         ensures room { IfOk result (λ body. RoomFor body self.new.output) }
     {
         let replied = bind_portal(self.alloc, &mut self.session, binding)?;
@@ -103,7 +101,8 @@ impl Wire {
     }
 
     pub(crate) fn close(&mut self, portal: bool, name: &[u8]) -> Result<Option<OrderBody>, NoMemory>
-        ensures closes { IfOk result (λ body. Closes body (shown self.old) (shown self.new)) }
+        ensures closes { IfOk result (λ body. Closes portal name.now body (shown self.old)
+            (shown self.new)) }
         ensures room { IfOk result (λ body. RoomFor body self.new.output) }
     {
         let reply = message_bytes(self.alloc, &ServerMessage::CloseComplete)?;
@@ -115,7 +114,7 @@ impl Wire {
     /// Drops the portal of a name, or else the statement, if it is there.
     fn drop_name(&mut self, portal: bool, name: &[u8])
         ensures names { shown self.new ≡ with_session self.new.session (shown self.old) }
-        ensures kept { KeepsStatus self.old.session self.new.session }
+        ensures drops { Drops portal name.now self.old.session self.new.session }
     {
         if portal {
             self.session.portals.close(name);
@@ -152,9 +151,9 @@ impl Wire {
             → self.new.output ≡ self.old.output) }
     {
         match executed {
-            Executed::Bytes { bytes, count } => {
+            Executed::Bytes(bytes) => {
                 self.output.bytes.extend_from_slice(bytes.as_slice())?;
-                advance_portal(&mut self.session.portals, portal.as_slice(), count);
+                self.session.portals.advance(portal.as_slice(), limit);
                 Ok(None)
             }
             Executed::Order(body) => {
@@ -163,12 +162,5 @@ impl Wire {
             }
             Executed::Refused(refusal) => Ok(Some(self.decline(refusal))),
         }
-    }
-}
-
-/// So many more rows of a portal were given, if it is there.
-fn advance_portal(portals: &mut Portals, name: &[u8], count: usize) {
-    if let Some(portal) = portals.get_mut(name) {
-        advance(portal, count);
     }
 }

@@ -9,7 +9,6 @@ mod extended;
 mod input;
 mod laws;
 mod messages;
-mod nodes;
 mod output;
 mod queries;
 mod wire;

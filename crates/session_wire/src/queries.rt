@@ -1,7 +1,7 @@
 //! What is done at a Query.
 ghost use Rattle.std.specs.Prelude.{◌≡◌, Some, IfOk, OnOk};
 ghost use Rattle.std.specs.List.{list_any};
-ghost use Rattle.wire_extended.specs.Keeping.{KeepsStatus};
+ghost use Rattle.wire_extended.specs.Keeping.{DropsUnnamed};
 ghost use Rattle.wire_query.specs.Texts.{is_control};
 ghost use Rattle.session_wire.specs.Heeds.{RefusesNamed};
 ghost use Rattle.session_wire.specs.Hears.{refuse, refusing};
@@ -49,7 +49,7 @@ impl Wire {
     /// Drops the statement and the portal of the empty name.
     fn drop_unnamed(&mut self)
         ensures names { shown self.new ≡ record (shown self.old) { session = self.new.session } }
-        ensures kept { KeepsStatus self.old.session self.new.session }
+        ensures drops { DropsUnnamed self.old.session self.new.session }
     {
         self.session.statements.close(&[]);
         self.session.portals.close(&[]);

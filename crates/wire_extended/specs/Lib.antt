@@ -3,4 +3,5 @@ pub mod Naming
 pub mod Binding
 pub mod Parsing
 pub mod Describing
+pub mod Giving
 pub mod Executing

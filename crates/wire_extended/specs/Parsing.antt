@@ -10,10 +10,12 @@ use Rattle.wire_reply.specs.Rows.{IsMessage}
 use Rattle.wire_reply.specs.declared.saying.Saying.TheVariants.{Aborted, SyntaxAt}
 use Rattle.wire_session.specs.declared.refusal.Refusal.{Refusal}
 use Rattle.wire_session.specs.declared.session.Control.TheVariants as control
+use Rattle.wire_session.specs.declared.session.Session.{Session}
 use Rattle.wire_session.specs.declared.statements.Prepared.{Prepared}
 use Rattle.wire_session.specs.declared.statements.Prepared.TheVariants as prepared
 use Rattle.wire_session.specs.declared.statements.Statements.{Statements}
 use Rattle.wire_session.specs.Refusals.{Says, IsNotTaken}
+use Rattle.wire_session.specs.Standing.{StatementStands}
 use Rattle.wire_query.specs.declared.checking.Verdict.TheVariants as verdict
 use Rattle.wire_query.specs.declared.reading.Reading.{Reading}
 use Rattle.wire_query.specs.declared.reading.Reading.TheVariants as reading
@@ -88,3 +90,15 @@ pub record TellsParse (tables : List TableDef) (kinds : List ℕ) (failed : Bool
   pub made : Made
   pub prepares : Prepares tables kinds failed text made
   pub told : TellsName made name s reply
+
+-- what a Parse leaves of what its text is prepared as: it stands under its name, and all else stays; where it is refused nothing changes
+abbrev pub LeavesName : Made → List ℕ → Session → Session → Replied → Type 0
+LeavesName (made.Refused r) name old new reply = new ≡ old
+LeavesName (made.Prepared what) name old new (replied.Bytes bytes) =
+    StatementStands name (Some what) old.statements new.statements × (new ≡ record old { statements = new.statements })
+LeavesName (made.Prepared what) name old new (replied.Refused r) = new ≡ old
+
+pub record LeavesParse (tables : List TableDef) (kinds : List ℕ) (failed : Bool) (text name : List ℕ) (old new : Session) (reply : Replied) : Type 0 where
+  pub made : Made
+  pub prepares : Prepares tables kinds failed text made
+  pub leaves : LeavesName made name old new reply

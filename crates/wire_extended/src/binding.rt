@@ -1,6 +1,9 @@
 //! Bind: a portal of a statement with values.
-ghost use Rattle.std.specs.Prelude.{◌≡◌, ◌↔◌, IfOk, IsTrue, OnOk};
-ghost use Rattle.wire_extended.specs.Binding.{CountsFit, FormatsFit, TellsBind, TellsBound, TellsForm, TellsMade, TellsPut, columns_of, ends_block, kinds_of};
+ghost use Rattle.std.specs.Prelude.{◌≡◌, ◌↔◌, [], IfOk, IsTrue, OnOk};
+ghost use Rattle.checked_sql.specs.Binding.{bound_statement};
+ghost use Rattle.wire_reply.specs.Rows.{IsMessage, description};
+ghost use Rattle.wire_session.specs.declared.portals.PortalState.TheVariants as states;
+ghost use Rattle.wire_extended.specs.Binding.{CountsFit, FormatsFit, LeavesBind, TellsBind, TellsBound, TellsForm, TellsMade, TellsPut, columns_of, ends_block, kinds_of, state_with};
 ghost use Rattle.wire_extended.specs.Keeping.{KeepsStatus};
 ghost use Rattle.wire_extended.specs.Naming.{TellsNewPortal};
 
@@ -66,18 +69,18 @@ pub(crate) fn columns_of(what: &Prepared) -> &[ColumnDesc]
     }
 }
 
-fn with_values(
-    alloc: Global,
-    checked: &Checked,
-    values: &[Value],
-) -> Result<PortalState, NoMemory> {
+fn with_values(alloc: Global, checked: &Checked, values: &[Value]) -> Result<PortalState, NoMemory>
+    ensures { IfOk result (λ state. state ≡ states.Bound (bound_statement values.now checked.now)) }
+{
     match bind(checked, values) {
         Ok(bound) => Ok(PortalState::Bound(Boxed::new(alloc, bound)?)),
         Err(_) => Err(NoMemory),
     }
 }
 
-fn state_of(alloc: Global, what: &Prepared, values: &[Value]) -> Result<PortalState, NoMemory> {
+fn state_of(alloc: Global, what: &Prepared, values: &[Value]) -> Result<PortalState, NoMemory>
+    ensures { IfOk result (λ state. state ≡ state_with values.now what.now) }
+{
     match what {
         Prepared::Empty => Ok(PortalState::Empty),
         Prepared::Control(control) => Ok(PortalState::Control(*control)),
@@ -122,7 +125,10 @@ fn form_refusal(
 }
 
 /// What is said of the code of a value.
-fn value_refusal(alloc: Global, code: Code) -> Result<Refusal, NoMemory> {
+fn value_refusal(alloc: Global, code: Code) -> Result<Refusal, NoMemory>
+    ensures code { IfOk result (λ refusal. refusal.code.bytes ≡ code.bytes) }
+    ensures name { IfOk result (λ refusal. refusal.name ≡ []) }
+{
     let saying = if code.bytes == *b"08P01" {
         Saying::ProtocolViolation
     } else if code.bytes == *b"22P03" {
@@ -181,7 +187,7 @@ fn made_with(
     what: &Prepared,
     binding: &Binding,
 ) -> Result<Made, NoMemory>
-    ensures { IfOk result (TellsPut session.now.portals binding.now) }
+    ensures { IfOk result (TellsPut what.now session.now.portals binding.now) }
 {
     let formats = binding.formats.as_slice();
     match values_of(alloc, kinds_of(what), formats, binding.values.as_slice())? {
@@ -194,7 +200,11 @@ fn made_with(
 }
 
 /// What a portal is put with: its description, and whether it may run in a failed block.
-fn beside(alloc: Global, what: &Prepared, results: &[u16]) -> Result<(List<u8>, bool), NoMemory> {
+fn beside(alloc: Global, what: &Prepared, results: &[u16]) -> Result<(List<u8>, bool), NoMemory>
+    ensures columns { IfOk result (λ both. IsMessage (description results.now
+        (columns_of what.now)) both.0) }
+    ensures ends { IfOk result (λ both. both.1 ≡ ends_block what.now) }
+{
     let description = description_bytes(alloc, columns_of(what), results)?;
     Ok((description, ends_block(what)))
 }
@@ -246,6 +256,7 @@ pub fn bind_portal(
     binding: Binding,
 ) -> Result<Replied, NoMemory>
     ensures tells { IfOk result (TellsBind session.old binding) }
+    ensures leaves { IfOk result (LeavesBind session.old binding session.new) }
     ensures kept { OnOk result (KeepsStatus session.old session.new) }
 {
     match bound_of(alloc, session, &binding)? {

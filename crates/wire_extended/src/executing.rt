@@ -1,28 +1,38 @@
 //! Execute: a portal runs whole once, and its rows are given in pieces.
-ghost use Rattle.std.specs.Prelude.{◌≡◌, [], None, Some, codes, false, nat_eq, IfOk, OnOk};
-ghost use Rattle.pg_messages.specs.declared.server.ServerMessage.TheVariants.{Empty};
+ghost use Rattle.std.specs.Prelude.{◌≡◌, [], None, Some, codes, false, nat_eq, IfOk};
+ghost use Rattle.std.specs.List.{concat};
+ghost use Rattle.std.specs.Option.{option_map};
+ghost use Rattle.pg_messages.specs.declared.server.ServerMessage.TheVariants.{Empty, Suspended};
+ghost use Rattle.pg_messages.specs.Server.{spelling};
+ghost use Rattle.session_orders.specs.declared.order.OrderBody.TheVariants as orders;
+ghost use Rattle.session_orders.specs.declared.outcome.Tag.TheVariants.{Select};
+ghost use Rattle.wire_reply.specs.Replies.{complete_bytes};
 ghost use Rattle.wire_reply.specs.Rows.{AreInRange, IsMessage};
+ghost use Rattle.wire_reply.specs.Tags.{tag_text};
 ghost use Rattle.wire_reply.specs.declared.saying.Saying.TheVariants.{Aborted};
 ghost use Rattle.wire_session.specs.Kept.{portal_of};
 ghost use Rattle.wire_session.specs.Refusals.{Says};
-ghost use Rattle.wire_extended.specs.Keeping.{KeepsStatus};
-ghost use Rattle.wire_extended.specs.Executing.{IsDenied, IsGiven, IsOrdered, Looks, RunsControl, TellsExecute, control_order};
+ghost use Rattle.wire_session.specs.declared.portals.PortalState.TheVariants as states;
+ghost use Rattle.wire_extended.specs.declared.executing.Executed.TheVariants.{Order as Ordered};
+ghost use Rattle.wire_extended.specs.Executing.{IsDenied, IsGiven, Leaves, Looks, RunsControl, TellsExecute, control_order};
+ghost use Rattle.wire_extended.specs.Giving.{EachIsRow, GivesFirst, end_of, given_bytes};
 
 use pg_messages::ServerMessage;
 use pool_base::{Code, List, NoMemory};
 use session_orders::{OrderBody, Tag};
 use sql_eval::Row;
 use std::alloc::Global;
-use std::mem;
 use wire_query::aborted;
-use wire_reply::{Saying, message_bytes, row_bytes, tag_text};
-use wire_session::{Control, Portal, PortalState, Refusal, Session, not_in_profile, refused};
+use wire_reply::{Saying, TAG_ROOM, message_bytes, put_complete, row_bytes, tag_text};
+use wire_session::{
+    Control, Portal, PortalState, Portals, Refusal, Session, bound_of, not_in_profile, refused,
+};
 
 /// What an Execute leads to.
 #[derive(Drop)]
 pub enum Executed {
-    /// These bytes; with them so many rows of the portal are given.
-    Bytes { bytes: List<u8>, count: usize },
+    /// These bytes; the next rows of the portal are given with them, where it has rows.
+    Bytes(List<u8>),
     Order(OrderBody),
     Refused(Refusal),
 }
@@ -43,87 +53,90 @@ fn control_order(control: Control) -> OrderBody
     }
 }
 
-/// How many rows are given: all that are left, or at most the limit where it is above 0.
-fn share(left: usize, limit: i32) -> usize {
-    if limit > 0 && left > limit as usize {
-        limit as usize
-    } else {
-        left
-    }
-}
-
 /// The end of an Execute that gave so many rows.
-fn end_of(alloc: Global, count: usize, limit: i32) -> Result<List<u8>, NoMemory> {
-    if limit > 0 && count == limit as usize {
-        return message_bytes(alloc, &ServerMessage::Suspended);
+fn end_of(alloc: Global, bound: Option<usize>, count: usize) -> Result<List<u8>, NoMemory>
+    ensures { IfOk result (λ bytes. bytes ≡ end_of bound count) }
+{
+    match bound {
+        Some(bound) if bound == count => suspended(alloc),
+        _ => completed(alloc, count),
     }
-    let tag = tag_text(alloc, Tag::Select(count as u64))?;
-    let tag = List::from_slice(alloc, tag.as_bytes())?;
-    message_bytes(alloc, &ServerMessage::Complete { tag })
 }
 
-fn joined(alloc: Global, rows: &[List<u8>], end: List<u8>) -> Result<List<u8>, NoMemory> {
+fn suspended(alloc: Global) -> Result<List<u8>, NoMemory>
+    ensures { IfOk result (λ bytes. bytes ≡ spelling Suspended) }
+{
+    let bytes = message_bytes(alloc, &ServerMessage::Suspended)?;
+    Ok(bytes)
+}
+
+fn completed(alloc: Global, count: usize) -> Result<List<u8>, NoMemory>
+    ensures { IfOk result (λ bytes. bytes ≡ complete_bytes (tag_text (Select count))) }
+{
+    let tag = tag_text(alloc, Tag::Select(count as u64))?;
+    let mut bytes = Vec::new(alloc);
+    bytes.reserve(TAG_ROOM)?;
+    put_complete(&mut bytes, tag.as_str());
+    Ok(List::from_vec(bytes))
+}
+
+fn joined(alloc: Global, rows: &[List<u8>]) -> Result<List<u8>, NoMemory>
+    ensures { IfOk result (λ bytes. bytes ≡ concat rows.now) }
+{
     let mut bytes = List::new(alloc);
     for row in rows {
         bytes.extend_from_slice(row.as_slice())?;
     }
+    Ok(bytes)
+}
+
+/// Rows as messages, and the end of the Execute that gives them.
+fn told_rows(alloc: Global, rows: &[List<u8>], limit: i32) -> Result<List<u8>, NoMemory>
+    ensures { IfOk result (λ bytes. bytes ≡ given_bytes limit rows.now) }
+{
+    let mut bytes = joined(alloc, rows)?;
+    let end = end_of(alloc, bound_of(limit), rows.len())?;
     bytes.append(end)?;
     Ok(bytes)
 }
 
-/// The next rows of a portal that has run, and how many they are.
-fn piece_of(portal: &Portal, limit: i32) -> &[List<u8>] {
-    match &portal.state {
-        PortalState::Rows { rows, given } => {
-            let left = match rows.as_slice().get(*given..) {
-                Some(left) => left,
-                None => &[],
-            };
-            match left.get(..share(left.len(), limit)) {
-                Some(piece) => piece,
-                None => left,
-            }
-        }
-        _ => &[],
-    }
-}
-
-/// The next rows of a portal that has run, the end of the Execute, and how many rows they are.
-pub fn next_rows(
-    alloc: Global,
-    portal: &Portal,
-    limit: i32,
-) -> Result<(List<u8>, usize), NoMemory> {
-    let piece = piece_of(portal, limit);
-    let end = end_of(alloc, piece.len(), limit)?;
-    let bytes = joined(alloc, piece, end)?;
-    Ok((bytes, piece.len()))
-}
-
-/// So many more rows of a portal were given.
-pub fn advance(portal: &mut Portal, count: usize) {
-    if let PortalState::Rows { given, .. } = &mut portal.state {
-        *given = (*given).saturating_add(count);
-    }
-}
-
-/// Keeps the rows that the statement of a portal gave, as messages in the portal's formats.
-pub fn keep_rows(alloc: Global, portal: &mut Portal, rows: &[Row]) -> Result<(), NoMemory>
+/// The rows of a result as messages in these formats.
+fn kept_rows(alloc: Global, rows: &[Row], formats: &[u16]) -> Result<List<List<u8>>, NoMemory>
     requires range { AreInRange rows.now }
+    ensures { IfOk result (EachIsRow formats.now rows.now) }
 {
     let mut kept = List::new(alloc);
     for row in rows {
-        kept.push(row_bytes(alloc, row, portal.formats.as_slice())?)?;
+        kept.push(row_bytes(alloc, row, formats)?)?;
     }
-    let old = mem::replace(
-        &mut portal.state,
-        PortalState::Rows {
-            rows: kept,
-            given: 0,
-        },
-    );
-    drop(old);
-    Ok(())
+    Ok(kept)
+}
+
+/// Keeps the rows that the statement of a portal gave, as messages in the portal's formats, and
+/// gives the first of them. Where the portal is gone nothing is told.
+pub fn first_rows(
+    alloc: Global,
+    portals: &mut Portals,
+    name: &[u8],
+    limit: i32,
+    rows: &[Row],
+) -> Result<List<u8>, NoMemory>
+    requires range { AreInRange rows.now }
+    ensures { IfOk result (GivesFirst limit name.now rows.now (portal_of name.now portals.old)
+        portals.old portals.new) }
+{
+    let kept = match portals.get(name) {
+        None => return Ok(List::new(alloc)),
+        Some(portal) => kept_rows(alloc, rows, portal.formats.as_slice())?,
+    };
+    let state = PortalState::Rows {
+        rows: kept,
+        given: 0,
+    };
+    let bytes = told_rows(alloc, state.next_rows(limit), limit)?;
+    drop(portals.set(name, state));
+    portals.advance(name, limit);
+    Ok(bytes)
 }
 
 fn run_control(alloc: Global, implicit: bool, control: Control) -> Result<Executed, NoMemory>
@@ -146,7 +159,7 @@ fn empty(alloc: Global) -> Result<Executed, NoMemory>
     ensures { IfOk result (IsGiven (IsMessage Empty)) }
 {
     let bytes = message_bytes(alloc, &ServerMessage::Empty)?;
-    Ok(Executed::Bytes { bytes, count: 0 })
+    Ok(Executed::Bytes(bytes))
 }
 
 /// What an Execute of a portal is told, unless its statement is to be ordered.
@@ -156,7 +169,7 @@ fn told(
     implicit: bool,
     limit: i32,
 ) -> Result<Option<Executed>, NoMemory>
-    ensures { IfOk result (Looks false implicit portal.now) }
+    ensures { IfOk result (Looks false implicit limit portal.now) }
 {
     match &portal.state {
         PortalState::Empty => {
@@ -168,8 +181,8 @@ fn told(
             Ok(Some(executed))
         }
         PortalState::Rows { .. } => {
-            let (bytes, count) = next_rows(alloc, portal, limit)?;
-            Ok(Some(Executed::Bytes { bytes, count }))
+            let bytes = told_rows(alloc, portal.state.next_rows(limit), limit)?;
+            Ok(Some(Executed::Bytes(bytes)))
         }
         PortalState::Control(control) => {
             let executed = run_control(alloc, implicit, *control)?;
@@ -187,7 +200,7 @@ fn looked(
     implicit: bool,
     limit: i32,
 ) -> Result<Option<Executed>, NoMemory>
-    ensures { IfOk result (Looks failed implicit portal.now) }
+    ensures { IfOk result (Looks failed implicit limit portal.now) }
 {
     if failed && !portal.ends_block {
         let executed = barred(alloc)?;
@@ -197,27 +210,20 @@ fn looked(
     Ok(told)
 }
 
-/// Lets a portal run that has an order: it has run then.
+/// Lets a portal run that has a statement: it has run then.
 fn run(session: &mut Session, name: &[u8]) -> Executed
-    ensures order { IsOrdered (λ body. Unit {0}) result }
-    ensures kept { KeepsStatus session.old session.new }
+    ensures bound { (checked : _) → option_map (λ portal. portal.state)
+        (portal_of name.now session.old.portals) ≡ Some (states.Bound checked)
+        → result ≡ Ordered (orders.Statement checked) }
+    ensures leaves { Leaves result name.now session.old session.new }
 {
-    let Some(portal) = session.portals.get_mut(name) else {
-        return Executed::Order(OrderBody::Settle);
-    };
-    match mem::replace(&mut portal.state, PortalState::Ran) {
-        PortalState::Bound(checked) => Executed::Order(OrderBody::Statement(checked)),
-        PortalState::Control(control) => Executed::Order(control_order(control)),
+    match session.portals.set(name, PortalState::Ran) {
+        Some(PortalState::Bound(checked)) => Executed::Order(OrderBody::Statement(checked)),
         other => {
             drop(other);
             Executed::Order(OrderBody::Settle)
         }
     }
-}
-
-/// Whether an Execute asks for an order.
-fn is_order(executed: &Executed) -> bool {
-    matches!(executed, Executed::Order(_))
 }
 
 /// Runs a portal, or gives more of its rows.
@@ -233,8 +239,8 @@ pub fn execute(
     limit: i32,
 ) -> Result<Executed, NoMemory>
     ensures tells { IfOk result (TellsExecute (nat_eq session.old.status 69) session.old.implicit
-        (portal_of name.now session.old.portals)) }
-    ensures kept { OnOk result (KeepsStatus session.old session.new) }
+        limit (portal_of name.now session.old.portals)) }
+    ensures leaves { IfOk result (λ executed. Leaves executed name.now session.old session.new) }
 {
     let failed = session.status == b'E';
     let implicit = session.implicit;
@@ -253,16 +259,18 @@ pub fn execute(
 /// What an Execute is told; where that is an order, the portal has run.
 fn ran(session: &mut Session, name: &[u8], looked: Option<Executed>) -> Executed
     ensures some { (executed : _) → looked ≡ Some executed → result ≡ executed }
-    ensures none { looked ≡ None → IsOrdered (λ body. Unit {0}) result }
-    ensures kept { KeepsStatus session.old session.new }
+    ensures bound { (checked : _) → looked ≡ None → option_map (λ portal. portal.state)
+        (portal_of name.now session.old.portals) ≡ Some (states.Bound checked)
+        → result ≡ Ordered (orders.Statement checked) }
+    ensures leaves { Leaves result name.now session.old session.new }
 {
     match looked {
-        Some(executed) => {
-            if is_order(&executed) {
-                drop(run(session, name));
-            }
-            executed
+        Some(Executed::Order(body)) => {
+            drop(session.portals.set(name, PortalState::Ran));
+            Executed::Order(body)
         }
+        Some(Executed::Bytes(bytes)) => Executed::Bytes(bytes),
+        Some(Executed::Refused(refusal)) => Executed::Refused(refusal),
         None => run(session, name),
     }
 }

@@ -12,6 +12,6 @@ mod values;
 
 pub use binding::{Binding, bind_portal};
 pub use describing::{describe_portal, describe_statement};
-pub use executing::{Executed, advance, execute, keep_rows, next_rows};
+pub use executing::{Executed, execute, first_rows};
 pub use parsing::parse;
 pub use replied::Replied;

@@ -5,8 +5,9 @@ ghost use Rattle.catalogue.specs.Checking.{IsChecked};
 ghost use Rattle.wire_reply.specs.declared.saying.Saying.TheVariants.{Aborted};
 ghost use Rattle.wire_session.specs.Refusals.{IsNotTaken, Says};
 ghost use Rattle.wire_extended.specs.Keeping.{KeepsStatus};
-ghost use Rattle.wire_extended.specs.Parsing.{IsRefused, IsSeveral, Prepares, PreparesOne, PreparesRead, PreparesWork, TellsName, TellsNamed, TellsParse};
+ghost use Rattle.wire_extended.specs.Parsing.{IsRefused, IsSeveral, LeavesName, LeavesParse, Prepares, PreparesOne, PreparesRead, PreparesWork, TellsName, TellsNamed, TellsParse};
 ghost use Rattle.wire_extended.specs.Naming.{TellsNew};
+ghost use Rattle.wire_extended.specs.declared.parsing.Made.TheVariants as made;
 
 use crate::naming::{Standing, refusal_of};
 use crate::replied::Replied;
@@ -145,6 +146,7 @@ fn name_it(
     what: Prepared,
 ) -> Result<Replied, NoMemory>
     ensures tells { IfOk result (TellsNamed name session.old.statements) }
+    ensures leaves { IfOk result (LeavesName (made.Prepared what) name session.old session.new) }
     ensures kept { OnOk result (KeepsStatus session.old session.new) }
 {
     match name_refusal(alloc, session, name.as_slice()) {
@@ -171,6 +173,7 @@ fn told(
     made: Made,
 ) -> Result<Replied, NoMemory>
     ensures tells { IfOk result (TellsName made name session.old.statements) }
+    ensures leaves { IfOk result (LeavesName made name session.old session.new) }
     ensures kept { OnOk result (KeepsStatus session.old session.new) }
 {
     match made {
@@ -199,6 +202,8 @@ pub fn parse(
     requires within { IsWithin tables.now }
     ensures tells { IfOk result (TellsParse tables.now kinds.now (nat_eq session.old.status 69)
         text.now name session.old.statements) }
+    ensures leaves { IfOk result (LeavesParse tables.now kinds.now (nat_eq session.old.status 69)
+        text.now name session.old session.new) }
     ensures kept { OnOk result (KeepsStatus session.old session.new) }
 {
     let failed = session.status == b'E';

@@ -1,7 +1,8 @@
 //! The values of a Bind.
 ghost use Rattle.std.specs.Prelude.{◌≡◌, ◌↔◌, All, get_or, IfOk, IsTrue};
 ghost use Rattle.pg_values.specs.declared.col_type.ColType.TheVariants.{Text as TextKind};
-ghost use Rattle.wire_extended.specs.Binding.{IsFormat, IsRead, MayStand, TellsRead};
+ghost use Rattle.pg_values.specs.Answers.{IfRefused};
+ghost use Rattle.wire_extended.specs.Binding.{IsFormat, IsRead, IsUnread, MayStand, TellsRead};
 
 use pg_values::{ColType, Value, ValueFault, from_binary, from_text};
 use pool_base::{Code, List, NoMemory};
@@ -21,7 +22,8 @@ fn value_of(
     format: u16,
     bytes: &Option<List<u8>>,
 ) -> Result<Value, ValueFault>
-    ensures { IfOk result (IsRead kind format bytes.now) }
+    ensures read { IfOk result (IsRead kind format bytes.now) }
+    ensures unread { IfRefused result (IsUnread kind format bytes.now) }
 {
     match bytes {
         None => Ok(Value::Null),

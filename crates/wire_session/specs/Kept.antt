@@ -6,10 +6,14 @@ use Rattle.wire_session.specs.declared.statements.Entry.{Entry}
 use Rattle.wire_session.specs.declared.statements.Prepared.{Prepared}
 use Rattle.wire_session.specs.declared.statements.Statements.{Statements}
 
+-- what the first of a name stands for
+abbrev pub first_of : {X Y : Type 0} → (X → List ℕ) → (X → Y) → List ℕ → List X → Option Y
+first_of name_of what name [] = None
+first_of name_of what name (x ∷ xs) = if bytes_eq (name_of x) name then Some (what x) else first_of name_of what name xs
+
 -- what the first entry of a name stands for
 abbrev pub named : List ℕ → List Entry → Option Prepared
-named name [] = None
-named name (entry ∷ entries) = if bytes_eq entry.name name then Some entry.what else named name entries
+named name entries = first_of (λ (entry : Entry). entry.name) (λ (entry : Entry). entry.what) name entries
 
 -- what a name stands for
 abbrev pub prepared : List ℕ → Statements → Option Prepared
@@ -17,8 +21,7 @@ prepared name s = named name s.entries.items
 
 -- the first portal of a name
 abbrev pub portal_in : List ℕ → List Portal → Option Portal
-portal_in name [] = None
-portal_in name (portal ∷ portals) = if bytes_eq portal.name name then Some portal else portal_in name portals
+portal_in name portals = first_of (λ (portal : Portal). portal.name) (λ (portal : Portal). portal) name portals
 
 -- the portal of a name
 abbrev pub portal_of : List ℕ → Portals → Option Portal

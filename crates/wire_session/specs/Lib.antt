@@ -1,2 +1,4 @@
 pub mod Refusals
 pub mod Kept
+pub mod Standing
+pub mod Giving

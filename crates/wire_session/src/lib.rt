@@ -7,7 +7,7 @@ mod refusal;
 mod session;
 mod statements;
 
-pub use portals::{PORTAL_LIMIT, Portal, PortalState, Portals};
+pub use portals::{PORTAL_LIMIT, Portal, PortalState, Portals, bound_of};
 pub use refusal::{Refusal, limit_passed, not_in_profile, refused};
 pub use session::{Control, Session};
 pub use statements::{Prepared, STATEMENT_NAME_LIMIT, Statements};

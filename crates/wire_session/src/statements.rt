@@ -1,7 +1,8 @@
 //! Prepared statements by their names.
-ghost use Rattle.std.specs.Prelude.{◌≡◌, vec_len};
+ghost use Rattle.std.specs.Prelude.{◌≡◌, None, OnOk, Some, vec_len};
 ghost use Rattle.std.specs.Option.{option_map};
 ghost use Rattle.wire_session.specs.Kept.{prepared};
+ghost use Rattle.wire_session.specs.Standing.{StatementStands};
 
 use crate::session::Control;
 use catalogue::Checked;
@@ -65,12 +66,16 @@ impl Statements {
     }
 
     /// Drops a name, if it is there.
-    pub fn close(&mut self, name: &[u8]) {
+    pub fn close(&mut self, name: &[u8])
+        ensures { StatementStands name.now None self.old self.new }
+    {
         self.entries.retain(|entry| entry.name.as_slice() != name);
     }
 
     /// Lets a name stand for a statement, also where it stood for another.
-    pub fn put(&mut self, name: List<u8>, what: Prepared) -> Result<(), NoMemory> {
+    pub fn put(&mut self, name: List<u8>, what: Prepared) -> Result<(), NoMemory>
+        ensures { OnOk result (StatementStands name (Some what) self.old self.new) }
+    {
         self.entries.reserve(1)?;
         self.close(name.as_slice());
         self.entries.push(Entry { name, what })?;

@@ -13,6 +13,6 @@ returns-clause-queries c = record {
   is_empty = c.in_ok-empty.ensures;
   mid = shown c.drop_unnamed.new.self;
   names = c.drop_unnamed.ensures.names;
-  kept = c.drop_unnamed.ensures.kept;
+  drops = c.drop_unnamed.ensures.drops;
   done = c.in_ok-body.ensures.queries;
 }
