@@ -9,3 +9,4 @@ pub mod ScriptNumbers
 pub mod ScriptReading
 pub mod DrawingLemmas
 pub mod ServingLemmas
+pub mod PlayedOut

@@ -2,3 +2,4 @@ pub mod Walking
 pub mod Placing
 pub mod Telling
 pub mod Fed
+pub mod Going

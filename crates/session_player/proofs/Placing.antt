@@ -1,5 +1,5 @@
 -- Slots at their places.
-use Rattle.std.proofs.Common.{◌≡◌, ℕ, suc, zero, ◌+◌, ◌<◌, List, [], ◌∷◌, ◌++◌, length, get_or, set, sym, subst, arith}
+use Rattle.std.proofs.Common.{◌≡◌, ℕ, suc, zero, ◌+◌, ◌<◌, List, [], ◌∷◌, ◌++◌, length, get_or, set, refl, sym, subst, arith}
 use Rattle.session_player.specs.declared.slots.Slot.{Slot}
 use Rattle.session_player.specs.declared.slots.Slot.TheVariants.{Free}
 use Rattle.session_player.specs.Slots.{IsPlaced, ArePlaced}
@@ -34,3 +34,10 @@ placed_push before (first ∷ slots) are = (are.0, placed_push (suc before) slot
 
 pub placed_free : (slots : List Slot) → ArePlaced 0 slots → ArePlaced 0 (slots ++ Free ∷ [])
 placed_free slots are = placed_push 0 slots are
+
+-- one more slot is free
+pub pushed : (xs : List Slot) (i : ℕ) → get_or (xs ++ Free ∷ []) i Free ≡ get_or xs i Free
+pushed [] zero = refl
+pushed [] (suc i) = refl
+pushed (x ∷ xs) zero = refl
+pushed (x ∷ xs) (suc i) = pushed xs i

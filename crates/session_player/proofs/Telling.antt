@@ -1,5 +1,5 @@
 -- What a sink has taken of a play, one part after another.
-use Rattle.std.proofs.Common.{◌≡◌, ℕ, List, [], ◌∷◌, ◌++◌, refl, sym, subst}
+use Rattle.std.proofs.Common.{ℕ, List, [], ◌∷◌, ◌++◌, refl, sym, subst}
 use Rattle.std.specs.Prelude.{Option}
 use Rattle.pool_base.specs.Outside.{Appends, AppendsFront}
 use Rattle.pool_base.proofs.Sinking.{appends_nothing, appends_on}

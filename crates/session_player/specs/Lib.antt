@@ -6,3 +6,4 @@ pub mod Marks
 pub mod Slots
 pub mod Turns
 pub mod Written
+pub mod Journals

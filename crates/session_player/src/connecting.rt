@@ -1,8 +1,16 @@
 //! What a line does, before the rounds behind it.
-ghost use Rattle.std.specs.Prelude.{◌≡◌, ℕ, length, IfOk};
+ghost use Rattle.std.specs.Prelude.{◌≡◌, ℕ, length, IfOk, OnOk};
+ghost use Rattle.pool_base.specs.declared.session_id.SessionId.{SessionId};
 ghost use Rattle.pgproto.specs.Line.{line_of};
 ghost use Rattle.pgproto.specs.Spelling.{IsOfGrammar};
+ghost use Rattle.session_machine.specs.declared.machine.Machine.{Machine};
+ghost use Rattle.session_machine.specs.declared.machine.ReadPolicy.{ReadPolicy};
+ghost use Rattle.session_machine.specs.Rules.{new_machine};
+ghost use Rattle.session_engine.specs.Cores.{machine_in};
+ghost use Rattle.session_seat.specs.Policy.{policy_in};
+ghost use Rattle.session_seat.specs.Schedule.{state};
 ghost use Rattle.session_player.specs.Deeds.{CanBeSent};
+ghost use Rattle.session_player.specs.Journals.{Went, machine_in_slot, machines_of};
 ghost use Rattle.session_player.specs.Slots.{IsPlaced};
 
 use crate::deed::Wish;
@@ -38,7 +46,11 @@ pub(crate) fn connect(
     cut: Cut,
     seats: &mut Seats,
     book: &mut Book,
-) -> Result<Then, StepFault> {
+) -> Result<Then, StepFault>
+    ensures machines { machines_of (policy_in setting.entry.config.now) seats.new.slots.items
+        ≡ machines_of (policy_in setting.entry.config.now) seats.old.slots.items }
+    ensures journal { book.new.journal ≡ book.old.journal }
+{
     let place = place_of(s);
     if is_taken(&seats.slots[place]) {
         book.say_of(setting.alloc, s, "busy")?;
@@ -55,7 +67,9 @@ pub(crate) fn connect(
 
 /// A client that has sent the first message of its session.
 fn client_of(setting: Setting, s: SessionId, cut: Cut) -> Result<Client, StepFault>
-    ensures { IfOk result (λ client. client.seat.s ≡ s) }
+    ensures s { IfOk result (λ client. client.seat.s ≡ s) }
+    ensures core { IfOk result (λ client. machine_in client.seat.core ≡
+        new_machine s (policy_in setting.entry.config.now)) }
 {
     let mut seat = Seat::new(setting.alloc, s, policy_of(setting.config))?;
     match feed(&mut seat.wire, cut, &START) {
@@ -77,6 +91,9 @@ pub(crate) fn address(
     book: &mut Book,
 ) -> Result<Then, StepFault>
     requires { CanBeSent wish }
+    ensures machines { (policy : ReadPolicy) → machines_of policy seats.new.slots.items
+        ≡ machines_of policy seats.old.slots.items }
+    ensures journal { book.new.journal ≡ book.old.journal }
 {
     let place = place_of(s);
     if !grant(alloc, &mut seats.slots[place], wish, cut)? {
@@ -88,7 +105,9 @@ pub(crate) fn address(
 /// Does what is asked of a session, but for steps. The answer: whether it is connected.
 fn grant(alloc: Global, slot: &mut Slot, wish: Wish, cut: Cut) -> Result<bool, NoMemory>
     requires { CanBeSent wish }
-    ensures { (before : ℕ) → IsPlaced before slot.old → IsPlaced before slot.new }
+    ensures placed { (before : ℕ) → IsPlaced before slot.old → IsPlaced before slot.new }
+    ensures machine { (policy : ReadPolicy) → (s : SessionId) → machine_in_slot policy s slot.new
+        ≡ machine_in_slot policy s slot.old }
 {
     match slot {
         Slot::Free => Ok(false),
@@ -101,7 +120,8 @@ fn grant(alloc: Global, slot: &mut Slot, wish: Wish, cut: Cut) -> Result<bool, N
 
 fn grant_client(alloc: Global, client: &mut Client, wish: Wish, cut: Cut) -> Result<(), NoMemory>
     requires { CanBeSent wish }
-    ensures { client.new.seat.s ≡ client.old.seat.s }
+    ensures s { client.new.seat.s ≡ client.old.seat.s }
+    ensures core { client.new.seat.core ≡ client.old.seat.core }
 {
     match wish {
         Wish::Hold => {
@@ -120,7 +140,8 @@ fn grant_client(alloc: Global, client: &mut Client, wish: Wish, cut: Cut) -> Res
 /// The client of a session sends what a line says.
 fn send(alloc: Global, client: &mut Client, line: &ScriptLine, cut: Cut) -> Result<(), NoMemory>
     requires { IsOfGrammar (line_of line.now) }
-    ensures { client.new.seat.s ≡ client.old.seat.s }
+    ensures s { client.new.seat.s ≡ client.old.seat.s }
+    ensures core { client.new.seat.core ≡ client.old.seat.core }
 {
     let bytes = sent_of(alloc, line)?;
     client.rests = false;
@@ -143,7 +164,10 @@ pub(crate) fn lose<B: Backend>(
     world: &mut World<B>,
     book: &mut Book,
 ) -> Result<Then, StepFault>
-    ensures { length world.new.shelf.items ≡ length world.old.shelf.items }
+    ensures went { (machines : SessionId → Machine) → OnOk result (Went setting.entry.tables.now
+        (state world.old.gate.state machines) book.old.journal
+        (state world.new.gate.state machines) book.new.journal) }
+    ensures boxes { length world.new.shelf.items ≡ length world.old.shelf.items }
 {
     if !world.is_configured(b) {
         tell_none(setting.alloc, b, book)?;
@@ -155,7 +179,9 @@ pub(crate) fn lose<B: Backend>(
 }
 
 /// Tells that the configuration has no such backend.
-fn tell_none(alloc: Global, b: BackendId, book: &mut Book) -> Result<(), NoMemory> {
+fn tell_none(alloc: Global, b: BackendId, book: &mut Book) -> Result<(), NoMemory>
+    ensures { book.new.journal ≡ book.old.journal }
+{
     let number = b.number;
     let line = format!(in alloc; "pool no {number}\n")?;
     book.say(line.as_bytes())

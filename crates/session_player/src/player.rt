@@ -1,5 +1,5 @@
 //! A script, played part by part: one for each line, and one for the end.
-ghost use Rattle.std.specs.Prelude.{◌≡◌, ◌≤◌, ℕ, length, map, OnOk, IfErr};
+ghost use Rattle.std.specs.Prelude.{◌≡◌, ◌≤◌, ℕ, List as Sequence, Option as Maybe, length, map, OnOk, IfErr};
 ghost use Rattle.std.specs.List.{AllByRecursion};
 ghost use Rattle.pgproto.specs.Line.{line_of};
 ghost use Rattle.pgproto.specs.Spelling.{IsOfGrammar};
@@ -7,7 +7,11 @@ ghost use Rattle.pool_base.specs.Outside.{Rose};
 ghost use Rattle.pool_config.specs.Configuration.{IsAllowed};
 ghost use Rattle.schema.specs.Grammar.{IsWithin};
 ghost use Rattle.schema_print.specs.Printed.{AreInRange};
+ghost use Rattle.pool_base.specs.declared.session_id.SessionId.{SessionId};
+ghost use Rattle.session_machine.specs.declared.machine.ReadPolicy.{ReadPolicy};
+ghost use Rattle.session_seat.specs.Policy.{policy_in};
 ghost use Rattle.session_player.specs.declared.fault.PlayFault.TheVariants as faults;
+ghost use Rattle.session_player.specs.Journals.{IsJournaled, IsPut, Went, machine_in_slot, machines_of, state_of};
 ghost use Rattle.session_player.specs.Slots.{ArePlaced, IsPlaced};
 ghost use Rattle.session_player.specs.Times.{IsMomentRead};
 ghost use Rattle.session_player.specs.Written.{ArePlayed, AreParts, Grew, IsPart};
@@ -52,6 +56,11 @@ pub fn play<B: Backend, O: Sink>(
     // For each line its echo was written, and behind it what is told.
     ensures all { OnOk result (ArePlayed (map line_of script.now) (O.taken out.old)
         (O.taken out.new)) }
+    // The journal behind it tells of a schedule: from the gate as it stood, and no client
+    // connected, to the gate as it stands.
+    ensures journal { OnOk result (IsJournaled setting.entry.config.now setting.entry.tables.now
+        (map line_of script.now) journal world.old.gate.state world.new.gate.state
+        (O.taken out.old) (O.taken out.new)) }
     // What was taken begins with what had been taken, whatever the answer.
     ensures grows { Grew (O.taken out.old) (O.taken out.new) }
     ensures boxes { length world.new.shelf.items ≡ length world.old.shelf.items }
@@ -82,6 +91,13 @@ fn play_lines<B: Backend, O: Sink>(
 ) -> Result<(), PlayFault>
     requires grammar { AllByRecursion IsOfGrammar (map line_of script.now) }
     requires within { IsWithin setting.tables.now }
+    ensures went { OnOk result (Went setting.entry.tables.now
+        (state_of (policy_in setting.entry.config.now) world.old.gate.state
+        scene.old.seats.slots.items)
+        scene.old.book.journal
+        (state_of (policy_in setting.entry.config.now) world.new.gate.state
+        scene.new.seats.slots.items)
+        scene.new.book.journal) }
     ensures parts { OnOk result (AreParts (map line_of script.now) (O.taken out.old)
         (O.taken out.new)) }
     ensures grows { Grew (O.taken out.old) (O.taken out.new) }
@@ -106,6 +122,13 @@ fn play_part<B: Backend, O: Sink>(
 ) -> Result<(), PlayFault>
     requires grammar { IsOfGrammar (line_of line.now) }
     requires within { IsWithin setting.tables.now }
+    ensures went { OnOk result (Went setting.entry.tables.now
+        (state_of (policy_in setting.entry.config.now) world.old.gate.state
+        scene.old.seats.slots.items)
+        scene.old.book.journal
+        (state_of (policy_in setting.entry.config.now) world.new.gate.state
+        scene.new.seats.slots.items)
+        scene.new.book.journal) }
     ensures part { OnOk result (IsPart (line_of line.now) (O.taken out.old) (O.taken out.new)) }
     ensures grows { Grew (O.taken out.old) (O.taken out.new) }
     ensures boxes { length world.new.shelf.items ≡ length world.old.shelf.items }
@@ -140,7 +163,14 @@ fn play_line<B: Backend>(
 ) -> Result<(), StepFault>
     requires grammar { IsOfGrammar (line_of line.now) }
     requires within { IsWithin setting.tables.now }
-    ensures { length world.new.shelf.items ≡ length world.old.shelf.items }
+    ensures went { OnOk result (Went setting.entry.tables.now
+        (state_of (policy_in setting.entry.config.now) world.old.gate.state
+        scene.old.seats.slots.items)
+        scene.old.book.journal
+        (state_of (policy_in setting.entry.config.now) world.new.gate.state
+        scene.new.seats.slots.items)
+        scene.new.book.journal) }
+    ensures boxes { length world.new.shelf.items ≡ length world.old.shelf.items }
 {
     let then = do_line(setting, line, scene, world)?;
     let setting = at_moment(setting, scene.moment);
@@ -161,7 +191,14 @@ fn do_line<B: Backend>(
     world: &mut World<B>,
 ) -> Result<Then, StepFault>
     requires { IsOfGrammar (line_of line.now) }
-    ensures { length world.new.shelf.items ≡ length world.old.shelf.items }
+    ensures went { OnOk result (Went setting.entry.tables.now
+        (state_of (policy_in setting.entry.config.now) world.old.gate.state
+        scene.old.seats.slots.items)
+        scene.old.book.journal
+        (state_of (policy_in setting.entry.config.now) world.new.gate.state
+        scene.new.seats.slots.items)
+        scene.new.book.journal) }
+    ensures boxes { length world.new.shelf.items ≡ length world.old.shelf.items }
 {
     match deed_of(line) {
         Deed::Connect(s) => connect(setting, s, scene.cut, &mut scene.seats, &mut scene.book),
@@ -213,6 +250,16 @@ fn play_end<B: Backend, O: Sink>(
     requires within { IsWithin setting.tables.now }
     requires in_range { AreInRange setting.tables.now }
     requires config { IsAllowed setting.config.now }
+    ensures went { OnOk result (Went setting.entry.tables.now
+        (state_of (policy_in setting.entry.config.now) world.old.gate.state
+        scene.old.seats.slots.items)
+        scene.old.book.journal
+        (state_of (policy_in setting.entry.config.now) world.new.gate.state
+        scene.new.seats.slots.items)
+        scene.new.book.journal) }
+    ensures put { OnOk result ((told : Maybe (Sequence ℕ)) × Grew (O.taken out.old) told
+        × IsPut setting.entry.config.now setting.entry.tables.now scene.new.book.journal told
+        (O.taken out.new)) }
     ensures grows { Grew (O.taken out.old) (O.taken out.new) }
     ensures boxes { length world.new.shelf.items ≡ length world.old.shelf.items }
     ensures sink { IfErr result (λ e. e ≡ faults.SinkFailed
@@ -227,13 +274,18 @@ fn play_end<B: Backend, O: Sink>(
 }
 
 /// All sessions are let go, and the input of each ends.
-fn end_all(seats: &mut Seats) {
+fn end_all(seats: &mut Seats)
+    ensures { (policy : ReadPolicy) → machines_of policy seats.new.slots.items
+        ≡ machines_of policy seats.old.slots.items }
+{
     end_each(seats.slots.as_mut_slice());
 }
 
 fn end_each(slots: &mut [Slot])
     requires { ArePlaced 0 slots.old }
-    ensures { ArePlaced 0 slots.new }
+    ensures placed { ArePlaced 0 slots.new }
+    ensures machines { (policy : ReadPolicy) → machines_of policy slots.new
+        ≡ machines_of policy slots.old }
 {
     for slot in slots.iter_mut() {
         end_input(slot);
@@ -241,7 +293,9 @@ fn end_each(slots: &mut [Slot])
 }
 
 fn end_input(slot: &mut Slot)
-    ensures { (before : ℕ) → IsPlaced before slot.old → IsPlaced before slot.new }
+    ensures placed { (before : ℕ) → IsPlaced before slot.old → IsPlaced before slot.new }
+    ensures machine { (policy : ReadPolicy) → (s : SessionId) → machine_in_slot policy s slot.new
+        ≡ machine_in_slot policy s slot.old }
 {
     match slot {
         Slot::Free => {}

@@ -8,10 +8,16 @@
 //!
 //! A turn goes on behind an event alone, and rounds go on behind a round with an event. A play has
 //! fewer than 2^64 events, so turns and rounds end.
-ghost use Rattle.std.specs.Prelude.{◌≡◌, ◌↔◌, ℕ, length, IsTrue, IfOk, OnOk};
+ghost use Rattle.std.specs.Prelude.{◌≡◌, ◌↔◌, ◌≤◌, ℕ, suc, length, IsTrue, IfOk, OnOk};
+ghost use Rattle.pool_base.specs.declared.session_id.SessionId.{SessionId};
 ghost use Rattle.schema.specs.Grammar.{IsWithin};
+ghost use Rattle.session_machine.specs.Rules.{new_machine};
+ghost use Rattle.session_engine.specs.Cores.{machine_in};
 ghost use Rattle.session_seat.specs.declared.seat.Turn.TheVariants.{Held};
-ghost use Rattle.session_player.specs.declared.round.TurnEnd.TheVariants.{Rests};
+ghost use Rattle.session_seat.specs.Policy.{policy_in};
+ghost use Rattle.session_seat.specs.Steps.{at};
+ghost use Rattle.session_player.specs.declared.round.TurnEnd.TheVariants.{Rests, Closed};
+ghost use Rattle.session_player.specs.Journals.{Goes, Went, machine_in_slot, state_of};
 ghost use Rattle.session_player.specs.Slots.{ArePlaced, IsPlaced, IsHeld, IsHeldOrFree};
 ghost use Rattle.session_player.specs.Turns.{EndsBehind};
 
@@ -62,6 +68,11 @@ fn take_steps<B: Backend>(
     book: &mut Book,
 ) -> Result<TurnEnd, StepFault>
     requires within { IsWithin setting.tables.now }
+    ensures goes { OnOk result (Goes setting.entry.tables.now seat.old.s
+        (at world.old.gate.state (machine_in seat.old.core) book.old.journal)
+        (at world.new.gate.state (machine_in seat.new.core) book.new.journal)) }
+    ensures closed { IfOk result (λ end. end ≡ Closed → machine_in seat.new.core ≡
+        new_machine seat.old.s (policy_in setting.entry.config.now)) }
     ensures same { seat.new.s ≡ seat.old.s }
     ensures turn { seat.new.turn ≡ seat.old.turn }
     ensures boxes { length world.new.shelf.items ≡ length world.old.shelf.items }
@@ -97,6 +108,11 @@ fn turn_of<B: Backend>(
     book: &mut Book,
 ) -> Result<TurnEnd, StepFault>
     requires within { IsWithin setting.tables.now }
+    ensures goes { OnOk result (Goes setting.entry.tables.now client.old.seat.s
+        (at world.old.gate.state (machine_in client.old.seat.core) book.old.journal)
+        (at world.new.gate.state (machine_in client.new.seat.core) book.new.journal)) }
+    ensures closed { IfOk result (λ end. end ≡ Closed → machine_in client.new.seat.core ≡
+        new_machine client.old.seat.s (policy_in setting.entry.config.now)) }
     ensures held { client.old.seat.turn ≡ Held → client.new ≡ client.old }
     ensures quiet { client.old.seat.turn ≡ Held → book.new ≡ book.old }
     ensures stays { client.old.seat.turn ≡ Held → IfOk result (λ end. end ≡ Rests) }
@@ -119,6 +135,12 @@ fn turn<B: Backend>(
     book: &mut Book,
 ) -> Result<(), StepFault>
     requires within { IsWithin setting.tables.now }
+    ensures goes { (before : ℕ) → (s : SessionId) → s.number ≡ suc before
+        → IsPlaced before slot.old → OnOk result (Goes setting.entry.tables.now s
+        (at world.old.gate.state (machine_in_slot (policy_in setting.entry.config.now) s slot.old)
+        book.old.journal)
+        (at world.new.gate.state (machine_in_slot (policy_in setting.entry.config.now) s slot.new)
+        book.new.journal)) }
     ensures held { IsHeld slot.old → slot.new ≡ slot.old }
     ensures quiet { IsHeld slot.old → book.new ≡ book.old }
     ensures placed { (before : ℕ) → IsPlaced before slot.old → IsPlaced before slot.new }
@@ -143,6 +165,12 @@ fn round<B: Backend>(
 ) -> Result<(), StepFault>
     requires within { IsWithin setting.tables.now }
     requires placed { ArePlaced 0 slots.old }
+    requires few { length slots.old ≤ 64 }
+    ensures went { OnOk result (Went setting.entry.tables.now
+        (state_of (policy_in setting.entry.config.now) world.old.gate.state slots.old)
+        book.old.journal
+        (state_of (policy_in setting.entry.config.now) world.new.gate.state slots.new)
+        book.new.journal) }
     ensures placed { ArePlaced 0 slots.new }
     ensures boxes { length world.new.shelf.items ≡ length world.old.shelf.items }
 {
@@ -160,7 +188,12 @@ pub(crate) fn rounds<B: Backend>(
     book: &mut Book,
 ) -> Result<(), StepFault>
     requires within { IsWithin setting.tables.now }
-    ensures { length world.new.shelf.items ≡ length world.old.shelf.items }
+    ensures went { OnOk result (Went setting.entry.tables.now
+        (state_of (policy_in setting.entry.config.now) world.old.gate.state seats.old.slots.items)
+        book.old.journal
+        (state_of (policy_in setting.entry.config.now) world.new.gate.state seats.new.slots.items)
+        book.new.journal) }
+    ensures boxes { length world.new.shelf.items ≡ length world.old.shelf.items }
 {
     'rounds: loop {
         let before = book.events;
@@ -180,6 +213,12 @@ fn turn_until<B: Backend>(
     book: &mut Book,
 ) -> Result<(), StepFault>
     requires within { IsWithin setting.tables.now }
+    ensures goes { (before : ℕ) → (s : SessionId) → s.number ≡ suc before
+        → IsPlaced before slot.old → OnOk result (Goes setting.entry.tables.now s
+        (at world.old.gate.state (machine_in_slot (policy_in setting.entry.config.now) s slot.old)
+        book.old.journal)
+        (at world.new.gate.state (machine_in_slot (policy_in setting.entry.config.now) s slot.new)
+        book.new.journal)) }
     ensures held { OnOk result (IsHeldOrFree slot.new) }
     ensures placed { (before : ℕ) → IsPlaced before slot.old → IsPlaced before slot.new }
     ensures boxes { length world.new.shelf.items ≡ length world.old.shelf.items }
@@ -207,7 +246,12 @@ pub(crate) fn go_until<B: Backend>(
     book: &mut Book,
 ) -> Result<(), StepFault>
     requires within { IsWithin setting.tables.now }
-    ensures { length world.new.shelf.items ≡ length world.old.shelf.items }
+    ensures went { OnOk result (Went setting.entry.tables.now
+        (state_of (policy_in setting.entry.config.now) world.old.gate.state seats.old.slots.items)
+        book.old.journal
+        (state_of (policy_in setting.entry.config.now) world.new.gate.state seats.new.slots.items)
+        book.new.journal) }
+    ensures boxes { length world.new.shelf.items ≡ length world.old.shelf.items }
 {
     let place = place_of(s);
     turn_until(setting, &mut seats.slots[place], mark, world, book)

@@ -1,5 +1,5 @@
 //! The sessions that are connected, by their numbers.
-ghost use Rattle.std.specs.Prelude.{◌≡◌, ◌+◌, ◌<◌, ◌≤◌, IfOk, length};
+ghost use Rattle.std.specs.Prelude.{◌≡◌, ◌+◌, ◌<◌, ◌≤◌, ℕ, IfOk, length, slice_index_or};
 ghost use Rattle.session_player.specs.Slots.{ArePlaced, ArePlaced-prop, is_taken};
 ghost use Rattle.session_player.specs.declared.slots.Slot.TheVariants.{Free, Taken};
 
@@ -36,7 +36,10 @@ pub(crate) struct Seats {
 
 impl Seats {
     /// No session is connected.
-    pub(crate) fn new(alloc: Global) -> Result<Seats, NoMemory> {
+    pub(crate) fn new(alloc: Global) -> Result<Seats, NoMemory>
+        ensures free { IfOk result (λ seats. (i : ℕ) → slice_index_or seats.slots.items i Free
+            ≡ Free) }
+    {
         Ok(Seats {
             slots: free_slots(alloc)?,
         })
@@ -86,10 +89,11 @@ pub(crate) fn free(slot: &mut Slot)
 }
 
 /// A slot for each number, all of them free.
-#[tactic(auto, using(crate::proofs::Placing::placed_free))]
+#[tactic(auto, using(crate::proofs::Placing::placed_free, crate::proofs::Placing::pushed))]
 fn free_slots(alloc: Global) -> Result<Vec<Slot>, NoMemory>
     ensures whole { IfOk result (λ slots. length slots.items ≡ 64) }
     ensures placed { IfOk result (λ slots. ArePlaced 0 slots.items) }
+    ensures free { IfOk result (λ slots. (i : ℕ) → slice_index_or slots.items i Free ≡ Free) }
 {
     let mut slots = Vec::with_capacity(alloc, MOST_SESSIONS)?;
     for number in 0..MOST_SESSIONS {

@@ -6,6 +6,7 @@ ghost use Rattle.pool_base.specs.Outside.{Appends, Rose};
 ghost use Rattle.pool_config.specs.Configuration.{IsAllowed};
 ghost use Rattle.schema_print.specs.Printed.{AreInRange};
 ghost use Rattle.session_player.specs.declared.fault.PlayFault.TheVariants as faults;
+ghost use Rattle.session_player.specs.Journals.{IsPut};
 ghost use Rattle.session_player.specs.Written.{Grew, echo_of};
 
 use crate::fault::PlayFault;
@@ -47,6 +48,7 @@ pub(crate) fn put_echo<O: Sink>(
 /// Writes the lines of the part that was played.
 pub(crate) fn put_told<O: Sink>(book: &mut Book, out: &mut O) -> Result<(), PlayFault>
     ensures all { OnOk result (Appends (O.taken out.old) (O.taken out.new) book.old.lines) }
+    ensures journal { book.new.journal ≡ book.old.journal }
     ensures emptied { OnOk result (book.new.lines ≡ []) }
     ensures grows { Grew (O.taken out.old) (O.taken out.new) }
     ensures sink { IfErr result (λ e. e ≡ faults.SinkFailed
@@ -66,6 +68,8 @@ pub(crate) fn put_journal<O: Sink>(
 ) -> Result<(), PlayFault>
     requires config { IsAllowed setting.config.now }
     requires in_range { AreInRange setting.tables.now }
+    ensures put { OnOk result (IsPut setting.entry.config.now setting.entry.tables.now
+        book.now.journal (O.taken out.old) (O.taken out.new)) }
     ensures grows { Grew (O.taken out.old) (O.taken out.new) }
     ensures sink { IfErr result (λ e. e ≡ faults.SinkFailed
         → Rose (O.fault_count out.old) (O.fault_count out.new)) }

@@ -1,3 +1,4 @@
+mod DueLemmas
 mod KnownLemmas
 mod RollLemmas
 mod StepLemmas

@@ -26,7 +26,7 @@ use Rattle.session_seat.specs.declared.step.Step.{Step}
 use Rattle.session_seat.specs.declared.step.Step.TheVariants as steps
 use Rattle.session_seat.specs.Told.{added, told_of, told_lost}
 use Rattle.session_seat.specs.Schedule.{led}
-use Rattle.session_seat.specs.Steps.{IsDid, Stand, at, TookPlace, IsStep}
+use Rattle.session_seat.specs.Steps.{IsDid, Stand, TookPlace, IsStep}
 
 -- What is asked for is the post of a request.
 pub post_due : (action : Action) (b : BackendId) (request : Request) → asked_of action ≡ asks.Post b → Posts action request → action ≡ actions.Post b request
@@ -104,7 +104,7 @@ posted_step tables policy s old new b request text (Err fault) is leads line gat
 
 -- a backend was found lost; the journal tells of the loss before, where no session has seen it
 pub missed_step : {E : Type 0} (tables : List TableDef) (policy : ReadPolicy) (s : SessionId) (old new : Stand) (mid : Journal) (b : BackendId) (before later : ℕ) (result : Result Step E)
-    → (mid ≡ old.journal) ⊎ (mid ≡ added old.journal (told_lost b)) → IfOk result IsDid → OnOk result (MayHappen old.machine (events.Faulted b before later))
+    → (mid ≡ old.journal) ⊎ (mid ≡ added old.journal (told_lost b)) → IfOk result IsDid → MayHappen old.machine (events.Faulted b before later)
     → OnOk result (new.machine ≡ led old.machine (events.Faulted b before later)) → OnOk result (new.journal ≡ added mid (told_of tables s (events.Faulted b before later)))
     → new.gate ≡ old.gate → IfOk result (λ step. IsStep tables policy s old step new)
 missed_step tables policy s old new mid b before later (Ok step) (inl none) is may leads line gate =
@@ -128,3 +128,6 @@ same_session s t e =
 -- a machine of this number and policy at its start
 pub new_as : (a b : Machine) (id s : SessionId) (policy wanted : ReadPolicy) → a ≡ b → a ≡ new_machine id policy → id ≡ s → policy ≡ wanted → b ≡ new_machine s wanted
 new_as a b id s policy wanted same start own way = sym same ∙ (start ∙ (ap (λ (t : SessionId). new_machine t policy) own ∙ ap (new_machine s) way))
+
+pub start_of : (a b : Machine) (id s : SessionId) (policy wanted : ReadPolicy) → a ≡ b → b ≡ new_machine s wanted → id ≡ s → policy ≡ wanted → a ≡ new_machine id policy
+start_of a b id s policy wanted same start own way = same ∙ (start ∙ sym (ap (λ (t : SessionId). new_machine t policy) own ∙ ap (new_machine s) way))

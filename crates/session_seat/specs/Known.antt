@@ -1,5 +1,5 @@
 -- What is known of a session at a backend, and what a post and an answer make of it.
-use Rattle.std.specs.Prelude.{◌≡◌, ℕ, Bool, true, false, List, Option, None, Some, if◌then◌else◌}
+use Rattle.std.specs.Prelude.{◌≡◌, ℕ, Bool, true, List, Option, None, Some, if◌then◌else◌}
 use Rattle.schema.specs.declared.catalogue.TableDef.{TableDef}
 use Rattle.catalogue.specs.declared.checked.Checked.{Checked}
 use Rattle.classifier.specs.Classes.{lock_of}

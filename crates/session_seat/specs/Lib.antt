@@ -4,3 +4,5 @@ pub mod Policy
 pub mod Told
 pub mod Schedule
 pub mod Steps
+pub mod Dues
+pub mod Stops

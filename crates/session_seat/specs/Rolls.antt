@@ -3,7 +3,7 @@ use Rattle.std.specs.Prelude.{◌≡◌, ℕ, ◌<◌, List, [], Some, slice_get
 use Rattle.std.specs.Coded.{×_prop, Π_prop}
 use Rattle.std.proofs.Props.{props}
 use Rattle.schema.specs.declared.catalogue.TableDef.{TableDef}
-use Rattle.backend_trait.specs.Store.{Store, line_of}
+use Rattle.backend_trait.specs.Store.{Store}
 use Rattle.session_seat.specs.declared.known.Known.{Known}
 use Rattle.session_seat.specs.declared.roll.Roll.{Roll}
 use Rattle.session_seat.specs.Known.{Knows, nothing_known}

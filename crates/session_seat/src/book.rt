@@ -1,7 +1,8 @@
 //! What is written of a play: the lines of the part that is played, and the journal.
-ghost use Rattle.std.specs.Prelude.{◌≡◌, ◌≤◌, ◌+◌, ◌++◌, ◌∷◌, [], IfOk, OnOk, OnErr};
+ghost use Rattle.std.specs.Prelude.{◌≡◌, ◌≤◌, ◌+◌, ◌++◌, ◌∷◌, [], IfOk, IfErr, OnOk, OnErr};
 ghost use Rattle.journal.specs.Events.{spelled_event};
 ghost use Rattle.session_seat.specs.Told.{added};
+ghost use Rattle.session_seat.specs.declared.fault.StepFault.TheVariants.{Stopped};
 
 use crate::fault::StepFault;
 use crate::setting::Setting;
@@ -45,6 +46,8 @@ impl Book {
         ensures counted { OnOk result (self.new.events ≡ self.old.events + 1) }
         ensures events { self.old.events ≤ self.new.events }
         ensures as_before { OnErr result (self.new.journal ≡ self.old.journal) }
+        ensures full { IfErr result (λ e. e ≡ Stopped
+            → 18446744073709551615 ≤ self.old.events) }
     {
         let line = self.spelled(setting, event)?;
         self.keep(&line)
@@ -67,6 +70,8 @@ impl Book {
         ensures counted { OnOk result (self.new.events ≡ self.old.events + 1) }
         ensures events { self.old.events ≤ self.new.events }
         ensures as_before { OnErr result (self.new.journal ≡ self.old.journal) }
+        ensures full { IfErr result (λ e. e ≡ Stopped
+            → 18446744073709551615 ≤ self.old.events) }
     {
         let Some(events) = self.events.checked_add(1) else {
             return Err(StepFault::Stopped);

@@ -1,7 +1,11 @@
 //! One post and one poll at a backend, by its roll.
-ghost use Rattle.std.specs.Prelude.{◌≡◌};
+ghost use Rattle.std.specs.Prelude.{◌≡◌, true, IfOk, IfErr, OnErr};
+ghost use Rattle.backend_trait.specs.Acts.{InForm, IsPromptly};
 ghost use Rattle.session_seat.specs.Known.{Knows};
 ghost use Rattle.session_seat.specs.Rolls.{known_in};
+ghost use Rattle.session_seat.specs.Stops.{MayPostBy};
+ghost use Rattle.session_seat.specs.declared.fault.StepFault.TheVariants.{Stopped};
+ghost use Rattle.session_seat.specs.declared.known.Awaits.TheVariants as awaiting;
 
 use crate::fault::StepFault;
 use crate::roll::Roll;
@@ -28,6 +32,8 @@ pub(crate) fn post_at<B: Backend>(
     requires known { Knows (known_in roll.old) (B.meaning store.old) }
     ensures tables { (B.meaning store.new).tables ≡ (B.meaning store.old).tables }
     ensures known { Knows (known_in roll.new) (B.meaning store.new) }
+    ensures stopped { IfErr result (λ e. e ≡ Stopped
+        → MayPostBy tables.now (known_in roll.old s.number) request → ⊥) }
 {
     let known = roll.at(s);
     if !known.may_post(tables, &request) {
@@ -56,6 +62,11 @@ pub(crate) fn poll_at<B: Backend>(
     requires known { Knows (known_in roll.old) (B.meaning store.old) }
     ensures tables { (B.meaning store.new).tables ≡ (B.meaning store.old).tables }
     ensures known { Knows (known_in roll.new) (B.meaning store.new) }
+    ensures form { IfOk result (λ looked. InForm (B.meaning store.old) s.number looked.polled
+        looked.before looked.after (B.meaning store.new)) }
+    ensures promptly { IfOk result (λ looked. B.is_prompt store.old ≡ true
+        → IsPromptly (B.meaning store.old) s.number looked.polled) }
+    ensures stopped { OnErr result ((known_in roll.old s.number).awaits ≡ awaiting.Nothing) }
 {
     let known = roll.at(s);
     if known.is_idle() {

@@ -1,5 +1,8 @@
 //! The lines of what a session's client is told.
-ghost use Rattle.std.specs.Prelude.{◌≡◌};
+ghost use Rattle.std.specs.Prelude.{◌≡◌, ◌≤◌, length, IfOk, IfErr};
+ghost use Rattle.session_wire.specs.Shown.{shown};
+ghost use Rattle.session_seat.specs.Stops.{IsGarbled, IsNoMessage};
+ghost use Rattle.session_seat.specs.declared.fault.StepFault.TheVariants.{Stopped};
 
 use crate::book::Book;
 use crate::fault::StepFault;
@@ -18,6 +21,7 @@ pub(crate) fn put_output(
 ) -> Result<(), StepFault>
     ensures events { book.new.events ≡ book.old.events }
     ensures journal { book.new.journal ≡ book.old.journal }
+    ensures stopped { IfErr result (λ e. e ≡ Stopped → IsGarbled (shown wire.old).output) }
 {
     put_replies(alloc, s, wire.output(), book)?;
     let count = wire.output().len();
@@ -29,11 +33,12 @@ pub(crate) fn put_output(
 fn put_replies(alloc: Global, s: SessionId, bytes: &[u8], book: &mut Book) -> Result<(), StepFault>
     ensures events { book.new.events ≡ book.old.events }
     ensures journal { book.new.journal ≡ book.old.journal }
+    ensures stopped { IfErr result (λ e. e ≡ Stopped → IsGarbled bytes.now) }
 {
     let mut rest = bytes;
     'replies: while !rest.is_empty() {
         let length = put_reply(alloc, s, rest, book)?;
-        if length == 0 || length > rest.len() {
+        if length == 0 {
             return Err(StepFault::Stopped);
         }
         rest = rest.split_at(length).1;
@@ -45,6 +50,8 @@ fn put_replies(alloc: Global, s: SessionId, bytes: &[u8], book: &mut Book) -> Re
 fn put_reply(alloc: Global, s: SessionId, bytes: &[u8], book: &mut Book) -> Result<usize, NoMemory>
     ensures events { book.new.events ≡ book.old.events }
     ensures journal { book.new.journal ≡ book.old.journal }
+    ensures within { IfOk result (λ taken. taken ≤ length bytes.now) }
+    ensures none { IfOk result (λ taken. taken ≡ 0 → IsNoMessage bytes.now) }
 {
     match read_server(alloc, bytes)? {
         Read::Whole { message, length } => {

@@ -1,5 +1,5 @@
 //! Whether a core stands as at its start.
-ghost use Rattle.std.specs.Prelude.{◌≡◌, IsTrue};
+ghost use Rattle.std.specs.Prelude.{◌≡◌, ◌↔◌, IsTrue};
 ghost use Rattle.session_machine.specs.Rules.{new_machine};
 ghost use Rattle.session_engine.specs.declared.due.Due.TheVariants.{Resting};
 ghost use Rattle.session_engine.specs.Cores.{machine_in};
@@ -22,14 +22,14 @@ const NO_VIEW: View = View {
 /// Whether a session is that one.
 #[tactic(auto, using(crate::proofs::StepLemmas::same_session))]
 fn is_session(id: SessionId, s: SessionId) -> bool
-    ensures { IsTrue result → id ≡ s }
+    ensures { IsTrue result ↔ (id ≡ s) }
 {
     id.number == s.number
 }
 
 /// Whether a policy is that one.
 fn is_policy(policy: &ReadPolicy, wanted: &ReadPolicy) -> bool
-    ensures { IsTrue result → policy.now ≡ wanted.now }
+    ensures { IsTrue result ↔ (policy.now ≡ wanted.now) }
 {
     policy.weights == wanted.weights
         && policy.balance == wanted.balance
@@ -37,19 +37,19 @@ fn is_policy(policy: &ReadPolicy, wanted: &ReadPolicy) -> bool
 }
 
 fn is_resting(due: &Due) -> bool
-    ensures { IsTrue result → due.now ≡ Resting }
+    ensures { IsTrue result ↔ (due.now ≡ Resting) }
 {
     matches!(due, Due::Resting)
 }
 
 fn is_out(gate: GatePhase) -> bool
-    ensures { IsTrue result → gate ≡ Out }
+    ensures { IsTrue result ↔ (gate ≡ Out) }
 {
     matches!(gate, GatePhase::Out)
 }
 
 fn is_idle(status: Status) -> bool
-    ensures { IsTrue result → status ≡ Idle }
+    ensures { IsTrue result ↔ (status ≡ Idle) }
 {
     matches!(status, Status::Idle)
 }
@@ -57,7 +57,7 @@ fn is_idle(status: Status) -> bool
 /// Whether a session stands as at its start, whichever its number and its policy.
 fn is_at_start(standing: &Standing) -> bool
     ensures { IsTrue result
-        → machine_of standing.now ≡ new_machine standing.now.id standing.now.policy }
+        ↔ (machine_of standing.now ≡ new_machine standing.now.id standing.now.policy) }
 {
     is_idle(standing.status)
         && standing.moment == 0
@@ -70,7 +70,7 @@ fn is_at_start(standing: &Standing) -> bool
 
 /// Whether a core is that of a session of this number and policy at its start.
 pub(crate) fn is_new(core: &Core, s: SessionId, policy: &ReadPolicy) -> bool
-    ensures { IsTrue result → machine_in core.now ≡ new_machine s policy.now }
+    ensures { IsTrue result ↔ (machine_in core.now ≡ new_machine s policy.now) }
 {
     let standing = core.standing();
     if !is_session(standing.id, s) {

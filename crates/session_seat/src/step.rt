@@ -12,21 +12,28 @@
 //! ```
 //!
 //! An event is noted before it takes place, but for a post, which is noted behind it.
-ghost use Rattle.std.specs.Prelude.{◌≡◌, ◌<◌, ◌≤◌, length, IfOk, OnOk};
+ghost use Rattle.std.specs.Prelude.{◌≡◌, ◌≢◌, ◌<◌, ◌≤◌, ◌⊎◌, length, Some, None, IfOk, IfErr, OnOk};
 ghost use Rattle.schema.specs.Grammar.{IsWithin};
-ghost use Rattle.session_machine.specs.Allowed.{MayHappen};
-ghost use Rattle.session_machine.specs.Rules.{next_action};
+ghost use Rattle.pgproto.specs.declared.line.Mark.TheVariants as marks;
+ghost use Rattle.session_machine.specs.Allowed.{MayHappen, TakesOrder};
+ghost use Rattle.session_machine.specs.Rules.{new_machine, next_action};
 ghost use Rattle.session_machine.specs.declared.action.Action.TheVariants as actions;
 ghost use Rattle.session_machine.specs.declared.action.SessionEvent.TheVariants as events;
 ghost use Rattle.snapshot_gate.specs.declared.state.GateState.{GateState};
+ghost use Rattle.snapshot_gate.specs.Function as gates;
 ghost use Rattle.session_engine.specs.declared.ask.Ask.TheVariants as asks;
 ghost use Rattle.session_engine.specs.Cores.{machine_in};
 ghost use Rattle.session_engine.specs.Handing.{IsPost, IsReply, asked_of};
 ghost use Rattle.session_wire.specs.Answers.{MayAnswer};
+ghost use Rattle.session_wire.specs.Shown.{shown};
 ghost use Rattle.session_seat.specs.Policy.{policy_in};
 ghost use Rattle.session_seat.specs.Told.{added, told_of};
 ghost use Rattle.session_seat.specs.Schedule.{led};
 ghost use Rattle.session_seat.specs.Steps.{IsDid, IsStep, at};
+ghost use Rattle.session_seat.specs.Dues.{IsDue, Rests, called, entry_mark, mark_of};
+ghost use Rattle.session_seat.specs.Stops.{IsFull, IsGarbled, MayPostAt, Stops, StopsAtPost, StopsAtReply, StopsAtRest, StopsTelling, world_view};
+ghost use Rattle.session_seat.specs.declared.fault.StepFault.TheVariants.{Stopped};
+ghost use Rattle.session_seat.specs.declared.step.Step.TheVariants as steps;
 
 use crate::book::Book;
 use crate::fault::StepFault;
@@ -72,6 +79,14 @@ pub fn take_step<B: Backend>(
         (policy_in setting.entry.config.now) seat.old.s
         (at world.old.gate.state (machine_in seat.old.core) book.old.journal) step
         (at world.new.gate.state (machine_in seat.new.core) book.new.journal)) }
+    // Which step it is, by what is asked for: it waits, has nothing to do or is closed there alone.
+    ensures due { IfOk result (λ step. IsDue B.meaning B.is_prompt setting.entry.tables.now
+        setting.entry.moment seat.old world.old.gate.state world.old.shelf.items step) }
+    // Where it is stopped, which test has failed.
+    ensures stopped { IfErr result (λ e. e ≡ Stopped → Stops B.meaning B.is_prompt
+        setting.entry.tables.now setting.entry.moment (policy_in setting.entry.config.now)
+        book.old.events seat.old (world_view world.old.gate.state world.old.tables world.old.count
+        world.old.shelf.items world.old.rolls setting.entry.config.now.nodes)) }
     // An event is counted, so that a run of steps ends.
     ensures did { IfOk result (λ step. IsDid step → book.old.events < book.new.events) }
     ensures events { book.old.events ≤ book.new.events }
@@ -102,6 +117,9 @@ fn close(setting: Setting, seat: &Seat, book: &mut Book) -> Result<Step, StepFau
         (at gate (machine_in seat.now.core) book.new.journal)) }
     ensures events { book.new.events ≡ book.old.events }
     ensures none { IfOk result (λ step. IsDid step → ⊥) }
+    ensures closed { IfOk result (λ step. step ≡ steps.Closed) }
+    ensures stopped { IfErr result (λ e. e ≡ Stopped → machine_in seat.now.core
+        ≢ new_machine seat.now.s (policy_in setting.entry.config.now)) }
 {
     let policy = policy_of(setting.config);
     if !is_new(&seat.core, seat.s, &policy) {
@@ -122,6 +140,12 @@ fn take_order(setting: Setting, seat: &mut Seat, book: &mut Book) -> Result<Step
     ensures events { book.old.events ≤ book.new.events }
     ensures s { seat.new.s ≡ seat.old.s }
     ensures turn { seat.new.turn ≡ seat.old.turn }
+    ensures due { IfOk result (λ step. Rests setting.entry.tables.now setting.entry.moment
+        (shown seat.old.wire) step) }
+    ensures stopped { IfErr result (λ e. e ≡ Stopped → IsFull book.old.events
+        ⊎ StopsAtRest setting.entry.tables.now setting.entry.moment
+        (policy_in setting.entry.config.now) seat.old.s (machine_in seat.old.core)
+        (shown seat.old.wire)) }
 {
     match seat.wire.next(setting.tables, setting.moment)? {
         WireStep::NeedInput => {
@@ -147,6 +171,10 @@ fn obey(setting: Setting, seat: &mut Seat, order: Order, book: &mut Book) -> Res
     ensures events { book.old.events ≤ book.new.events }
     ensures s { seat.new.s ≡ seat.old.s }
     ensures turn { seat.new.turn ≡ seat.old.turn }
+    ensures due { IfOk result (λ step. step ≡ steps.Did (Some marks.Order)) }
+    ensures stopped { IfErr result (λ e. e ≡ Stopped → IsFull book.old.events
+        ⊎ (IsGarbled (shown seat.old.wire).output
+        ⊎ (TakesOrder (machine_in seat.old.core) order.body → ⊥))) }
 {
     if let Err(fault) = note_order(setting, seat, &order, book) {
         drop(order);
@@ -171,6 +199,9 @@ fn note_order(
     ensures core { seat.new.core ≡ seat.old.core }
     ensures s { seat.new.s ≡ seat.old.s }
     ensures turn { seat.new.turn ≡ seat.old.turn }
+    ensures stopped { IfErr result (λ e. e ≡ Stopped → IsFull book.old.events
+        ⊎ (IsGarbled (shown seat.old.wire).output
+        ⊎ (TakesOrder (machine_in seat.old.core) order.now.body → ⊥))) }
 {
     let s = seat.s;
     put_output(setting.alloc, s, &mut seat.wire, book)?;
@@ -199,14 +230,15 @@ fn call_gate<B: Backend>(
     ensures turn { seat.new.turn ≡ seat.old.turn }
     ensures count { world.new.count ≡ world.old.count }
     ensures boxes { length world.new.shelf.items ≡ length world.old.shelf.items }
+    ensures due { IfOk result (λ step. step
+        ≡ called call (gates.step world.old.gate.state call).1) }
+    ensures stopped { IfErr result (λ e. e ≡ Stopped → IsFull book.old.events
+        ⊎ (gates.MayCall world.old.gate.state call → ⊥)) }
 {
     let s = seat.s;
     let answer = world.call(call)?;
     if let GateAnswer::Held(_) = answer {
         return Ok(Step::Waits);
-    }
-    if !seat.core.may_gate_answer(&answer) {
-        return Err(StepFault::Stopped);
     }
     book.note(setting, Event::Gate { s, call, answer })?;
     seat.core.gate_answer(answer);
@@ -214,11 +246,31 @@ fn call_gate<B: Backend>(
 }
 
 /// At which mark a call of the gate stops a session: the entries that are granted have one.
-fn mark_of(call: GateCall, answer: GateAnswer) -> Option<Mark> {
-    match (call, answer) {
-        (GateCall::EnterSnapshot, GateAnswer::Granted(_)) => Some(Mark::Snapshot),
-        (GateCall::EnterCommit { .. }, GateAnswer::Granted(_)) => Some(Mark::Commit),
-        _ => None,
+fn mark_of(call: GateCall, answer: GateAnswer) -> Option<Mark>
+    ensures { result ≡ mark_of call answer }
+{
+    match answer {
+        GateAnswer::Granted(_) => entry_mark(call),
+        GateAnswer::Seen(_) | GateAnswer::Held(_) | GateAnswer::Spent => None,
+    }
+}
+
+fn entry_mark(call: GateCall) -> Option<Mark>
+    ensures { result ≡ entry_mark call }
+{
+    match call {
+        GateCall::EnterSnapshot => Some(Mark::Snapshot),
+        GateCall::EnterCommit { .. } => Some(Mark::Commit),
+        GateCall::Look
+        | GateCall::LeaveSnapshot
+        | GateCall::LeaveCommit
+        | GateCall::Finish
+        | GateCall::Detach { .. }
+        | GateCall::StartCopy
+        | GateCall::AskQuiet
+        | GateCall::EnterQuiet
+        | GateCall::Attach { .. }
+        | GateCall::LeaveQuiet => None,
     }
 }
 
@@ -242,6 +294,10 @@ fn post<B: Backend>(
     ensures turn { seat.new.turn ≡ seat.old.turn }
     ensures count { world.new.count ≡ world.old.count }
     ensures boxes { length world.new.shelf.items ≡ length world.old.shelf.items }
+    ensures due { IfOk result (λ step. step ≡ steps.Did (Some (marks.Post b))) }
+    ensures stopped { IfErr result (λ e. e ≡ Stopped → IsFull book.old.events
+        ⊎ StopsAtPost world.old.tables world.old.count world.old.rolls (machine_in seat.old.core)
+        seat.old.s.number b.number) }
 {
     let s = seat.s;
     let request = seat.core.request()?;
@@ -280,6 +336,10 @@ fn send<B: Backend>(
     ensures turn { seat.new.turn ≡ seat.old.turn }
     ensures count { world.new.count ≡ world.old.count }
     ensures boxes { length world.new.shelf.items ≡ length world.old.shelf.items }
+    ensures due { IfOk result (λ step. step ≡ steps.Did (Some (marks.Post b))) }
+    ensures stopped { IfErr result (λ e. e ≡ Stopped → IsFull book.old.events
+        ⊎ (MayPostAt world.old.tables world.old.count world.old.rolls seat.old.s.number b.number
+        request → ⊥)) }
 {
     world.post(seat.s, b, request)?;
     book.keep(line)?;
@@ -298,6 +358,10 @@ fn reply(setting: Setting, seat: &mut Seat, book: &mut Book) -> Result<Step, Ste
     ensures events { book.old.events ≤ book.new.events }
     ensures s { seat.new.s ≡ seat.old.s }
     ensures turn { seat.new.turn ≡ seat.old.turn }
+    ensures due { IfOk result (λ step. step ≡ steps.Did (Some marks.Reply)) }
+    ensures stopped { IfErr result (λ e. e ≡ Stopped → IsFull book.old.events
+        ⊎ StopsAtReply setting.entry.config.now.nodes (machine_in seat.old.core)
+        (shown seat.old.wire)) }
 {
     let (outcome, status) = seat.core.reply();
     tell(setting, seat, outcome, status, book)?;
@@ -319,6 +383,8 @@ fn tell(
     ensures core { seat.new.core ≡ seat.old.core }
     ensures s { seat.new.s ≡ seat.old.s }
     ensures turn { seat.new.turn ≡ seat.old.turn }
+    ensures stopped { IfErr result (λ e. e ≡ Stopped → IsFull book.old.events
+        ⊎ StopsTelling setting.entry.config.now.nodes outcome status (shown seat.old.wire)) }
 {
     let s = seat.s;
     if let Err(fault) = note_reply(setting, seat, &outcome, status, book) {
@@ -342,6 +408,8 @@ fn note_reply(
         setting.entry.tables.now seat.now.s (events.Replied outcome.now status))) }
     ensures did { OnOk result (book.old.events < book.new.events) }
     ensures events { book.old.events ≤ book.new.events }
+    ensures stopped { IfErr result (λ e. e ≡ Stopped → IsFull book.old.events
+        ⊎ (MayAnswer outcome.now → ⊥)) }
 {
     if !may_answer(outcome) {
         return Err(StepFault::Stopped);
@@ -367,6 +435,8 @@ fn end(setting: Setting, seat: &mut Seat, book: &mut Book) -> Result<Step, StepF
     ensures events { book.old.events ≤ book.new.events }
     ensures s { seat.new.s ≡ seat.old.s }
     ensures turn { seat.new.turn ≡ seat.old.turn }
+    ensures due { IfOk result (λ step. step ≡ steps.Did None) }
+    ensures stopped { IfErr result (λ e. e ≡ Stopped → IsFull book.old.events) }
 {
     book.note(setting, Event::End { s: seat.s })?;
     seat.core.end();

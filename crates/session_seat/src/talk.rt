@@ -1,5 +1,6 @@
 //! What a session hears of a backend, and its detachment.
-ghost use Rattle.std.specs.Prelude.{◌≡◌, ◌<◌, ◌≤◌, ◌⊎◌, length, IfOk, OnOk};
+ghost use Rattle.std.specs.Prelude.{◌≡◌, ◌+◌, ◌<◌, ◌≤◌, ◌⊎◌, length, Some, None, IfOk, IfErr, OnOk};
+ghost use Rattle.pgproto.specs.declared.line.Mark.TheVariants as marks;
 ghost use Rattle.snapshot_gate.specs.declared.state.GateState.{GateState};
 ghost use Rattle.session_machine.specs.Allowed.{MayHappen};
 ghost use Rattle.session_machine.specs.Rules.{next_action};
@@ -12,6 +13,10 @@ ghost use Rattle.session_seat.specs.Policy.{policy_in};
 ghost use Rattle.session_seat.specs.Told.{added, told_lost, told_of};
 ghost use Rattle.session_seat.specs.Schedule.{led};
 ghost use Rattle.session_seat.specs.Steps.{IsDid, IsStep, at};
+ghost use Rattle.session_seat.specs.Dues.{WaitsFor};
+ghost use Rattle.session_seat.specs.Stops.{IsFull, IsUnfit, MayLookAt};
+ghost use Rattle.session_seat.specs.declared.fault.StepFault.TheVariants.{Stopped};
+ghost use Rattle.session_seat.specs.declared.step.Step.TheVariants as steps;
 
 use crate::book::Book;
 use crate::fault::StepFault;
@@ -35,6 +40,7 @@ pub(crate) fn hear<B: Backend>(
     world: &mut World<B>,
     book: &mut Book,
 ) -> Result<Step, StepFault>
+    requires asked { asked_of (next_action (machine_in seat.old.core)) ≡ asks.WaitFor b }
     ensures did { IfOk result (λ step. IsDid step → book.old.events < book.new.events) }
     ensures noted { IfOk result (λ step. IsStep setting.entry.tables.now
         (policy_in setting.entry.config.now) seat.old.s
@@ -45,6 +51,12 @@ pub(crate) fn hear<B: Backend>(
     ensures turn { seat.new.turn ≡ seat.old.turn }
     ensures count { world.new.count ≡ world.old.count }
     ensures boxes { length world.new.shelf.items ≡ length world.old.shelf.items }
+    ensures due { IfOk result (λ step. WaitsFor B.meaning B.is_prompt world.old.shelf.items
+        seat.old.s b step) }
+    ensures stopped { IfErr result (λ e. e ≡ Stopped → IsFull book.old.events
+        ⊎ ((MayLookAt world.old.count world.old.rolls seat.old.s.number b.number → ⊥)
+        ⊎ IsUnfit B.meaning B.is_prompt world.old.shelf.items (machine_in seat.old.core)
+        seat.old.s b)) }
 {
     let Looked {
         before,
@@ -78,6 +90,9 @@ fn take(
     ensures events { book.old.events ≤ book.new.events }
     ensures s { seat.new.s ≡ seat.old.s }
     ensures turn { seat.new.turn ≡ seat.old.turn }
+    ensures due { IfOk result (λ step. step ≡ steps.Did (Some (marks.Answer b))) }
+    ensures stopped { IfErr result (λ e. e ≡ Stopped → IsFull book.old.events
+        ⊎ (MayHappen (machine_in seat.old.core) (events.Taken b answer) → ⊥)) }
 {
     if let Err(fault) = note_answer(setting, seat, b, &answer, book) {
         drop(answer);
@@ -100,6 +115,8 @@ fn note_answer(
         setting.entry.tables.now seat.now.s (events.Taken b answer.now))) }
     ensures did { OnOk result (book.old.events < book.new.events) }
     ensures events { book.old.events ≤ book.new.events }
+    ensures stopped { IfErr result (λ e. e ≡ Stopped → IsFull book.old.events
+        ⊎ (MayHappen (machine_in seat.now.core) (events.Taken b answer.now) → ⊥)) }
 {
     if !seat.core.may_hear(b, answer) {
         return Err(StepFault::Stopped);
@@ -119,9 +136,11 @@ pub fn note_loss<B: Backend>(
     ensures line { OnOk result ((book.new.journal ≡ book.old.journal)
         ⊎ (book.new.journal ≡ added book.old.journal (told_lost b))) }
     ensures events { book.old.events ≤ book.new.events }
+    ensures one { OnOk result (book.new.events ≤ book.old.events + 1) }
     ensures gate { world.new.gate ≡ world.old.gate }
     ensures count { world.new.count ≡ world.old.count }
     ensures boxes { length world.new.shelf.items ≡ length world.old.shelf.items }
+    ensures stopped { IfErr result (λ e. e ≡ Stopped → IsFull book.old.events) }
 {
     if world.take_for_lost(b) {
         book.note(setting, Event::Lost { b })?;
@@ -138,9 +157,8 @@ fn miss(
     after: u64,
     book: &mut Book,
 ) -> Result<Step, StepFault>
+    requires may { MayHappen (machine_in seat.old.core) (events.Faulted b before after) }
     ensures is { IfOk result IsDid }
-    ensures may { OnOk result (MayHappen (machine_in seat.old.core)
-        (events.Faulted b before after)) }
     ensures leads { OnOk result (machine_in seat.new.core ≡
         led (machine_in seat.old.core) (events.Faulted b before after)) }
     ensures line { OnOk result (book.new.journal ≡ added book.old.journal (told_of
@@ -149,10 +167,9 @@ fn miss(
     ensures events { book.old.events ≤ book.new.events }
     ensures s { seat.new.s ≡ seat.old.s }
     ensures turn { seat.new.turn ≡ seat.old.turn }
+    ensures due { IfOk result (λ step. step ≡ steps.Did None) }
+    ensures stopped { IfErr result (λ e. e ≡ Stopped → 18446744073709551615 ≤ book.old.events) }
 {
-    if !seat.core.may_lose(b, before, after) {
-        return Err(StepFault::Stopped);
-    }
     book.note(
         setting,
         Event::Fault {
@@ -186,12 +203,11 @@ pub(crate) fn detach<B: Backend>(
     ensures turn { seat.new.turn ≡ seat.old.turn }
     ensures count { world.new.count ≡ world.old.count }
     ensures boxes { length world.new.shelf.items ≡ length world.old.shelf.items }
+    ensures due { IfOk result (λ step. step ≡ steps.Did None) }
+    ensures stopped { IfErr result (λ e. e ≡ Stopped → IsFull book.old.events) }
 {
     let answer = world.call(GateCall::Detach { b })?;
     note_detached(setting, seat, b, answer, book)?;
-    if !seat.core.may_gate_answer(&answer) {
-        return Err(StepFault::Stopped);
-    }
     seat.core.gate_answer(answer);
     Ok(Step::Did(None))
 }
@@ -210,6 +226,7 @@ fn note_detached(
         seat.now.s (events.Detached b cause answer)))) }
     ensures did { OnOk result (book.old.events < book.new.events) }
     ensures events { book.old.events ≤ book.new.events }
+    ensures stopped { IfErr result (λ e. e ≡ Stopped → IsFull book.old.events) }
 {
     let cause = seat.core.cause()?;
     book.note(

@@ -1,8 +1,13 @@
 //! The gate and the backends, which all sessions share.
-ghost use Rattle.std.specs.Prelude.{◌≡◌, ◌↔◌, ◌<◌, ◌≤◌, All, IfOk, IsTrue, length, take};
+ghost use Rattle.std.specs.Prelude.{◌≡◌, ◌↔◌, ◌<◌, ◌≤◌, All, IfOk, IfErr, OnErr, IsTrue, length, take};
+ghost use Rattle.pool_base.specs.Outside.{Rose};
 ghost use Rattle.backend_trait.specs.Store.{prepared};
+ghost use Rattle.backend_trait.specs.declared.answer.Polled.TheVariants.{Lost};
 ghost use Rattle.snapshot_gate.specs.Function.{step, MayCall};
 ghost use Rattle.session_seat.specs.Rolls.{AreTrue, prop};
+ghost use Rattle.session_seat.specs.Dues.{LooksAt};
+ghost use Rattle.session_seat.specs.Stops.{MayLookAt, MayPostAt};
+ghost use Rattle.session_seat.specs.declared.fault.StepFault.TheVariants.{Stopped};
 
 use crate::calls::may_call;
 use crate::fault::StepFault;
@@ -17,13 +22,13 @@ use snapshot_gate::Gate;
 pub struct World<B: Backend> {
     pub gate: Gate,
     /// The tables of each backend.
-    tables: Catalogue,
+    pub(crate) tables: Catalogue,
     pub shelf: Vec<B>,
     pub count: usize,
     /// The backends whose loss has taken place.
     lost: BackendSet,
     /// The roll of each backend.
-    rolls: [Roll; 8],
+    pub(crate) rolls: [Roll; 8],
     ghost enough: { count ≤ length shelf.items },
     // The rolls are true, and each backend has the tables.
     ghost known: { AreTrue B.meaning tables count shelf.items rolls } by { prop B.meaning _ _ _ _ },
@@ -63,6 +68,7 @@ impl<B: Backend> World<B> {
             self.old.gate.state call) }
         ensures count { self.new.count ≡ self.old.count }
         ensures boxes { self.new.shelf.items ≡ self.old.shelf.items }
+        ensures stopped { OnErr result (MayCall self.old.gate.state call → ⊥) }
     {
         if !may_call(&self.gate.state, call) {
             return Err(StepFault::Stopped);
@@ -75,6 +81,8 @@ impl<B: Backend> World<B> {
         ensures gate { self.new.gate ≡ self.old.gate }
         ensures count { self.new.count ≡ self.old.count }
         ensures boxes { length self.new.shelf.items ≡ length self.old.shelf.items }
+        ensures stopped { IfErr result (λ e. e ≡ Stopped → MayPostAt self.old.tables self.old.count
+            self.old.rolls s.number b.number request → ⊥) }
     {
         let at = usize::from(b.number);
         if at >= self.count {
@@ -90,6 +98,12 @@ impl<B: Backend> World<B> {
         ensures gate { self.new.gate ≡ self.old.gate }
         ensures count { self.new.count ≡ self.old.count }
         ensures boxes { length self.new.shelf.items ≡ length self.old.shelf.items }
+        ensures looks { IfOk result (λ looked. LooksAt B.meaning B.is_prompt self.old.shelf.items
+            s.number b.number looked.polled) }
+        ensures rose { IfOk result (λ looked. looked.polled ≡ Lost
+            → Rose looked.before looked.after) }
+        ensures stopped { OnErr result (MayLookAt self.old.count self.old.rolls s.number b.number
+            → ⊥) }
     {
         let at = usize::from(b.number);
         if at >= self.count {

@@ -1,11 +1,22 @@
-use Rattle.std.proofs.Common.{ℕ, ◌<◌, length, sym, subst, arith}
+use Rattle.std.proofs.Common.{◌≡◌, ℕ, ◌<◌, length, sym, subst, ◌∙◌, arith}
 use Rattle.session_player.specs.declared.slots.Slot.{Slot}
+use Rattle.pool_base.specs.declared.session_id.SessionId.{SessionId}
+use Rattle.session_machine.specs.declared.machine.ReadPolicy.{ReadPolicy}
+use Rattle.session_player.specs.Journals.{machine_in_slot}
 use Rattle.session_player.specs.Slots.{IsPlaced}
+use Rattle.session_player.proofs.Going.{machines_same}
 use Rattle.session_player.proofs.Placing.{placed_anew}
 use Rattle.session_player.proofs.player.end_each.Goals as goal
 
 pub loop-slot-preserved : goal.loop-slot-preserved
 loop-slot-preserved c =
-    let below : c.loop-slot.slot-index < length c.loop-slot.slots = omega (arith, c.loop-slot.auto.slots, c.loop-slot-test.true) in
+    let i = c.loop-slot.slot-index in
+    let slots = c.loop-slot.slots in
+    let slot = c.slot-item.result in
+    let below : i < length slots = omega (arith, c.loop-slot.auto.slots, c.loop-slot-test.true) in
     let Keeps : Slot → Type 0 = λ old. (before : ℕ) → IsPlaced before old → IsPlaced before c.end_input.new.slot in
-    placed_anew c.loop-slot.slots c.loop-slot.slot-index c.slot-item.result c.end_input.new.slot c.loop-slot.invariant below c.slot-item.is (subst Keeps (sym c.slot-item.is) c.end_input.ensures)
+    let Same : Slot → Type 0 = λ old. (policy : ReadPolicy) → (s : SessionId) → machine_in_slot policy s c.end_input.new.slot ≡ machine_in_slot policy s old in
+    record {
+      placed = placed_anew slots i slot c.end_input.new.slot c.loop-slot.invariant.placed below c.slot-item.is (subst Keeps (sym c.slot-item.is) c.end_input.ensures.placed);
+      machines = λ policy. machines_same policy slots i slot c.end_input.new.slot below c.slot-item.is (λ s own. subst Same (sym c.slot-item.is) c.end_input.ensures.machine policy s) ∙ c.loop-slot.invariant.machines policy;
+    }

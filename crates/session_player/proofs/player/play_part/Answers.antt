@@ -1,3 +1,8 @@
+use Rattle.std.proofs.Common.{sym, subst}
+use Rattle.session_seat.specs.declared.book.Journal.{Journal}
+use Rattle.session_seat.specs.Policy.{policy_in}
+use Rattle.session_player.specs.Journals.{Went, state_of}
+use Rattle.session_player.proofs.Going.{on_ok_always}
 use Rattle.pgproto.specs.Line.{line_of}
 use Rattle.std.proofs.lemmas.Result.{on_ok_weaker}
 use Rattle.session_player.proofs.Telling.{grew_on, part_of}
@@ -13,3 +18,12 @@ pub returns-clause-grows : goal.returns-clause-grows
 returns-clause-grows g c =
     let had = g.O.Sink.taken in
     grew_on (had c.args.out.now) (had c.put_echo.new.out) (had c.put_told.new.out) c.put_echo.ensures.grows c.put_told.ensures.grows
+
+pub returns-clause-went : goal.returns-clause-went
+returns-clause-went g c =
+    let policy = policy_in c.args.setting.config.now in
+    let scene = c.args.scene.now in
+    let played = c.play_line.new.scene in
+    on_ok_always c.put_told.result
+    (subst (λ (j : Journal). Went c.args.setting.tables.now (state_of policy c.args.world.now.gate.state scene.seats.slots.items) scene.book.journal (state_of policy c.play_line.new.world.gate.state played.seats.slots.items) j)
+    (sym c.put_told.ensures.journal) c.in_ok-play_line.ensures.went)

@@ -1,8 +1,13 @@
 use Rattle.std.proofs.Common.{◌≡◌, ◌-◌, length}
+use Rattle.session_seat.specs.Policy.{policy_in}
+use Rattle.session_player.specs.Journals.{Went, state_of}
 use Rattle.session_player.proofs.round.rounds.Given as goal
 
 abbrev pub invariant-rounds : goal.invariant-rounds
-invariant-rounds g l = length l.world.shelf.items ≡ length l.fn.world.shelf.items
+invariant-rounds g l = record {
+  went : Went l.setting.tables.now (state_of (policy_in l.setting.config.now) l.fn.world.gate.state l.fn.seats.slots.items) l.fn.book.journal (state_of (policy_in l.setting.config.now) l.world.gate.state l.seats.slots.items) l.book.journal;
+  boxes : length l.world.shelf.items ≡ length l.fn.world.shelf.items;
+}
 
 abbrev pub decreases-rounds : goal.decreases-rounds
 decreases-rounds g l = 18446744073709551616 - l.book.events

@@ -1,8 +1,12 @@
 use Rattle.std.proofs.Common.{◌≡◌, ◌-◌, length}
+use Rattle.session_engine.specs.Cores.{machine_in}
+use Rattle.session_seat.specs.Steps.{at}
+use Rattle.session_player.specs.Journals.{Goes}
 use Rattle.session_player.proofs.round.take_steps.Given as goal
 
 abbrev pub invariant-steps : goal.invariant-steps
 invariant-steps g l = record {
+  goes : Goes l.setting.tables.now l.fn.seat.s (at l.fn.world.gate.state (machine_in l.fn.seat.core) l.fn.book.journal) (at l.world.gate.state (machine_in l.seat.core) l.book.journal);
   same : l.seat.s ≡ l.fn.seat.s;
   turn : l.seat.turn ≡ l.fn.seat.turn;
   boxes : length l.world.shelf.items ≡ length l.fn.world.shelf.items;

@@ -1,3 +1,7 @@
+use Rattle.std.proofs.Common.{ℕ, List, subst}
+use Rattle.pool_base.specs.Outside.{Appends}
+use Rattle.std.proofs.lemmas.Result.{on_ok_weaker}
+use Rattle.session_player.proofs.Going.{put_on}
 use Rattle.session_player.proofs.Telling.{grew_on}
 use Rattle.session_player.proofs.writing.put_journal.Goals as goal
 
@@ -5,3 +9,11 @@ pub returns-in_ok-put-in-On-clause-grows : goal.returns-in_ok-put-in-On-clause-g
 returns-in_ok-put-in-On-clause-grows g c =
     let had = g.O.Sink.taken in
     grew_on (had c.args.out.now) (had c.put.new.out) (had c.put-in-On.new.out) c.put.ensures.grows c.put-in-On.ensures.grows
+
+pub returns-in_ok-put-in-On-clause-put : goal.returns-in_ok-put-in-On-clause-put
+returns-in_ok-put-in-On-clause-put g c =
+    let had = g.O.Sink.taken in
+    let header = subst (λ (bytes : List ℕ). Appends (had c.args.out.now) (had c.put.new.out) bytes) c.as_bytes.ensures c.in_ok-put-in-On.ensures.all in
+    on_ok_weaker c.put-in-On.result
+    (λ all. put_on c.args.setting.config.now c.args.setting.tables.now c.args.book.now.journal c.in-On.lines c.in_ok-header-in-On.header (had c.args.out.now) (had c.put.new.out) (had c.put-in-On.new.out) c.in-On.is
+    c.in_ok-header-in-On.ensures header (subst (λ (bytes : List ℕ). Appends (had c.put.new.out) (had c.put-in-On.new.out) bytes) c.as_slice.ensures all)) c.put-in-On.ensures.all

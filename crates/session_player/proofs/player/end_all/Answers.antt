@@ -1,0 +1,11 @@
+use Rattle.std.proofs.Common.{◌∙◌, ap, drop, length, arith}
+use Rattle.session_player.specs.Journals.{machines_of}
+use Rattle.session_player.proofs.Going.{whole_again}
+use Rattle.session_player.proofs.player.end_all.Goals as goal
+
+pub returns : goal.returns
+returns c = λ policy.
+    let slots = c.args.seats.now.slots in
+    let new = c.end_each.new.slots in
+    ap (machines_of policy) (whole_again slots.len new (drop (length new) slots.items) (omega (arith, c.as_mut_slice.ensures.len, c.end_each.auto.slots)))
+    ∙ (c.end_each.ensures.machines policy ∙ ap (machines_of policy) c.as_mut_slice.ensures.value)

@@ -1,0 +1,60 @@
+-- The schedule of a play, and its journal.
+use Rattle.std.specs.Prelude.{◌≡◌, ℕ, ◌-◌, List, ◌++◌, Option, slice_index_or}
+use Rattle.pool_base.specs.Outside.{Appends}
+use Rattle.pool_base.specs.declared.session_id.SessionId.{SessionId}
+use Rattle.pool_config.specs.declared.config.Config.{Config}
+use Rattle.schema.specs.declared.catalogue.TableDef.{TableDef}
+use Rattle.journal.specs.Header.{IsHeader}
+use Rattle.snapshot_gate.specs.declared.state.GateState.{GateState}
+use Rattle.session_machine.specs.declared.machine.Machine.{Machine}
+use Rattle.session_machine.specs.declared.machine.ReadPolicy.{ReadPolicy}
+use Rattle.session_machine.specs.Rules.{new_machine}
+use Rattle.session_engine.specs.Cores.{machine_in}
+use Rattle.session_seat.specs.declared.book.Journal.{Journal}
+use Rattle.session_seat.specs.declared.book.Journal.TheVariants.{Off, On}
+use Rattle.session_seat.specs.Policy.{policy_in}
+use Rattle.session_seat.specs.Told.{Entry, added, lines}
+use Rattle.session_seat.specs.Schedule.{State, state, with_machine, IsSchedule}
+use Rattle.session_seat.specs.Steps.{Stand}
+use Rattle.pgproto.specs.Line.{Line}
+use Rattle.session_player.specs.declared.slots.Slot.{Slot}
+use Rattle.session_player.specs.declared.slots.Slot.TheVariants.{Free, Taken}
+use Rattle.session_player.specs.Written.{ArePlayed}
+
+-- the machine of session s: that of its client; where none is connected, that of its start
+abbrev pub machine_in_slot : ReadPolicy → SessionId → Slot → Machine
+machine_in_slot policy s Free = new_machine s policy
+machine_in_slot policy s (Taken client) = machine_in client.seat.core
+
+abbrev pub machines_of : ReadPolicy → List Slot → SessionId → Machine
+machines_of policy slots s = machine_in_slot policy s (slice_index_or slots (s.number - 1) Free)
+
+abbrev pub state_of : ReadPolicy → GateState → List Slot → State
+state_of policy gate slots = state gate (machines_of policy slots)
+
+-- before a play no client is connected
+abbrev pub first_state : ReadPolicy → GateState → State
+first_state policy gate = state gate (λ s. new_machine s policy)
+
+-- a schedule leads from one state to the other, and the journal tells of it, line by line
+abbrev pub Went : List TableDef → State → Journal → State → Journal → Type 0
+Went tables old journal new journal_then = (entries : List Entry) × IsSchedule old entries new × (journal_then ≡ added journal (lines tables entries))
+
+-- so does one of session s alone, wherever the others stand
+abbrev pub Goes : List TableDef → SessionId → Stand → Stand → Type 0
+Goes tables s old new =
+    (all : SessionId → Machine) → all s ≡ old.machine → Went tables (state old.gate all) old.journal (state new.gate (with_machine all s new.machine)) new.journal
+
+-- a journal that is kept was written behind its header
+abbrev pub IsPut : Config → List TableDef → Journal → Option (List ℕ) → Option (List ℕ) → Type 0
+IsPut config tables Off old new = new ≡ old
+IsPut config tables (On kept) old new = (header : List ℕ) × IsHeader config tables header × Appends old new (header ++ kept)
+
+-- behind the transcript of a script stands the journal of a schedule, which leads from the start, with this gate, to that gate
+pub record IsJournaled (config : Config) (tables : List TableDef) (script : List Line) (journal : Journal) (first last : GateState) (old new : Option (List ℕ)) : Type 0 where
+  pub entries : List Entry
+  pub machines : SessionId → Machine
+  pub schedule : IsSchedule (first_state (policy_in config) first) entries (state last machines)
+  pub transcript : Option (List ℕ)
+  pub played : ArePlayed script old transcript
+  pub put : IsPut config tables (added journal (lines tables entries)) transcript new
