@@ -13,20 +13,20 @@ ghost use Rattle.model_store.specs.declared.phase.Waiting.TheVariants as waits;
 use crate::phase::{Phase, Run, Waiting, Work};
 use crate::room::put;
 use crate::seat::Seat;
-use crate::transaction::{begun, with_changes, with_lock};
+use crate::transaction::{begun, take_changes, take_lock};
 use backend_trait::{Answer, Catalogue};
 use outcomes::{ChangeSet, NextNumbers, Outcome};
 use std::alloc::Global;
 use std::mem;
 
-/// The transaction once its statement has been granted, and the answer.
-fn grant_run(work: Work, run: Run) -> (Work, Answer)
+/// Grants a transaction its statement: the answer.
+fn grant_run(work: &mut Work, run: Run) -> Answer
     requires gives { is_result run.outcome ≡ true }
-    requires roomy { has_room_for work run.outcome }
+    requires roomy { has_room_for work.old run.outcome }
     ensures live { (log : Sequence ChangeSet)
-        → live_of log result.0 ≡ given_to (given_in run.outcome) (live_of log work) }
-    ensures mark { result.0.mark ≡ work.mark }
-    ensures answer { result.1 ≡ answer_of run.outcome }
+        → live_of log work.new ≡ given_to (given_in run.outcome) (live_of log work.old) }
+    ensures mark { work.new.mark ≡ work.old.mark }
+    ensures answer { result ≡ answer_of run.outcome }
 {
     let Run { statement, outcome } = run;
     drop(statement);
@@ -35,7 +35,10 @@ fn grant_run(work: Work, run: Run) -> (Work, Answer)
             answer,
             changes,
             places,
-        } => (with_changes(work, changes, places), answer),
+        } => {
+            take_changes(work, changes, places);
+            answer
+        }
         Outcome::Fails(_) => unreachable!(),
     }
 }
@@ -50,59 +53,78 @@ fn number_told(next: Option<i64>) -> Answer
     }
 }
 
-/// Grants a request: the transaction from now on, and the answer. A statement draws its numbers.
+/// The set of a transaction that ends.
+fn taken_set(alloc: Global, work: &mut Work) -> ChangeSet
+    ensures { result ≡ work.old.own }
+{
+    let none = ChangeSet {
+        changes: Vec::new(alloc),
+    };
+    mem::replace(&mut work.own, none)
+}
+
+/// Grants a request to a session's transaction: the answer. A statement draws its numbers.
 pub(crate) fn grant(
     alloc: Global,
     catalogue: &Catalogue,
     log: &mut Vec<ChangeSet>,
     numbers: &mut NextNumbers,
-    phase: Phase,
+    phase: &mut Phase,
     waiting: Waiting,
-) -> (Phase, Answer)
-    requires fitting { fits phase (Some waiting) ≡ true }
-    requires roomy { has_room_in phase (Some waiting) }
+) -> Answer
+    requires fitting { fits phase.old (Some waiting) ≡ true }
+    requires roomy { has_room_in phase.old (Some waiting) }
     requires gives { gives waiting ≡ true }
-    requires given { IsGivenAt (next_of numbers.old) catalogue.now log.old.items phase
+    requires given { IsGivenAt (next_of numbers.old) catalogue.now log.old.items phase.old
         (Some waiting) }
-    requires marked { mark_of phase ≤ length log.old.items }
-    requires room { vec_len log.old + owed phase (Some waiting) ≤ vec_capacity log.old }
-    ensures log { log.new.items ≡ logged log.old.items phase waiting }
-    ensures phase { transaction_of log.old.items result.0
-        ≡ granted log.old.items phase waiting }
-    ensures answer { result.1 ≡ answer_to (next_of numbers.old) waiting }
+    requires marked { mark_of phase.old ≤ length log.old.items }
+    requires room { vec_len log.old + owed phase.old (Some waiting) ≤ vec_capacity log.old }
+    ensures log { log.new.items ≡ logged log.old.items phase.old waiting }
+    ensures phase { transaction_of log.old.items phase.new
+        ≡ granted log.old.items phase.old waiting }
+    ensures answer { result ≡ answer_to (next_of numbers.old) waiting }
     ensures numbers { next_of numbers.new
         ≡ numbered catalogue.now (next_of numbers.old) waiting }
-    ensures marked { mark_of result.0 ≤ length log.old.items }
-    ensures room { vec_len log.new + owed result.0 None
-        ≤ vec_len log.old + owed phase (Some waiting) }
+    ensures marked { mark_of phase.new ≤ length log.old.items }
+    ensures room { vec_len log.new + owed phase.new None
+        ≤ vec_len log.old + owed phase.old (Some waiting) }
     ensures capacity { vec_capacity log.old ≤ vec_capacity log.new }
 {
     match waiting {
-        Waiting::Snapshot => (Phase::Open(begun(alloc, log.as_slice())), Answer::Began),
+        Waiting::Snapshot => {
+            *phase = Phase::Open(begun(alloc, log.as_slice()));
+            Answer::Began
+        }
         Waiting::Run(run) => match phase {
             Phase::Open(work) => {
                 numbers.draw(catalogue, &run.statement);
-                let (work, answer) = grant_run(work, run);
-                (Phase::Open(work), answer)
+                grant_run(work, run)
             }
             Phase::Absent | Phase::Dead => unreachable!(),
         },
         Waiting::Lock(table) => match phase {
-            Phase::Open(work) => (Phase::Open(with_lock(work, table)), Answer::Locked),
+            Phase::Open(work) => {
+                take_lock(work, table);
+                Answer::Locked
+            }
             Phase::Absent | Phase::Dead => unreachable!(),
         },
         Waiting::Commit => match phase {
             Phase::Open(work) => {
-                put(log, work.own);
-                (Phase::Absent, Answer::Done)
+                put(log, taken_set(alloc, work));
+                *phase = Phase::Absent;
+                Answer::Done
             }
             Phase::Absent | Phase::Dead => unreachable!(),
         },
-        Waiting::Rollback => (Phase::Absent, Answer::Done),
-        Waiting::ReadSerial(table) => (phase, number_told(numbers.at(table))),
+        Waiting::Rollback => {
+            *phase = Phase::Absent;
+            Answer::Done
+        }
+        Waiting::ReadSerial(table) => number_told(numbers.at(table)),
         Waiting::SetSerial(table, next) => {
             numbers.set(table, Some(next));
-            (phase, Answer::Done)
+            Answer::Done
         }
     }
 }
@@ -134,21 +156,10 @@ pub(crate) fn grant_at(
         ≤ vec_len log.old + owed seat.old.phase seat.old.waiting }
     ensures capacity { vec_capacity log.old ≤ vec_capacity log.new }
 {
-    let empty = Seat {
-        phase: Phase::Absent,
-        waiting: None,
-    };
-    let Seat { phase, waiting } = mem::replace(seat, empty);
-    let Some(waiting) = waiting else {
+    let Some(waiting) = mem::replace(&mut seat.waiting, None) else {
         unreachable!()
     };
-    let (phase, answer) = grant(alloc, catalogue, log, numbers, phase, waiting);
-    let granted = Seat {
-        phase,
-        waiting: None,
-    };
-    drop(mem::replace(seat, granted));
-    answer
+    grant(alloc, catalogue, log, numbers, &mut seat.phase, waiting)
 }
 
 /// A request that is refused draws its numbers, where it is a statement.

@@ -70,7 +70,7 @@ impl MemoryStore {
     pub fn new(alloc: Global) -> Result<MemoryStore, NoMemory>
         ensures { IfOk result (λ store. meaning store ≡ blank) }
     {
-        let mut seats: Vec<Seat> = Vec::new(alloc);
+        let mut seats: Vec<Seat> = Vec::with_capacity(alloc, SEATS)?;
         for _ in 0..SEATS {
             seats.push(Seat {
                 phase: Phase::Absent,

@@ -27,48 +27,24 @@ pub(crate) fn begun(alloc: Global, log: &[ChangeSet]) -> Work
     }
 }
 
-/// The transaction with changes and places more, for which there is room.
-pub(crate) fn with_changes(work: Work, more: Vec<Change>, places: Vec<Spot>) -> Work
-    requires changes { vec_len work.own.changes + vec_len more ≤ vec_capacity work.own.changes }
-    requires places { vec_len work.held + vec_len places ≤ vec_capacity work.held }
-    ensures live { (log : Sequence ChangeSet) → live_of log result
-        ≡ live_after more.items (map place_of places.items) (live_of log work) }
-    ensures mark { result.mark ≡ work.mark }
+/// Puts changes and places into a transaction, which has room for them.
+pub(crate) fn take_changes(work: &mut Work, more: Vec<Change>, places: Vec<Spot>)
+    requires changes { vec_len work.old.own.changes + vec_len more
+        ≤ vec_capacity work.old.own.changes }
+    requires places { vec_len work.old.held + vec_len places ≤ vec_capacity work.old.held }
+    ensures live { (log : Sequence ChangeSet) → live_of log work.new
+        ≡ live_after more.items (map place_of places.items) (live_of log work.old) }
+    ensures mark { work.new.mark ≡ work.old.mark }
 {
-    let Work {
-        mark,
-        own,
-        mut held,
-        locks,
-    } = work;
-    let ChangeSet { mut changes } = own;
-    put_all(&mut changes, more);
-    put_all(&mut held, places);
-    Work {
-        mark,
-        own: ChangeSet { changes },
-        held,
-        locks,
-    }
+    put_all(&mut work.own.changes, more);
+    put_all(&mut work.held, places);
 }
 
-/// The transaction with the lock of one table more.
-pub(crate) fn with_lock(work: Work, table: u8) -> Work
-    ensures live { (log : Sequence ChangeSet) → live_of log result
-        ≡ with_lock table (live_of log work) }
-    ensures mark { result.mark ≡ work.mark }
+/// Gives a transaction the lock of a table.
+pub(crate) fn take_lock(work: &mut Work, table: u8)
+    ensures live { (log : Sequence ChangeSet) → live_of log work.new
+        ≡ with_lock table (live_of log work.old) }
+    ensures mark { work.new.mark ≡ work.old.mark }
 {
-    let Work {
-        mark,
-        own,
-        held,
-        mut locks,
-    } = work;
-    locks[usize::from(table)] = true;
-    Work {
-        mark,
-        own,
-        held,
-        locks,
-    }
+    work.locks[usize::from(table)] = true;
 }

@@ -21,7 +21,6 @@ use backend_trait::{Catalogue, Checked, Posted, Request};
 use outcomes::{ChangeSet, Index, NextNumbers, Outcome, outcome_at, table_in};
 use pool_base::NoMemory;
 use std::alloc::Global;
-use std::mem;
 
 /// How many seats there are: one at each number of a session, and one that none has.
 pub(crate) const SEATS: usize = 65;
@@ -192,7 +191,7 @@ fn accept(seat: &mut Seat, waiting: Waiting) -> Posted
     ensures waiting { seat.new.waiting ≡ Some waiting }
     ensures accepted { result ≡ posts.Accepted }
 {
-    drop(mem::replace(&mut seat.waiting, Some(waiting)));
+    seat.waiting = Some(waiting);
     Posted::Accepted
 }
 

@@ -7,6 +7,7 @@ pub mod Sure
 pub mod Named
 pub mod Ready
 pub mod Said
+pub mod Timeless
 pub mod Asking
 pub mod Replying
 pub mod Telling

@@ -83,3 +83,9 @@ read_said tables moment text all (Err e) reads asks = tt
 pub of_said : (tables : List TableDef) (moment : ℤ) (bytes said : List ℕ) (r : Result Given NoMemory) → said ≡ bytes → IsUtf8 bytes → IfOk r (λ asked. Asks tables moment said (asked_of asked)) → IfOk r (λ asked. IsAsked tables moment bytes (asked_of asked))
 of_said tables moment bytes said (Ok asked) same utf8 asks = of_text utf8 (subst (λ (text : List ℕ). Asks tables moment text (asked_of asked)) same asks)
 of_said tables moment bytes said (Err e) same utf8 asks = tt
+
+-- one that stays as it is at the moment
+pub kept_said : (moment : ℤ) (checked : Checked) (r : Result Given NoMemory) → IsMoment moment → IfOk r (λ asked. asked_of asked ≡ checked_asks moment checked)
+    → IfOk r (λ asked. IsAskedAt moment checked (asked_of asked))
+kept_said moment checked (Ok asked) within is = inr (within, is)
+kept_said moment checked (Err e) within is = tt

@@ -1,6 +1,7 @@
 //! What a text of SQL asks for.
-ghost use Rattle.std.specs.Prelude.{◌≡◌, ◌<◌, ◌^◌, ◌⊎◌, ℕ, length, List as Sequence, IfOk, Some, option_map, [], ◌∷◌, codes};
+ghost use Rattle.std.specs.Prelude.{◌≡◌, ◌<◌, ◌^◌, ◌⊎◌, ◌↔◌, IsTrue, ℕ, ℤ, length, List as Sequence, IfOk, Some, option_map, [], ◌∷◌, codes};
 ghost use Rattle.pg_values.specs.Range.{IsMoment};
+ghost use Rattle.time_rewrite.specs.Rewriting.{at_moment};
 ghost use Rattle.schema.specs.Grammar.{IsWithin};
 ghost use Rattle.sql_reader.specs.Text.{IsTextOf};
 ghost use Rattle.play.specs.Codes.{text_of_code};
@@ -8,6 +9,7 @@ ghost use Rattle.play.specs.Asked.{Asks, IsAsked, checked_asks, left, left_out, 
 ghost use Rattle.play.specs.Told.{asked_of};
 
 use crate::codes::{about, outside, text_of_code};
+use backend_trait::is_runnable;
 use catalogue::{Catalogue, CheckFault, Checked, check};
 use classifier::{Class, class_of};
 use pool_base::{Code, List, NoMemory, Text};
@@ -37,6 +39,12 @@ const TOO_LONG: Code = Code { bytes: *b"54000" };
 const NO_TEXT: Code = Code { bytes: *b"22021" };
 
 const UNTIMELY: Code = Code { bytes: *b"22008" };
+
+/// The first moment, 0001-01-01 00:00 UTC.
+const FIRST_MOMENT: i64 = -63_082_281_600_000_000;
+
+/// The last moment, a microsecond before the year 10000.
+const LAST_MOMENT: i64 = 252_455_615_999_999_999;
 
 /// A refusal with the one text of its code.
 fn refused(alloc: Global, code: Code) -> Result<Asked, NoMemory>
@@ -90,8 +98,22 @@ fn left_out(statement: &Statement) -> Option<&'static str>
     }
 }
 
-/// What a checked statement asks for at a moment.
-fn checked_asks(alloc: Global, moment: i64, checked: &Checked) -> Result<Asked, NoMemory>
+/// What a statement that is in the form in which it runs asks for.
+fn class_asks(alloc: Global, checked: Checked) -> Result<Asked, NoMemory>
+    ensures { (moment : ℤ) → at_moment moment checked ≡ checked
+        → IfOk result (λ asked. asked_of asked ≡ checked_asks moment checked) }
+{
+    match class_of(&checked) {
+        Class::SerialInsert => {
+            drop(checked);
+            left(alloc, "serial")
+        }
+        Class::Read | Class::LockingRead | Class::Write => Ok(Asked::Runs(checked)),
+    }
+}
+
+/// What a statement asks for with the moment put in.
+fn rewritten_asks(alloc: Global, moment: i64, checked: &Checked) -> Result<Asked, NoMemory>
     ensures { IfOk result (λ asked.
         (¬ (IsMoment moment)
         × (asked_of asked ≡ refusal (codes "22008") (text_of_code (codes "22008"))))
@@ -110,6 +132,42 @@ fn checked_asks(alloc: Global, moment: i64, checked: &Checked) -> Result<Asked, 
     }
 }
 
+/// Whether a number of microseconds since 2000-01-01 00:00 UTC is in the range of moments.
+fn is_moment(micros: i64) -> bool
+    ensures { IsTrue result ↔ IsMoment micros }
+{
+    micros >= FIRST_MOMENT && micros <= LAST_MOMENT
+}
+
+/// Whether a statement stays as it is at a moment: no time function stands in it.
+#[tactic(auto, using(crate::proofs::Timeless::runnable_kept))]
+fn is_kept(catalogue: &Catalogue, moment: i64, checked: &Checked) -> bool
+    ensures within { IsTrue result → IsMoment moment }
+    ensures kept { (m : ℤ) → IsTrue result → at_moment m checked.now ≡ checked.now }
+{
+    is_moment(moment) && is_runnable(catalogue, checked)
+}
+
+/// What a checked statement asks for at a moment. One that stays as it is is not copied.
+fn checked_asks(
+    alloc: Global,
+    catalogue: &Catalogue,
+    moment: i64,
+    checked: Checked,
+) -> Result<Asked, NoMemory>
+    ensures { IfOk result (λ asked.
+        (¬ (IsMoment moment)
+        × (asked_of asked ≡ refusal (codes "22008") (text_of_code (codes "22008"))))
+        ⊎ (IsMoment moment × (asked_of asked ≡ checked_asks moment checked))) }
+{
+    if is_kept(catalogue, moment, &checked) {
+        return class_asks(alloc, checked);
+    }
+    let asked = rewritten_asks(alloc, moment, &checked);
+    drop(checked);
+    asked
+}
+
 /// What one statement asks for.
 fn statement_asks(
     alloc: Global,
@@ -125,11 +183,7 @@ fn statement_asks(
         return left(alloc, name);
     }
     match check(alloc, catalogue, statement, None) {
-        Ok(checked) => {
-            let asked = checked_asks(alloc, moment, &checked);
-            drop(checked);
-            asked
-        }
+        Ok(checked) => checked_asks(alloc, catalogue, moment, checked),
         Err(CheckFault::NoMemory) => Err(NoMemory),
         Err(CheckFault::Refused { code, name }) => Ok(Asked::Refused {
             code,

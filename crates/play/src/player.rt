@@ -36,6 +36,12 @@ const START: [u8; 33] = [
     b't', b'a', b'b', b'a', b's', b'e', 0, b'p', b'o', b'o', b'l', 0, 0,
 ];
 
+/// Most replies to a message are no longer than this. There is room for them at once.
+const REPLIES_SIZE: usize = 256;
+
+/// A message has no more bytes than this beside its text.
+const HEAD_SIZE: usize = 8;
+
 /// What stands before a line: whether the session is connected, and the moment.
 ///
 /// Units: the moment is in microseconds since 2000-01-01 00:00 UTC.
@@ -261,11 +267,18 @@ fn query<D: Database, O: Sink>(
     ensures later { O.fault_count out.old ≤ O.fault_count out.new }
 {
     let input = query_bytes(alloc, text)?;
-    let mut output = List::new(alloc);
+    let mut output = with_room(alloc, REPLIES_SIZE)?;
     let bytes = input.as_slice();
     let connected = serve(alloc, catalogue, moment, bytes, database, &mut output)?;
     put_replies(alloc, output.as_slice(), out)?;
     Ok(connected)
+}
+
+/// No bytes, with room for so many.
+fn with_room(alloc: Global, size: usize) -> Result<List<u8>, NoMemory>
+    ensures { IfOk result (λ bytes. bytes ≡ []) }
+{
+    Ok(List::from_vec(Vec::with_capacity(alloc, size)?))
 }
 
 /// The bytes of a Query.
@@ -273,8 +286,8 @@ fn query_bytes(alloc: Global, text: &[u8]) -> Result<List<u8>, NoMemory>
     requires { Fits (sent.Query text.now) }
     ensures { IfOk result (λ bytes. HoldsClient bytes (sent.Query text.now)) }
 {
+    let mut input = with_room(alloc, text.len().saturating_add(HEAD_SIZE))?;
     let text = List::from_slice(alloc, text)?;
-    let mut input = List::new(alloc);
     let message = ClientMessage::Query { text };
     let written = write_client(&message, &mut input);
     drop(message);

@@ -87,6 +87,13 @@ fn row_values(alloc: Global, cells: &[Value]) -> Result<List<Option<List<u8>>>, 
     Ok(values)
 }
 
+/// The bytes of a text. It takes no memory.
+fn bytes_of(text: Text) -> List<u8>
+    ensures { result ≡ text }
+{
+    List::from_vec(text.into_string().into_bytes())
+}
+
 /// A value as text; None is null.
 fn cell_text(alloc: Global, value: &Value) -> Result<Option<List<u8>>, NoMemory>
     requires { IsInRange value.now }
@@ -95,7 +102,7 @@ fn cell_text(alloc: Global, value: &Value) -> Result<Option<List<u8>>, NoMemory>
     is_held(value);
     match text_of(alloc, value)? {
         None => Ok(None),
-        Some(text) => Ok(Some(List::from_slice(alloc, text.as_bytes())?)),
+        Some(text) => Ok(Some(bytes_of(text))),
     }
 }
 
@@ -136,7 +143,7 @@ pub(crate) fn written(
     ensures fits { IfOk result Fits }
 {
     let text = tag_text(alloc, body, count)?;
-    let tag = List::from_slice(alloc, text.as_bytes())?;
+    let tag = bytes_of(text);
     Ok(ServerMessage::Complete { tag })
 }
 

@@ -28,6 +28,8 @@ use std::mem;
 use write_path::Chain;
 
 /// Runs the command of the words: its output goes to `out`, and its status is the result.
+///
+/// After: the memory of what was read stays taken, since the program ends behind the run.
 pub fn run<F: Files, O: Sink, B: Backend>(
     alloc: Global,
     words: &[&str],
@@ -45,7 +47,9 @@ pub fn run<F: Files, O: Sink, B: Backend>(
         shelf.new.items)) }
 {
     let asked = ask(alloc, words, files);
-    carry_out(alloc, &asked, out, shelf).code()
+    let status = carry_out(alloc, &asked, out, shelf);
+    mem::forget(asked);
+    status.code()
 }
 
 /// Plays the script that is to be played, or tells why none is.

@@ -9,8 +9,11 @@ use backend_trait::Backend;
 use model_store::MemoryStore;
 use pool_base::{Files, NoMemory, Sink};
 use std::alloc::Global;
+use std::mem;
 
 /// Runs the command of the words over eight stores in memory.
+///
+/// After: the memory of the stores stays taken, since the program ends behind the run.
 pub fn run_over_stores<F: Files, O: Sink>(
     alloc: Global,
     words: &[&str],
@@ -32,5 +35,7 @@ pub fn run_over_stores<F: Files, O: Sink>(
     put(&mut shelf, Box::new(alloc, MemoryStore::new(alloc)?)?)?;
     put(&mut shelf, Box::new(alloc, MemoryStore::new(alloc)?)?)?;
     put(&mut shelf, Box::new(alloc, MemoryStore::new(alloc)?)?)?;
-    Ok(pool_run(alloc, words, files, out, &mut shelf))
+    let code = pool_run(alloc, words, files, out, &mut shelf);
+    mem::forget(shelf);
+    Ok(code)
 }

@@ -11,8 +11,8 @@ returns-in-Some c = later_said c.args.catalogue.now c.args.moment c.args.stateme
 
 pub returns-in-Ok : goal.returns-in-Ok
 returns-in-Ok c =
-    let asked = subst (λ (m : ℤ). IfOk c.checked_asks-asked.result (λ asked. IsAskedAt m c.in-Ok.checked (asked_of asked))) (to_z-of_z w64 c.args.moment c.ranges.moment) c.checked_asks-asked.ensures in
-    checked_said c.args.catalogue.now c.args.moment c.args.statement.now c.in-Ok.checked c.checked_asks-asked.result c.in-Ok.ensures asked
+    let asked = subst (λ (m : ℤ). IfOk c.checked_asks.result (λ asked. IsAskedAt m c.in-Ok.checked (asked_of asked))) (to_z-of_z w64 c.args.moment c.ranges.moment) c.checked_asks.ensures in
+    checked_said c.args.catalogue.now c.args.moment c.args.statement.now c.in-Ok.checked c.checked_asks.result c.in-Ok.ensures asked
 
 pub returns-in_ok-about-in-Err-Refused : goal.returns-in_ok-about-in-Err-Refused
 returns-in_ok-about-in-Err-Refused c =

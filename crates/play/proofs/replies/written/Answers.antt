@@ -6,5 +6,5 @@ use Rattle.play.proofs.replies.written.Goals as goal
 
 pub returns-clause-fits : goal.returns-clause-fits
 returns-clause-fits c =
-    subst (λ (text : List ℕ). Fits (Complete text)) (sym (c.in_ok-tag.ensures ∙ (c.as_bytes.ensures ∙ c.in_ok-text.ensures)))
+    subst (λ (text : List ℕ). Fits (Complete text)) (sym (c.bytes_of-tag.ensures ∙ c.in_ok-text.ensures))
     (done_fits c.args.body.now c.args.count c.ranges.count.fits)

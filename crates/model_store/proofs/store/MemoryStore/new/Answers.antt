@@ -9,7 +9,7 @@ use Rattle.model_store.proofs.ApartLaws.{apart_absent}
 use Rattle.model_store.proofs.store.MemoryStore.new.Goals as goal
 
 pub loop-init : goal.loop-init
-loop-init c = rw c.new-seats.ensures.items (record { len = refl; absent = tt })
+loop-init c = rw c.in_ok-seats.ensures.items (record { len = refl; absent = tt })
 
 pub loop-preserved : goal.loop-preserved
 loop-preserved c = rw c.in_ok-push.ensures.items (record {
