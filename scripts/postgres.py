@@ -160,12 +160,12 @@ class Server:
 class Client:
     """A session of PostgreSQL's protocol, by Query messages, over a socket's path or a host with its port."""
 
-    def __init__(self, place, database="postgres"):
+    def __init__(self, place, database="postgres", user=USER):
         self.socket = socket.socket(socket.AF_UNIX if isinstance(place, str) else socket.AF_INET)
         self.socket.settimeout(60)
         self.socket.connect(place)
         self.input = self.socket.makefile("rb")
-        start = f"user\0{USER}\0database\0{database}\0client_encoding\0UTF8\0\0".encode()
+        start = f"user\0{user}\0database\0{database}\0client_encoding\0UTF8\0\0".encode()
         self.socket.sendall(struct.pack("!ii", len(start) + 8, 196608) + start)
         code = self.answer().code
         if code:

@@ -1,5 +1,6 @@
 /* bare_driver KIND CLIENTS SECONDS PORT..: what the pool asks of its servers, sent without the pool. KIND is read, update or
-   block. It prints how many transactions were committed in a second. */
+   block. It prints how many transactions were committed in a second, and the median and the longest time of them, in
+   milliseconds. */
 #include <libpq-fe.h>
 #include <pthread.h>
 #include <stdio.h>
@@ -16,7 +17,8 @@ static char **ports;
 struct client {
   pthread_t thread;
   unsigned seed;
-  long committed;
+  long committed, room;
+  double *times;
 };
 
 static double now(void) {
@@ -50,6 +52,17 @@ static int transaction(PGconn **links, unsigned *seed) {
   return 0;
 }
 
+static void note(struct client *self, double took) {
+  if (self->committed == self->room) self->times = realloc(self->times, (self->room += self->room + 4096) * sizeof took);
+  if (!self->times) exit(1);
+  self->times[self->committed++] = took * 1000;
+}
+
+static int compare(const void *one, const void *other) {
+  double less = *(const double *)one - *(const double *)other;
+  return less < 0 ? -1 : less > 0;
+}
+
 static void *run(void *given) {
   struct client *self = given;
   PGconn *links[MOST];
@@ -59,7 +72,12 @@ static void *run(void *given) {
     links[at] = PQconnectdb(place);
     if (PQstatus(links[at]) != CONNECTION_OK) exit(1);
   }
-  for (double end = now() + seconds; now() < end;) self->committed += transaction(links, &self->seed);
+  for (double begun = now(), end = begun + seconds; begun < end;) {
+    int good = transaction(links, &self->seed);
+    double done = now();
+    if (good) note(self, done - begun);
+    begun = done;
+  }
   for (int at = 0; at < servers; at++) PQfinish(links[at]);
   return NULL;
 }
@@ -71,16 +89,17 @@ int main(int count, char **words) {
   seconds = atoi(words[3]);
   servers = count - 4;
   ports = words + 4;
-  struct client *all_clients = calloc(clients, sizeof *all_clients);
-  long committed = 0;
+  struct client *all_clients = calloc(clients, sizeof *all_clients), whole = {0};
   for (int at = 0; at < clients; at++) {
     all_clients[at].seed = at + 1;
     if (pthread_create(&all_clients[at].thread, NULL, run, &all_clients[at])) return 1;
   }
   for (int at = 0; at < clients; at++) {
     pthread_join(all_clients[at].thread, NULL);
-    committed += all_clients[at].committed;
+    for (long place = 0; place < all_clients[at].committed; place++) note(&whole, all_clients[at].times[place] / 1000);
   }
-  printf("%ld\n", committed / seconds);
+  qsort(whole.times, whole.committed, sizeof *whole.times, compare);
+  if (!whole.committed) return 1;
+  printf("%ld %.3f %.1f\n", whole.committed / seconds, whole.times[whole.committed / 2], whole.times[whole.committed - 1]);
   return 0;
 }

@@ -1,5 +1,5 @@
 -- Reading the cells of a row from left to right.
-use Rattle.std.proofs.Common.{◌≡◌, List, [], ◌∷◌, ◌++◌, Option, Some, None, refl, sym, ap, ◌∙◌, append_assoc, append-nil, ℕ, suc, length, ◌≤◌, arith}
+use Rattle.std.proofs.Common.{◌≡◌, List, [], ◌∷◌, ◌++◌, Option, Some, None, refl, sym, ap, ◌∙◌, append_assoc, append-nil, ℕ, length, ◌≤◌, arith}
 use Rattle.pg_values.specs.declared.col_type.ColType.{ColType}
 use Rattle.pg_values.specs.declared.value.Value.{Value}
 use Rattle.postgres_link.specs.Asked.{IsCell, AreCells}

@@ -1,5 +1,5 @@
 -- Bytes that are heard in pieces.
-use Rattle.std.proofs.Common.{◌≡◌, ◌≢◌, ℕ, ◌+◌, ◌++◌, ◌≤◌, List, length, drop, refl, sym, arith, length-append}
+use Rattle.std.proofs.Common.{◌≡◌, ◌≢◌, ℕ, ◌+◌, ◌++◌, List, drop, refl, sym, arith, length-append}
 use Rattle.std.proofs.lemmas.List.{drop-append-le}
 use Rattle.pg_messages.specs.declared.server.ServerMessage.{ServerMessage}
 use Rattle.pg_messages.specs.declared.read.Read.{Read}

@@ -1,5 +1,5 @@
 -- Messages at the front of bytes, and what a hearing makes of them.
-use Rattle.std.proofs.Common.{◌≡◌, ℕ, suc, ◌≤◌, ◌+◌, ◌++◌, List, length, take, drop, ap, arith, sym, ◌∙◌, ◌<◌, length-drop}
+use Rattle.std.proofs.Common.{◌≡◌, ℕ, suc, ◌≤◌, ◌+◌, ◌++◌, List, length, drop, ap, arith, sym, ◌∙◌, ◌<◌, length-drop}
 use Rattle.std.proofs.lemmas.List.{length-take-le}
 use Rattle.pg_messages.specs.declared.server.ServerMessage.{ServerMessage}
 use Rattle.pg_messages.specs.declared.read.Read.TheVariants as read
@@ -7,7 +7,7 @@ use Rattle.pg_messages.specs.Fields.{int32}
 use Rattle.pg_messages.specs.Frame.{BeginsWith}
 use Rattle.pg_messages.specs.Fronts.{server_front}
 use Rattle.pg_messages.specs.Server.{IsServerForm, body_of}
-use Rattle.postgres_link.specs.Hearing.{Hears, LeadsTo, Outcome, goes}
+use Rattle.postgres_link.specs.Hearing.{LeadsTo, goes}
 
 -- a message takes one byte at least
 pub message_length : (m : ServerMessage) (n : ℕ) (bytes : List ℕ) → BeginsWith IsServerForm m n bytes → (1 ≤ n) × (n ≤ length bytes)

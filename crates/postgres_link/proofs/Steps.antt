@@ -1,5 +1,5 @@
 -- A step by an error.
-use Rattle.std.proofs.Common.{◌≡◌, List}
+use Rattle.std.proofs.Common.{List}
 use Rattle.pg_messages.specs.declared.server.Part.{Part}
 use Rattle.pg_messages.specs.declared.server.ServerMessage.TheVariants as message
 use Rattle.postgres_link.specs.declared.asked.Asked.{Asked}

@@ -1,5 +1,5 @@
 -- Reading the count of a tag.
-use Rattle.std.proofs.Common.{◌≡◌, ℕ, pos, List, Option, Some, None, length, take, drop, sym, ◌∙◌}
+use Rattle.std.proofs.Common.{◌≡◌, ℕ, pos, List, Option, Some, None, length, take, drop, sym}
 use Rattle.pg_values.specs.declared.col_type.ColType.TheVariants as kind
 use Rattle.pg_values.specs.declared.value.Value.{Value}
 use Rattle.pg_values.specs.declared.value.Value.TheVariants as value

@@ -72,64 +72,84 @@ AreCells (k ∷ ks) (v ∷ vs) (cell ∷ cells) = IsCell k v cell × AreCells ks
 -- ---- messages
 
 -- the columns are as many as are wanted, each in text form
-abbrev pub Describes : Wanted → List Field → Type 0
-Describes (wanted.Done w) fields = ⊥
-Describes (wanted.Count v) fields = ⊥
-Describes (wanted.Rows kinds) fields = (length fields ≡ length kinds) × All (λ f. f.format ≡ 0) fields
+abbrev pub AreColumns : List ColType → List Field → Type 0
+AreColumns kinds fields = (length fields ≡ length kinds) × All (λ f. f.format ≡ 0) fields
+
+-- these columns come next: first of all, or behind the tag of BEGIN where the text begins a block
+abbrev pub Describes : Wanted → Stage → List Field → Type 0
+Describes (wanted.Rows kinds false) stage.Open fields = AreColumns kinds fields
+Describes (wanted.Rows kinds true) stage.Begun fields = AreColumns kinds fields
+Describes w s fields = ⊥
 
 abbrev pub Opens : Wanted → Stage → List Field → Stage → Type 0
-Opens w stage.Open fields new = Describes w fields × (new ≡ stage.Rows [])
-Opens w (stage.Rows rows) fields new = ⊥
-Opens w (stage.Said r) fields new = ⊥
+Opens w s fields new = Describes w s fields × (new ≡ stage.Rows [])
 
 abbrev pub has_rows : Stage → Bool
 has_rows stage.Open = false
+has_rows stage.Begun = false
 has_rows (stage.Rows rows) = true
 has_rows (stage.Said r) = false
 
 abbrev pub Adds : Stage → Row → Stage → Type 0
 Adds stage.Open row new = ⊥
+Adds stage.Begun row new = ⊥
 Adds (stage.Rows rows) row new = new ≡ stage.Rows (rows ++ row ∷ [])
 Adds (stage.Said r) row new = ⊥
 
 abbrev pub Gains : Wanted → Stage → List (Option (List ℕ)) → Stage → Type 0
 Gains (wanted.Done w) s values new = ⊥
 Gains (wanted.Count v) s values new = ⊥
-Gains (wanted.Rows kinds) s values new = (has_rows s ≡ true) × (row : Row) × AreCells kinds values row.cells × Adds s row new
+Gains (wanted.Rows kinds begins) s values new = (has_rows s ≡ true) × (row : Row) × AreCells kinds values row.cells × Adds s row new
 
 -- the answer is a tag alone
 abbrev pub IsByTag : Wanted → Type 0
 IsByTag (wanted.Done w) = Unit {0}
 IsByTag (wanted.Count v) = Unit {0}
-IsByTag (wanted.Rows kinds) = ⊥
+IsByTag (wanted.Rows kinds begins) = ⊥
 
 abbrev pub IsByRows : Wanted → Type 0
 IsByRows (wanted.Done w) = ⊥
 IsByRows (wanted.Count v) = ⊥
-IsByRows (wanted.Rows kinds) = Unit {0}
+IsByRows (wanted.Rows kinds begins) = Unit {0}
+
+-- the tag of BEGIN comes next
+abbrev pub awaits_begin : Wanted → Stage → Bool
+awaits_begin (wanted.Rows kinds true) stage.Open = true
+awaits_begin w s = false
+
+abbrev pub Begins : List ℕ → Stage → Type 0
+Begins tag new = (tag ≡ word_tag word.Begin) × (new ≡ stage.Begun)
+
+-- of a text for rows, which may begin a block: its BEGIN is done, or the tag counts the rows
+abbrev pub CompletesRows : Stage → Bool → List ℕ → Stage → Type 0
+CompletesRows stage.Open true tag new = Begins tag new
+CompletesRows (stage.Rows rows) begins tag new = Counts (codes "SELECT ") tag (length rows) × (new ≡ stage.Said (reply.Rows rows))
+CompletesRows s begins tag new = ⊥
 
 abbrev pub Completes : Wanted → Stage → List ℕ → Stage → Type 0
 Completes (wanted.Done w) stage.Open tag new = (tag ≡ word_tag w) × (new ≡ stage.Said reply.Done)
 Completes (wanted.Count v) stage.Open tag new = (n : ℕ) × Counts (verb_tag v) tag n × (new ≡ stage.Said (reply.Count n))
-Completes (wanted.Rows kinds) (stage.Rows rows) tag new = Counts (codes "SELECT ") tag (length rows) × (new ≡ stage.Said (reply.Rows rows))
+Completes (wanted.Rows kinds begins) s tag new = CompletesRows s begins tag new
 Completes w s tag new = ⊥
 
 abbrev pub is_said : Stage → Bool
 is_said stage.Open = false
+is_said stage.Begun = false
 is_said (stage.Rows rows) = false
 is_said (stage.Said r) = true
 
 abbrev pub Refuses : Stage → List Part → Stage → Type 0
 Refuses s parts new = (is_said s ≡ false) × (code : Code) × (code_part parts ≡ Some code.bytes) × IsCode code.bytes × (length code.bytes ≡ 5) × (new ≡ stage.Said (reply.Refused code))
 
--- the status behind the answer: a block is open behind BEGIN, LOCK TABLE and a write, none behind COMMIT and ROLLBACK; behind a refusal no block goes on
+-- the status behind the answer: a block is open behind BEGIN, with rows or without, LOCK TABLE and a write, none behind COMMIT and ROLLBACK; behind a refusal no block goes on
 abbrev pub Leaves : Wanted → Reply → ℕ → Type 0
 Leaves w (reply.Refused code) status = status ≢ 84
 Leaves (wanted.Done word.Commit) r status = status ≡ 73
 Leaves (wanted.Done word.Rollback) r status = status ≡ 73
 Leaves (wanted.Done w) r status = status ≡ 84
 Leaves (wanted.Count v) r status = status ≡ 84
-Leaves (wanted.Rows kinds) r status = status ≢ 69
+Leaves (wanted.Rows kinds true) r status = status ≡ 84
+Leaves (wanted.Rows kinds false) r status = status ≢ 69
 
 -- the answer has come so far with the message; notices and settings are passed over
 abbrev pub GoesOn : Wanted → Stage → ServerMessage → Stage → Type 0
@@ -146,6 +166,7 @@ Goes old m new = (new.wanted ≡ old.wanted) × GoesOn old.wanted old.stage m ne
 
 abbrev pub Closes : Wanted → Stage → ℕ → Reply → Type 0
 Closes w stage.Open status r = ⊥
+Closes w stage.Begun status r = ⊥
 Closes w (stage.Rows rows) status r = ⊥
 Closes w (stage.Said said) status r = (r ≡ said) × Leaves w said status
 

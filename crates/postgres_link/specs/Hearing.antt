@@ -1,7 +1,6 @@
 -- What bytes of a server come to, heard message by message: the answer, that more is needed, or that they are none.
 use Rattle.std.specs.Prelude.{◌≡◌, ℕ, ◌+◌, ◌<◌, ◌≤◌, List, length, drop, Option, Some, None}
 use Rattle.pg_messages.specs.declared.server.ServerMessage.{ServerMessage}
-use Rattle.pg_messages.specs.declared.read.Read.{Read}
 use Rattle.pg_messages.specs.declared.read.Read.TheVariants as read
 use Rattle.pg_messages.specs.Fronts.{server_front}
 use Rattle.postgres_link.specs.declared.hearing.Step.{Step}

@@ -27,8 +27,9 @@ pub enum Verb {
 pub enum Wanted {
     Done(Word),
     Count(Verb),
-    /// Rows, by the types of their columns.
-    Rows(List<ColType>),
+    /// Rows, by the types of their columns; where the text `begins` a block, behind the tag of its
+    /// BEGIN.
+    Rows { kinds: List<ColType>, begins: bool },
 }
 
 /// What a text is answered.
@@ -45,6 +46,8 @@ pub enum Reply {
 pub enum Stage {
     /// Nothing of it has come.
     Open,
+    /// The tag of its BEGIN has come.
+    Begun,
     /// The columns have come, and these rows.
     Rows(List<Row>),
     /// All has come but the server's word that it is ready.

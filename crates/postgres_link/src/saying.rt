@@ -2,13 +2,19 @@
 //!
 //! ```text
 //! Open --columns--> Rows --row--> Rows --tag--> Said --ready--> the reply
-//! Open --tag--> Said       Open, Rows --error--> Said
+//! Open --tag--> Said       Open, Begun, Rows --error--> Said
+//! ```
+//!
+//! A text that begins a block goes another way to its columns:
+//!
+//! ```text
+//! Open --tag of BEGIN--> Begun --columns--> Rows
 //! ```
 //!
 //! Settings and notices are passed over everywhere.
 ghost use Rattle.std.specs.Prelude.{◌≡◌, true, OnErr, OnOk, IfOk, IfSome, IfNone, IsTrue, ◌↔◌, All, length};
 ghost use Rattle.postgres_link.specs.declared.asked.Stage.{Stage};
-ghost use Rattle.postgres_link.specs.Asked.{Goes, Ends, Leaves, Opens, Gains, Completes, Refuses, Carries, IsClosed, IsByTag, IsByRows, is_said, has_rows, Adds};
+ghost use Rattle.postgres_link.specs.Asked.{Goes, Ends, Leaves, Describes, Opens, Gains, Begins, Completes, Refuses, Carries, IsClosed, IsByTag, IsByRows, awaits_begin, is_said, has_rows, Adds};
 
 use crate::asked::{Asked, Reply, Stage, Wanted, Word};
 use crate::code::code_of;
@@ -23,11 +29,34 @@ use std::alloc::Global;
 use std::mem;
 
 /// Whether the columns are as many as are wanted, each in text form.
-fn describes(kinds: &[ColType], fields: &[Field]) -> bool
+fn are_columns(kinds: &[ColType], fields: &[Field]) -> bool
     ensures { IsTrue result ↔ ((length fields.now ≡ length kinds.now)
         × All (λ f. f.format ≡ 0) fields.now) }
 {
     fields.len() == kinds.len() && fields.iter().all(|field| field.format == 0)
+}
+
+/// Whether these columns come next.
+fn describes(wanted: &Wanted, stage: &Stage, fields: &[Field]) -> bool
+    ensures { IsTrue result ↔ Describes wanted.now stage.now fields.now }
+{
+    match (wanted, stage) {
+        (
+            Wanted::Rows {
+                kinds,
+                begins: false,
+            },
+            Stage::Open,
+        ) => { are_columns(kinds.as_slice(), fields) }
+        (
+            Wanted::Rows {
+                kinds,
+                begins: true,
+            },
+            Stage::Begun,
+        ) => { are_columns(kinds.as_slice(), fields) }
+        _ => false,
+    }
 }
 
 /// Puts the answer into a later stage.
@@ -37,25 +66,22 @@ fn set(stage: &mut Stage, next: Stage)
     drop(mem::replace(stage, next));
 }
 
-fn open(asked: &mut Asked, fields: &List<Field>) -> Step<Reply>
+fn open(alloc: Global, asked: &mut Asked, fields: &[Field]) -> Step<Reply>
     ensures { Carries (λ new. Opens asked.old.wanted asked.old.stage fields.now new) result
         asked.old asked.new }
 {
-    match (&asked.wanted, &asked.stage) {
-        (Wanted::Rows(kinds), Stage::Open) if describes(kinds.as_slice(), fields.as_slice()) => {
-            let rows = List::new(kinds.allocator());
-            set(&mut asked.stage, Stage::Rows(rows));
-            Step::Goes
-        }
-        _ => Step::Breaks,
+    if !describes(&asked.wanted, &asked.stage, fields) {
+        return Step::Breaks;
     }
+    set(&mut asked.stage, Stage::Rows(List::new(alloc)));
+    Step::Goes
 }
 
 fn has_rows(stage: &Stage) -> bool
     ensures { result ≡ has_rows stage.now }
 {
     match stage {
-        Stage::Open | Stage::Said(_) => false,
+        Stage::Open | Stage::Begun | Stage::Said(_) => false,
         Stage::Rows(_) => true,
     }
 }
@@ -68,7 +94,7 @@ fn push_row(stage: &mut Stage, row: Row) -> Result<(), NoMemory>
 {
     match stage {
         Stage::Rows(rows) => rows.push(row),
-        Stage::Open | Stage::Said(_) => {
+        Stage::Open | Stage::Begun | Stage::Said(_) => {
             drop(row);
             Ok(())
         }
@@ -84,7 +110,7 @@ fn gain(
         texts.now new) step asked.old asked.new) }
     ensures kept { OnErr result (asked.new ≡ asked.old) }
 {
-    let Wanted::Rows(kinds) = &asked.wanted else {
+    let Wanted::Rows { kinds, .. } = &asked.wanted else {
         return Ok(Step::Breaks);
     };
     if !has_rows(&asked.stage) {
@@ -114,13 +140,37 @@ fn said(alloc: Global, wanted: &Wanted, stage: &Stage, tag: &[u8]) -> Option<Rep
     }
 }
 
+/// Whether the tag of BEGIN comes next.
+fn awaits_begin(wanted: &Wanted, stage: &Stage) -> bool
+    ensures { result ≡ awaits_begin wanted.now stage.now }
+{
+    matches!(
+        (wanted, stage),
+        (Wanted::Rows { begins: true, .. }, Stage::Open)
+    )
+}
+
+/// The tag of BEGIN, where it comes next.
+fn begin(asked: &mut Asked, tag: &[u8]) -> Step<Reply>
+    ensures { Carries (λ new. Begins tag.now new) result asked.old asked.new }
+{
+    if tag != word_tag(Word::Begin) {
+        return Step::Breaks;
+    }
+    set(&mut asked.stage, Stage::Begun);
+    Step::Goes
+}
+
 /// The rows, where the tag counts them.
 fn complete_rows(alloc: Global, asked: &mut Asked, tag: &[u8]) -> Step<Reply>
     requires { IsByRows asked.old.wanted }
     ensures { Carries (λ new. Completes asked.old.wanted asked.old.stage tag.now new) result
         asked.old asked.new }
 {
-    let (Wanted::Rows(_), Stage::Rows(rows)) = (&asked.wanted, &asked.stage) else {
+    if awaits_begin(&asked.wanted, &asked.stage) {
+        return begin(asked, tag);
+    }
+    let (Wanted::Rows { .. }, Stage::Rows(rows)) = (&asked.wanted, &asked.stage) else {
         return Step::Breaks;
     };
     let Some(count) = counted(alloc, b"SELECT ", tag) else {
@@ -139,7 +189,7 @@ fn complete(alloc: Global, asked: &mut Asked, tag: &[u8]) -> Step<Reply>
     ensures { Carries (λ new. Completes asked.old.wanted asked.old.stage tag.now new) result
         asked.old asked.new }
 {
-    if let Wanted::Rows(_) = &asked.wanted {
+    if let Wanted::Rows { .. } = &asked.wanted {
         return complete_rows(alloc, asked, tag);
     }
     match said(alloc, &asked.wanted, &asked.stage, tag) {
@@ -155,7 +205,7 @@ fn is_said(stage: &Stage) -> bool
     ensures { result ≡ is_said stage.now }
 {
     match stage {
-        Stage::Open | Stage::Rows(_) => false,
+        Stage::Open | Stage::Begun | Stage::Rows(_) => false,
         Stage::Said(_) => true,
     }
 }
@@ -183,7 +233,8 @@ fn leaves(wanted: &Wanted, reply: &Reply, status: u8) -> bool
         (Reply::Refused(_), _) => status != b'T',
         (_, Wanted::Done(Word::Commit | Word::Rollback)) => status == b'I',
         (_, Wanted::Done(Word::Begin | Word::LockTable)) | (_, Wanted::Count(_)) => status == b'T',
-        (_, Wanted::Rows(_)) => status != b'E',
+        (_, Wanted::Rows { begins: true, .. }) => status == b'T',
+        (_, Wanted::Rows { begins: false, .. }) => status != b'E',
     }
 }
 
@@ -216,7 +267,7 @@ impl Hearer for Asked {
         match message {
             ServerMessage::ParameterStatus { .. } => Ok(Step::Goes),
             ServerMessage::Notice { .. } => Ok(Step::Goes),
-            ServerMessage::RowDescription { fields } => Ok(open(self, fields)),
+            ServerMessage::RowDescription { fields } => Ok(open(alloc, self, fields.as_slice())),
             ServerMessage::DataRow { values } => gain(alloc, self, values.as_slice()),
             ServerMessage::Complete { tag } => Ok(complete(alloc, self, tag.as_slice())),
             ServerMessage::Error { parts } => Ok(refuse(self, parts.as_slice())),

@@ -1,6 +1,5 @@
--- The texts that a request is sent as, and the messages that carry them.
-use Rattle.std.specs.Prelude.{◌≡◌, ℕ, ℤ, List, [], ◌∷◌, ◌++◌, Option, Some, None, codes, slice_get}
-use Rattle.std.specs.List.{flat_map}
+-- The text that a request is sent as, and the message that carries it.
+use Rattle.std.specs.Prelude.{◌≡◌, ℕ, ℤ, List, ◌++◌, Option, Some, None, codes, slice_get}
 use Rattle.std.specs.Fmt.{signed_decimal}
 use Rattle.pg_messages.specs.declared.client.ClientMessage.TheVariants.{Query}
 use Rattle.pg_messages.specs.Client.{spelling}
@@ -49,27 +48,24 @@ abbrev pub set_by : Option (List ℕ) → ℤ → Option (List ℕ)
 set_by None next = None
 set_by (Some sequence) next = Some (set_text sequence next)
 
-abbrev pub alone : Option (List ℕ) → Option (List (List ℕ))
-alone None = None
-alone (Some text) = Some (text ∷ [])
+-- the block is begun, and its second statement takes the snapshot
+abbrev pub snapshot_text : List ℕ
+snapshot_text = codes "BEGIN ISOLATION LEVEL REPEATABLE READ; SELECT 1"
 
-abbrev pub snapshot_texts : List (List ℕ)
-snapshot_texts = codes "BEGIN ISOLATION LEVEL REPEATABLE READ" ∷ codes "SELECT 1" ∷ []
-
--- the texts, one message each; None: a table or a serial column is not there
-abbrev pub texts : List TableDef → Request → Option (List (List ℕ))
-texts tables request.TakeSnapshot = Some snapshot_texts
-texts tables (request.Run checked) = Some (statement_text (spelled_statement tables checked) ∷ [])
-texts tables (request.Lock table) = alone (lock_at (slice_get tables table))
-texts tables request.Commit = Some (codes "COMMIT" ∷ [])
-texts tables request.Rollback = Some (codes "ROLLBACK" ∷ [])
-texts tables (request.ReadSerial table) = alone (read_by (sequence_of (slice_get tables table)))
-texts tables (request.SetSerial table next) = alone (set_by (sequence_of (slice_get tables table)) next)
+-- the text; None: a table or a serial column is not there
+abbrev pub text_of : List TableDef → Request → Option (List ℕ)
+text_of tables request.TakeSnapshot = Some snapshot_text
+text_of tables (request.Run checked) = Some (statement_text (spelled_statement tables checked))
+text_of tables (request.Lock table) = lock_at (slice_get tables table)
+text_of tables request.Commit = Some (codes "COMMIT")
+text_of tables request.Rollback = Some (codes "ROLLBACK")
+text_of tables (request.ReadSerial table) = read_by (sequence_of (slice_get tables table))
+text_of tables (request.SetSerial table next) = set_by (sequence_of (slice_get tables table)) next
 
 abbrev pub query : List ℕ → List ℕ
 query text = spelling (Query text)
 
--- the bytes are the messages of the request, one behind another
-abbrev pub Sends : Option (List (List ℕ)) → List ℕ → Type 0
+-- the bytes are the message of the text
+abbrev pub Sends : Option (List ℕ) → List ℕ → Type 0
 Sends None bytes = ⊥
-Sends (Some all) bytes = bytes ≡ flat_map query all
+Sends (Some text) bytes = bytes ≡ query text

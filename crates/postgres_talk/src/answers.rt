@@ -114,7 +114,7 @@ fn set_answer(reply: Reply) -> Option<Answer>
     }
 }
 
-/// The answer that the reply to the last text of a request is, if it has the form of one.
+/// The answer that the reply to a request is, if it has the form of one.
 pub fn answer_of(request: &Request, reply: Reply) -> Option<Answer>
     ensures { IfSome result (λ answer. IsOf request.now answer) }
 {

@@ -1,6 +1,6 @@
 //! Requests as messages.
-ghost use Rattle.std.specs.Prelude.{◌≡◌, ◌++◌, IfOk, OnOk, Err, None, Some};
-ghost use Rattle.postgres_talk.specs.Texts.{Sends, alone, query, snapshot_texts, texts};
+ghost use Rattle.std.specs.Prelude.{◌≡◌, ◌++◌, IfOk, OnOk, Err, None};
+ghost use Rattle.postgres_talk.specs.Texts.{Sends, query, snapshot_text, text_of};
 
 use crate::texts::{lock_text, read_serial_text, set_serial_text};
 use backend_trait::Request;
@@ -12,14 +12,14 @@ use pool_base::{List, NoMemory, Text};
 use postgres_link::{Verb, Wanted, Word};
 use std::alloc::Global;
 
+/// How many bytes of the message Query stand around its text.
+const HEAD: usize = 6;
+
 /// A request as it is sent, and what it is to be answered by.
 #[derive(Drop)]
 pub struct Spelled {
     pub bytes: List<u8>,
-    /// What its text asks for, or the first of two.
     pub wanted: Wanted,
-    /// What its second text asks for.
-    pub second: Option<Wanted>,
 }
 
 /// Why a request is not sent.
@@ -47,6 +47,7 @@ fn put_query(text: &[u8], onto: &mut List<u8>) -> Result<(), NotSpelled>
     ensures put { OnOk result (onto.new ≡ onto.old ++ query text.now) }
     ensures there { result ≡ Err NotSpelled.NotThere → ⊥ }
 {
+    onto.reserve(text.len().saturating_add(HEAD))?;
     let text = List::from_slice(onto.allocator(), text)?;
     let message = ClientMessage::Query { text };
     if !fits(&message) {
@@ -65,11 +66,7 @@ fn one_text(alloc: Global, text: &[u8], wanted: Wanted) -> Result<Spelled, NotSp
 {
     let mut bytes = List::new(alloc);
     match put_query(text, &mut bytes) {
-        Ok(()) => Ok(Spelled {
-            bytes,
-            wanted,
-            second: None,
-        }),
+        Ok(()) => Ok(Spelled { bytes, wanted }),
         Err(fault) => {
             drop(wanted);
             Err(fault)
@@ -79,7 +76,7 @@ fn one_text(alloc: Global, text: &[u8], wanted: Wanted) -> Result<Spelled, NotSp
 
 /// The same, where the text is there.
 fn if_there(alloc: Global, text: Option<Text>, wanted: Wanted) -> Result<Spelled, NotSpelled>
-    ensures bytes { IfOk result (λ spelled. Sends (alone text) spelled.bytes) }
+    ensures bytes { IfOk result (λ spelled. Sends text spelled.bytes) }
     ensures there { result ≡ Err NotSpelled.NotThere → text ≡ None }
 {
     let Some(text) = text else {
@@ -89,21 +86,26 @@ fn if_there(alloc: Global, text: Option<Text>, wanted: Wanted) -> Result<Spelled
     one_text(alloc, text.as_bytes(), wanted)
 }
 
-/// `BEGIN ISOLATION LEVEL REPEATABLE READ` and `SELECT 1`, sent at once: the second takes the
-/// snapshot.
+/// `BEGIN ISOLATION LEVEL REPEATABLE READ; SELECT 1`: its second statement takes the snapshot.
 fn snapshot(alloc: Global) -> Result<Spelled, NotSpelled>
-    ensures bytes { IfOk result (λ spelled. Sends (Some snapshot_texts) spelled.bytes) }
+    ensures bytes { IfOk result (λ spelled. spelled.bytes ≡ query snapshot_text) }
     ensures there { result ≡ Err NotSpelled.NotThere → ⊥ }
 {
-    let mut bytes = List::new(alloc);
-    put_query(b"BEGIN ISOLATION LEVEL REPEATABLE READ", &mut bytes)?;
-    put_query(b"SELECT 1", &mut bytes)?;
     let kinds = List::from_slice(alloc, &[ColType::Int4])?;
-    Ok(Spelled {
-        bytes,
-        wanted: Wanted::Done(Word::Begin),
-        second: Some(Wanted::Rows(kinds)),
-    })
+    let wanted = Wanted::Rows {
+        kinds,
+        begins: true,
+    };
+    let text = b"BEGIN ISOLATION LEVEL REPEATABLE READ; SELECT 1";
+    one_text(alloc, text, wanted)
+}
+
+/// Rows with columns of these types.
+fn rows_of(kinds: List<ColType>) -> Wanted {
+    Wanted::Rows {
+        kinds,
+        begins: false,
+    }
 }
 
 /// The types of the columns of a statement's result.
@@ -118,7 +120,7 @@ fn kinds_of(alloc: Global, checked: &Checked) -> Result<List<ColType>, NoMemory>
 /// What a statement is to be answered by.
 fn wanted_of(alloc: Global, checked: &Checked) -> Result<Wanted, NoMemory> {
     match &checked.body {
-        CheckedBody::Read(_) => Ok(Wanted::Rows(kinds_of(alloc, checked)?)),
+        CheckedBody::Read(_) => Ok(rows_of(kinds_of(alloc, checked)?)),
         CheckedBody::Insert(_) => Ok(Wanted::Count(Verb::Insert)),
         CheckedBody::Change(_) => Ok(Wanted::Count(Verb::Update)),
         CheckedBody::Remove(_) => Ok(Wanted::Count(Verb::Delete)),
@@ -126,7 +128,7 @@ fn wanted_of(alloc: Global, checked: &Checked) -> Result<Wanted, NoMemory> {
 }
 
 fn statement(alloc: Global, tables: &Catalogue, checked: &Checked) -> Result<Spelled, NotSpelled>
-    ensures bytes { IfOk result (λ spelled. Sends (texts tables.now (Request.Run checked.now))
+    ensures bytes { IfOk result (λ spelled. Sends (text_of tables.now (Request.Run checked.now))
         spelled.bytes) }
     ensures there { result ≡ Err NotSpelled.NotThere → ⊥ }
 {
@@ -142,10 +144,10 @@ fn sequence_kinds(alloc: Global) -> Result<List<ColType>, NoMemory> {
 
 /// The messages of a request, and what they are to be answered by.
 pub fn spell(alloc: Global, tables: &Catalogue, request: &Request) -> Result<Spelled, NotSpelled>
-    // What is sent is the request's texts, each in a message of its own, and nothing else.
-    ensures bytes { IfOk result (λ spelled. Sends (texts tables.now request.now) spelled.bytes) }
+    // What is sent is the request's text in one message, and nothing else.
+    ensures bytes { IfOk result (λ spelled. Sends (text_of tables.now request.now) spelled.bytes) }
 
-    ensures there { result ≡ Err NotSpelled.NotThere → texts tables.now request.now ≡ None }
+    ensures there { result ≡ Err NotSpelled.NotThere → text_of tables.now request.now ≡ None }
 {
     match request {
         Request::TakeSnapshot => snapshot(alloc),
@@ -159,12 +161,12 @@ pub fn spell(alloc: Global, tables: &Catalogue, request: &Request) -> Result<Spe
         Request::ReadSerial(table) => {
             let kinds = sequence_kinds(alloc)?;
             let text = read_serial_text(alloc, tables, *table)?;
-            if_there(alloc, text, Wanted::Rows(kinds))
+            if_there(alloc, text, rows_of(kinds))
         }
         Request::SetSerial(table, next) => {
             let kinds = List::from_slice(alloc, &[ColType::Int8])?;
             let text = set_serial_text(alloc, tables, *table, *next)?;
-            if_there(alloc, text, Wanted::Rows(kinds))
+            if_there(alloc, text, rows_of(kinds))
         }
     }
 }

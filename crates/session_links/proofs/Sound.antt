@@ -35,6 +35,12 @@ module _ {L : Type 0} (pending : L → Option Request) where
       joined (is_sound pending slot) (are_sound pending (set slots b new)) (both (is_sound pending slot) (are_sound pending slots) e).0
       (sound_set slots b new (both (is_sound pending slot) (are_sound pending slots) e).1 is)
 
+-- to empty a slot that is empty changes nothing
+pub stays_empty : {L : Type 0} (slots : List (Slot L)) (b : ℕ) → slot_at slots b ≡ Empty → set slots b Empty ≡ slots
+stays_empty {L = L} [] b e = refl
+stays_empty {L = L} (slot ∷ slots) zero e = ap (λ (s : Slot L). s ∷ slots) (sym e)
+stays_empty {L = L} (slot ∷ slots) (suc b) e = ap (λ (rest : List (Slot L)). slot ∷ rest) (stays_empty slots b e)
+
 -- a slot that was taken out and put back, and another
 pub put_here : {L : Type 0} (slots : List (Slot L)) (b : ℕ) (new : Slot L) → b < length slots → slot_at (set (set slots b Empty) b new) b ≡ new
 put_here slots b new below = get_or-set_same (set slots b Empty) b new Empty (subst (λ (n : ℕ). b < n) (sym (set_length slots b Empty)) below)

@@ -3,14 +3,15 @@ ghost use Rattle.std.specs.Prelude.{IfOk};
 ghost use Rattle.tcp_link.specs.Connections.{IsConnected};
 
 use crate::TcpLink;
+use crate::codes::{INVALID_AUTHORIZATION, is_of_client};
 use crate::outbox::{Emptied, Outbox};
 use crate::patient::PatientLink;
 use crate::stream::TcpWire;
 use crate::wire::{Received, Sent, Wire};
 use catalogue::Catalogue;
 use pg_messages::Pair;
-use pool_base::{List, NoMemory};
-use postgres_link::{Arrival, Heard, Inbox, Listening, hear};
+use pool_base::{Code, List, NoMemory};
+use postgres_link::{Arrival, Heard, Inbox, Listening, Welcome, hear};
 use postgres_talk::put_start;
 use std::alloc::Global;
 use std::io;
@@ -42,10 +43,20 @@ const ENCRYPTION: [u8; 8] = [0, 0, 0, 8, 4, 210, 22, 47];
 /// What became of the beginning of a session.
 #[derive(Drop)]
 pub enum Connected<'a> {
+    /// There is a session; or the server has turned this client away, and lets others in, and the
+    /// link answers so.
     Ready(TcpLink<'a>),
-    /// No session: no server is there, it lets nobody in so, or it answers otherwise.
+    /// No session: no server is there, it lets nobody in, or it answers otherwise.
     Failed,
     NoMemory,
+}
+
+/// What a server says to a client that comes.
+enum Entry {
+    LetIn,
+    /// It has turned the client away, and lets others in.
+    Refused(Code),
+    Failed,
 }
 
 fn prepared(stream: TcpStream) -> io::Result<TcpWire> {
@@ -81,8 +92,29 @@ fn send_all<W: Wire>(wire: &mut W, outbox: &mut Outbox) -> bool {
     false
 }
 
-/// Takes what the server sends until it is ready. False: it does not come to be.
-fn enter<W: Wire>(alloc: Global, wire: &mut W, inbox: &mut Inbox) -> Result<bool, NoMemory> {
+/// What a server's word on a client's start is.
+fn entry_by(welcome: Welcome) -> Entry {
+    match welcome {
+        Welcome::Ready => Entry::LetIn,
+        Welcome::Refused(code) if is_of_client(code) => Entry::Refused(code),
+        Welcome::Refused(_) => Entry::Failed,
+    }
+}
+
+/// What bytes that are no start come to: a server that asks the client for more than its name turns
+/// it away, since the pool has no more to tell.
+///
+/// Source: PostgreSQL, "Frontend/Backend Protocol", "Message Formats": the requests of
+/// authentication are of type `R`.
+fn entry_behind(inbox: &Inbox) -> Entry {
+    match inbox.as_slice() {
+        [b'R', ..] => Entry::Refused(INVALID_AUTHORIZATION),
+        _ => Entry::Failed,
+    }
+}
+
+/// Takes what the server sends until it is ready, or turns the client away.
+fn enter<W: Wire>(alloc: Global, wire: &mut W, inbox: &mut Inbox) -> Result<Entry, NoMemory> {
     let mut listening = Listening {
         hearer: Arrival::Outside,
         heard: 0,
@@ -92,15 +124,15 @@ fn enter<W: Wire>(alloc: Global, wire: &mut W, inbox: &mut Inbox) -> Result<bool
         match wire.receive(&mut piece) {
             Received::Bytes(count) => inbox.take(&piece[..count])?,
             Received::NotYet => {}
-            Received::Failed => return Ok(false),
+            Received::Failed => return Ok(Entry::Failed),
         }
         match hear(alloc, inbox, &mut listening)? {
             Heard::NotYet => {}
-            Heard::Reply(_) => return Ok(true),
-            Heard::Broken => return Ok(false),
+            Heard::Reply(welcome) => return Ok(entry_by(welcome)),
+            Heard::Broken => return Ok(entry_behind(inbox)),
         }
     }
-    Ok(false)
+    Ok(Entry::Failed)
 }
 
 fn started<'a>(
@@ -121,10 +153,12 @@ fn started<'a>(
         return Ok(Connected::Failed);
     }
     let mut inbox = Inbox::new(alloc);
-    if !enter(alloc, &mut wire, &mut inbox)? {
-        return Ok(Connected::Failed);
-    }
-    Ok(Connected::Ready(PatientLink::new(alloc, tables, wire, inbox)?))
+    let refusal = match enter(alloc, &mut wire, &mut inbox)? {
+        Entry::LetIn => None,
+        Entry::Refused(code) => Some(code),
+        Entry::Failed => return Ok(Connected::Failed),
+    };
+    Ok(Connected::Ready(PatientLink::new(alloc, tables, wire, inbox, refusal)?))
 }
 
 /// Whether something comes, as long as a server may take at the start.
@@ -150,7 +184,8 @@ pub fn answers<R: Net<Stream = TcpStream>>(rt: &R, host: &str, port: u16) -> boo
 }
 
 /// Begins a session at the server of that address, with these options, as `user` and `database`.
-/// The server lets it in without a password, or there is none.
+/// The server lets it in without a password, or there is none. A client that the server turns away
+/// while it lets others in has a link that refuses each snapshot with the server's code.
 pub fn connect<'a, R: Net<Stream = TcpStream>>(
     rt: &R,
     alloc: Global,

@@ -4,7 +4,9 @@
 //! Idle --post--> Sent or Unsent --poll--> Idle
 //! ```
 //!
-//! After a fault the link is lost, and each poll says so. Then what is pending stays so.
+//! After a fault the link is lost, and each poll says so. Then what is pending stays so. Where the
+//! server has turned the client away nothing is sent: a rollback is done at once, and what can be
+//! refused is refused with the server's code.
 ghost use Rattle.std.specs.Prelude.{◌≡◌, ◌<◌, ◌≤◌, length, false, true, IfOk, IfNone, IfSome, None, Some};
 ghost use Rattle.pool_base.specs.Outside.{Rose};
 ghost use Rattle.link_words.specs.Forms.{IsPolled};
@@ -16,7 +18,7 @@ use crate::wire::{Received, Wire};
 use backend_trait::{Polled, Posted, Request};
 use catalogue::Catalogue;
 use link_words::Link;
-use pool_base::NoMemory;
+use pool_base::{Code, NoMemory};
 use postgres_link::{Inbox, Reply};
 use postgres_talk::{NotSpelled, Said, Spelled, Talk, answer_of, spell};
 use std::alloc::Global;
@@ -32,7 +34,8 @@ enum State {
     Idle,
     /// The request is sent, or on its way.
     Sent(Talk),
-    /// The request is not sent: its text does not fit into a message, or names what is not there.
+    /// The request is not sent: the client is turned away, its text does not fit into a message, or
+    /// names what is not there.
     Unsent(Request),
 }
 
@@ -50,6 +53,8 @@ pub struct PatientLink<'a, W: Wire> {
     lost: bool,
     /// The faults that are not the wire's.
     violations: u64,
+    /// The code with which the server has turned the client away.
+    refusal: Option<Code>,
     ghost room: { 0 < length piece.items },
 }
 
@@ -63,12 +68,14 @@ fn new_piece(alloc: Global) -> Result<Vec<u8>, NoMemory>
 }
 
 impl<'a, W: Wire> PatientLink<'a, W> {
-    /// A session that the server has let in; what else has come stands in the inbox.
+    /// A session that the server has let in, or a client that it has turned away with that code;
+    /// what else has come stands in the inbox.
     pub fn new(
         alloc: Global,
         tables: &'a Catalogue,
         wire: W,
         inbox: Inbox,
+        refusal: Option<Code>,
     ) -> Result<PatientLink<'a, W>, NoMemory>
         ensures idle { IfOk result (λ link. ⟦<PatientLink<'a, W> as Link>⟧.pending link ≡ None) }
         ensures there { IfOk result (λ link. ⟦<PatientLink<'a, W> as Link>⟧.lost link ≡ false) }
@@ -83,6 +90,7 @@ impl<'a, W: Wire> PatientLink<'a, W> {
             state: State::Idle,
             lost: false,
             violations: 0,
+            refusal,
         })
     }
 
@@ -127,13 +135,9 @@ impl<'a, W: Wire> PatientLink<'a, W> {
         ensures wire { self.new.wire ≡ self.old.wire }
         ensures violations { self.new.violations ≡ self.old.violations }
     {
-        let Spelled {
-            bytes,
-            wanted,
-            second,
-        } = spelled;
+        let Spelled { bytes, wanted } = spelled;
         self.outbox.fill(bytes);
-        self.set(State::Sent(Talk::new(request, wanted, second)));
+        self.set(State::Sent(Talk::new(request, wanted)));
     }
 
     /// Looks for the answer in what has come.
@@ -218,7 +222,17 @@ impl<'a, W: Wire> PatientLink<'a, W> {
         }
     }
 
-    /// Answers a request that is not sent: as a server that refuses a text for its length.
+    /// What is said of a request that is not sent: where the client is turned away there is nothing
+    /// to roll back, and all else is refused with that code; else the text is too long.
+    fn unsaid(&self, request: &Request) -> Reply {
+        match (self.refusal, request) {
+            (Some(_), Request::Rollback) => Reply::Done,
+            (Some(code), _) => Reply::Refused(code),
+            (None, _) => Reply::Refused(PROGRAM_LIMIT_EXCEEDED),
+        }
+    }
+
+    /// Answers a request that is not sent, as the server would.
     fn refuse(&mut self) -> Polled
         ensures polled { IsPolled result (pending_of self.old.state) (pending_of self.new.state)
             (faults_of (W.fault_count self.old.wire) self.old.violations)
@@ -230,7 +244,7 @@ impl<'a, W: Wire> PatientLink<'a, W> {
         let State::Unsent(request) = &self.state else {
             return self.violate();
         };
-        match answer_of(request, Reply::Refused(PROGRAM_LIMIT_EXCEEDED)) {
+        match answer_of(request, self.unsaid(request)) {
             Some(answer) => {
                 self.set(State::Idle);
                 Polled::Answered(answer)
@@ -250,6 +264,10 @@ impl<'a, W: Wire> Link for PatientLink<'a, W> {
     ghost lost = { λ l. l.lost };
 
     fn post(&mut self, request: Request) -> Posted {
+        if self.refusal.is_some() {
+            self.set(State::Unsent(request));
+            return Posted::Accepted;
+        }
         match spell(self.alloc, self.tables, &request) {
             Ok(spelled) => {
                 self.send(request, spelled);

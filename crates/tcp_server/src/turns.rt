@@ -1,11 +1,15 @@
 //! Whose turn it is at the gate. The gate alone decides who goes in; here a session sleeps until it
 //! will let it in, so that nobody asks again and again.
 //!
-//! Commits go first: while one waits, no snapshot begins. So those that are under way come to their
+//! A commit waits for the snapshots that are under way, and lets a number of others begin
+//! meanwhile. Behind these none begins while one waits: those that are under way come to their
 //! end, and the commits that wait go in together. Each needs a snapshot before it comes again.
 
 use pool_base::{GateAnswer, GateCall};
 use std::sync::{Condvar, Mutex, Wait};
+
+/// How many snapshots may begin while commits wait.
+const AHEAD: u32 = 32;
 
 /// How many sessions stand where.
 #[derive(Drop)]
@@ -13,6 +17,15 @@ struct Counts {
     in_snapshot: u32,
     in_commit: u32,
     commits_waiting: u32,
+    /// How many snapshots have begun since a commit waits.
+    ahead: u32,
+}
+
+impl Counts {
+    /// Whether a snapshot may begin.
+    fn may_begin(&self) -> bool {
+        self.in_commit == 0 && (self.commits_waiting == 0 || self.ahead < AHEAD)
+    }
 }
 
 /// Who stands at the gate, and those who sleep.
@@ -33,6 +46,7 @@ impl Turns {
                 in_snapshot: 0,
                 in_commit: 0,
                 commits_waiting: 0,
+                ahead: 0,
             }),
             behind_snapshots: Condvar::new(),
             behind_commits: Condvar::new(),
@@ -50,9 +64,12 @@ impl Turns {
 
     fn wait_for_commits<R: Wait>(&self, rt: &R) {
         let counts = self.counts.lock(rt);
-        let mut counts = self.behind_commits.wait_while(rt, counts, |counts| {
-            counts.in_commit > 0 || counts.commits_waiting > 0
-        });
+        let mut counts = self
+            .behind_commits
+            .wait_while(rt, counts, |counts| !counts.may_begin());
+        if counts.commits_waiting > 0 {
+            counts.ahead = counts.ahead.saturating_add(1);
+        }
         counts.in_snapshot = counts.in_snapshot.saturating_add(1);
     }
 
@@ -63,6 +80,9 @@ impl Turns {
             .behind_snapshots
             .wait_while(rt, counts, |counts| counts.in_snapshot > 0);
         counts.commits_waiting = counts.commits_waiting.saturating_sub(1);
+        if counts.commits_waiting == 0 {
+            counts.ahead = 0;
+        }
         counts.in_commit = counts.in_commit.saturating_add(1);
     }
 
@@ -89,7 +109,7 @@ impl Turns {
     fn commit_is_over<R: Wait>(&self, rt: &R) {
         let mut counts = self.counts.lock(rt);
         counts.in_commit = counts.in_commit.saturating_sub(1);
-        if counts.in_commit == 0 && counts.commits_waiting == 0 {
+        if counts.may_begin() {
             self.behind_commits.notify_all();
         }
     }

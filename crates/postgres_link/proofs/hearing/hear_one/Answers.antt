@@ -1,5 +1,5 @@
-use Rattle.std.proofs.Common.{sym, ◌∙◌, arith, rules}
-use Rattle.postgres_link.specs.Hearing.{waits, garbled, too_long, floods, breaks, ends, goes}
+use Rattle.std.proofs.Common.{sym, ◌∙◌, arith}
+use Rattle.postgres_link.specs.Hearing.{waits, garbled, too_long, floods, breaks, ends}
 use Rattle.postgres_link.proofs.Fronts.{went_on, shorter}
 use Rattle.postgres_link.proofs.hearing.hear_one.Goals as goal
 

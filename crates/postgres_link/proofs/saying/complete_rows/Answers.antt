@@ -1,4 +1,4 @@
-use Rattle.std.proofs.Common.{arith, length}
+use Rattle.std.proofs.Common.{arith}
 use Rattle.postgres_link.proofs.saying.complete_rows.Goals as goal
 
 pub returns-in_default-counted : goal.returns-in_default-counted
