@@ -30,7 +30,7 @@ index:           ## public items with file and line: make index | grep -i sink
 	@scripts/index
 lint:            ## house rules that the gate does not know
 	@scripts/lint
-bench:           ## measure messages, a store, texts of SQL, names or a script: make bench W='messages 1000', W='store 1000', W='play 16000', W='sessions 20000'
+bench:           ## measure messages, a store, texts of SQL, names, a client's wire, a script or clients that are served: make bench W='messages 1000', W='store 1000', W='wire 100000', W='play 16000', W='sessions 20000', W='serve 2'
 	@scripts/bench $(W)
 hooks:           ## lay out the staged crates before each commit
 	git config core.hooksPath .githooks

@@ -1,8 +1,9 @@
 //! How long parts of the pool take: `bench WHAT NUMBER ..`, one behind another.
 //!
 //! `messages N` reads and writes N batches of a thousand messages. `sql N` reads short texts of SQL
-//! N times and two long ones. `names N` looks for each name of six lists N times. `store N R` fills
-//! a store in memory by N transactions of R rows each (one row where R is not there), and has 1, 8
+//! N times and two long ones. `names N` looks for each name of six lists N times. `wire N` has a
+//! client send N simple queries, N extended ones, and pipelines of N / 2 and N. `store N R` fills a
+//! store in memory by N transactions of R rows each (one row where R is not there), and has 1, 8
 //! and 64 sessions go through transactions. What was done goes to standard output, and the times
 //! go to standard error.
 #![tactic(auto)]
@@ -11,6 +12,7 @@ mod messages;
 mod names;
 mod sql;
 mod store;
+mod wire;
 
 use std::process::ExitCode;
 use std::{env, io};
@@ -21,6 +23,7 @@ enum Measured {
     Messages(u32),
     Sql(u32),
     Names(u32),
+    Wire(u32),
     Store { transactions: u32, rows: u32 },
 }
 
@@ -30,6 +33,7 @@ enum Went {
     Well,
     NotRead,
     NotGranted,
+    NotAnswered,
 }
 
 fn number_of(word: Option<&String>) -> Option<u32> {
@@ -43,6 +47,7 @@ fn asked_of(words: &[String]) -> Option<(Measured, usize)> {
         "messages" => Some((Measured::Messages(first), 2)),
         "sql" => Some((Measured::Sql(first), 2)),
         "names" => Some((Measured::Names(first), 2)),
+        "wire" => Some((Measured::Wire(first), 2)),
         "store" => Some(store_asked(first, number_of(words.get(2)))),
         _ => None,
     }
@@ -73,6 +78,11 @@ fn measure(rt: HostRuntime, asked: Measured) -> io::Result<Went> {
             names::run(rt, times)?;
             Ok(Went::Well)
         }
+        Measured::Wire(times) => Ok(if wire::run(rt, times)? {
+            Went::Well
+        } else {
+            Went::NotAnswered
+        }),
         Measured::Store { transactions, rows } => Ok(if store::run(rt, transactions, rows)? {
             Went::Well
         } else {
@@ -87,6 +97,7 @@ fn told(rt: HostRuntime, went: Went) -> io::Result<bool> {
         Went::Well => return Ok(true),
         Went::NotRead => eprintln!(rt; "bench: a text was not read")?,
         Went::NotGranted => eprintln!(rt; "bench: a request was not granted")?,
+        Went::NotAnswered => eprintln!(rt; "bench: a client was not answered")?,
     }
     Ok(false)
 }
@@ -108,7 +119,7 @@ fn run_all(rt: HostRuntime, words: &[String]) -> io::Result<bool> {
         return Ok(true);
     }
     eprintln!(rt;
-        "usage: bench (messages | sql | names) NUMBER .. | store TRANSACTIONS [ROWS] .."
+        "usage: bench (messages | sql | names | wire) NUMBER .. | store TRANSACTIONS [ROWS] .."
     )?;
     Ok(false)
 }
