@@ -88,10 +88,12 @@ holds_first tables policy attached few = record {
   stale_known = λ s b l u p here e. absurd (let n : Absent ≡ Alive l = e in cc);
   crossed_there = λ s b p q here kept e. absurd (let n : None ≡ Some p = e in cc);
   unchanged = λ s u locks e. absurd (let n : phases.Out ≡ phases.Live false locks = e in cc);
+  closes = λ s b l here e. absurd (let n : None ≡ Some Closing = e in cc);
   rows_same = λ b p here none. refl;
   rows_left = λ o b p last here leaves e. absurd (let n : Absent ≡ Alive last = e in cc);
   numbers = λ b table here none. refl;
   numbers_ahead = λ s b table work here i. absurd (let n : None ≡ Some work = i.inserted in cc);
+  locks = record { alone = λ s o table e. absurd (let n : false ≡ true = e in cc); free = λ s o table apart e. absurd (let n : false ≡ true = e in cc) };
   alive = λ s e. absurd (let n : false ≡ true = e in cc);
   reasons = λ s stage told code e. absurd (let n : None ≡ Some stage = e in cc);
   run = tt;
@@ -196,7 +198,7 @@ module _ (t : Tracked) (h : Invariant t) where
   inserting (Some (Inserting work true)) told other is = tt
   inserting stage told work is = absurd (let n : None ≡ Some work = is in cc)
 
-  none_inserts : NobodyInserts t.world → (s b table : ℕ) (work : Work) → HasInserted t.world s b table work → ⊥
+  none_inserts : NobodyInserts t.world → (s b table : ℕ) (work : Work) → HasInserted t s b table work → ⊥
   none_inserts none s b table work i = elim (number_is s) [
     | inl stranger ↦ (let n : None ≡ Some work = subst (λ (point : Point). inserted_in (stage_at point) (answer_from t.world s b) ≡ Some work) (h.strangers s stranger).point i.inserted in cc)
     | inr range ↦ none s range.0 range.1 (inserting (stage_at (t.world.machine s).point) (answer_from t.world s b) work i.inserted)

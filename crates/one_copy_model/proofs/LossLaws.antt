@@ -5,7 +5,7 @@ use Rattle.std.specs.FinMap as fin
 use Rattle.pool_base.specs.Sets.{has}
 use Rattle.pool_base.specs.declared.backend_id.BackendId.{BackendId}
 use Rattle.backend_trait.specs.Keys.{Place}
-use Rattle.backend_trait.specs.Rows.{with_at}
+use Rattle.backend_trait.specs.Rows.{with_at, no_changes}
 use Rattle.backend_trait.specs.Store.{Live, Absent, Alive, Pending, Store, lost_by}
 use Rattle.session_machine.specs.declared.work.Work.{Work}
 use Rattle.session_orders.specs.declared.outcome.Outcome.{Outcome}
@@ -82,11 +82,11 @@ module _ (t : Tracked) (b : BackendId) (h : Invariant t) where
     told = l.told;
   }
 
-  from_inserted : (s k table : ℕ) (work : Work) → HasInserted new s k table work → HasInserted t.world s k table work
-  from_inserted s k table work i = record { inserted = i.inserted; at = i.at }
+  from_inserted : (s k table : ℕ) (work : Work) → HasInserted there s k table work → HasInserted t s k table work
+  from_inserted s k table work i = record { live = i.live; inserted = i.inserted; at = i.at }
 
-  to_inserted : (s k table : ℕ) (work : Work) → HasInserted t.world s k table work → HasInserted new s k table work
-  to_inserted s k table work i = record { inserted = i.inserted; at = i.at }
+  to_inserted : (s k table : ℕ) (work : Work) → HasInserted t s k table work → HasInserted there s k table work
+  to_inserted s k table work i = record { live = i.live; inserted = i.inserted; at = i.at }
 
   to_rest : (s : ℕ) → IsAtRest t s → IsAtRest there s
   to_rest s r = record {
@@ -126,10 +126,12 @@ module _ (t : Tracked) (b : BackendId) (h : Invariant t) where
     stale_known = λ s k l u p here. keeps (λ x. x.transaction s ≡ Alive l → (single t).transaction s ≡ Alive u → KnowsStale there s k l u p) (λ x f. f) t.world.store b.number k (λ e g. to_stale s k l u p (h.stale_known s k l u p here e g));
     crossed_there = λ s k p q here. keeps (λ x. x.lost ≡ false → x.pending s ≡ Some p → (single t).pending s ≡ Some q → p.crossed ≡ true → q.crossed ≡ true) (λ x f kept. absurd (let n : true ≡ false = kept in cc)) t.world.store b.number k (h.crossed_there s k p q here);
     unchanged = h.unchanged;
+    closes = λ s k l here at. keeps (λ x. x.transaction s ≡ Alive l → l.changes ≡ no_changes) (λ x f. f) t.world.store b.number k (h.closes s k l here at);
     rows_same = λ k p here none. keeps (λ x. fin.get x.rows p ≡ fin.get (single t).rows p) (λ x e. e) t.world.store b.number k (h.rows_same k p here (λ o l. none o (to_leaves o k p l)));
     rows_left = λ o k p last here l. h.rows_left o k p last here (from_leaves o k p l);
     numbers = λ k table here none. keeps (λ x. x.next table ≡ (single t).next table) (λ x e. e) t.world.store b.number k (h.numbers k table here (λ s work i. none s work (to_inserted s k table work i)));
     numbers_ahead = λ s k table work here i. keeps (λ x. x.next table ≡ numbers_behind (single t) s work table) (λ x e. e) t.world.store b.number k (h.numbers_ahead s k table work here (from_inserted s k table work i));
+    locks = h.locks;
     alive = λ s live. same_alive s ∙ h.alive s live;
     reasons = h.reasons;
     run = h.run;

@@ -11,6 +11,7 @@ use Rattle.backend_trait.specs.Keys.{Place}
 use Rattle.backend_trait.specs.Effect.{Given, Fails, Gives}
 use Rattle.backend_trait.specs.Store.{Live, Alive, Store, WhereLive, is_refusal}
 use Rattle.backend_trait.specs.Acts.{IsOf, given_of}
+use Rattle.session_machine.specs.declared.work.Work.{Work}
 use Rattle.session_machine.specs.declared.machine.Heard.{Heard}
 use Rattle.session_machine.specs.declared.machine.Stage.{Stage}
 use Rattle.session_machine.specs.declared.machine.Stage.TheVariants.{Opening, Reading, Running, Locking, Inserting, Committing, Closing, RollingBack}
@@ -19,7 +20,7 @@ use Rattle.session_machine.specs.declared.machine.Point.TheVariants.{PostDue, Wa
 use Rattle.session_machine.specs.declared.machine.Machine.{Machine}
 use Rattle.session_machine.specs.Answers.{is_same}
 use Rattle.session_machine.specs.Rules.{request_of}
-use Rattle.one_copy_model.specs.Deaths.{heard_from}
+use Rattle.one_copy_model.specs.Deaths.{stage_at, heard_from}
 
 -- A chain goes up the backends: the answers stand in the order of their numbers, the backend that is asked stands above them, and of
 -- the attached backends below one that is asked or has answered each has answered. A read alone asks one backend.
@@ -54,19 +55,30 @@ goes_up Committing = true
 goes_up Closing = true
 goes_up (RollingBack ending) = true
 
+-- of a read one backend has answered, or none, and none where one is asked
+abbrev pub HasOne : Option ℕ → List Heard → Type 0
+HasOne (Some b) heard = heard ≡ []
+HasOne None [] = Unit {0}
+HasOne None (h ∷ hs) = hs ≡ []
+
 pub record IsInOrder (attached : ℕ) (m : Machine) (stage : Stage) : Type 0 where
   pub rising : IsRising m.session.heard
   pub above : (b : ℕ) → asked_in m.point ≡ Some b → AreBelow b m.session.heard
   pub below : (b c : ℕ) → goes_up stage ≡ true → has attached b ≡ true → b < c
       → ((asked_in m.point ≡ Some c) ⊎ (has_told m c ≡ true)) → has_told m b ≡ true
+  pub one : goes_up stage ≡ false → HasOne (asked_in m.point) m.session.heard
 
 -- Answers differ: the attached backends are among those that were compared; of those that differ from the kept answer the ones below
--- the one that is to be detached have left; and where the chain does not go on behind a result, all have answered.
+-- the one that is to be detached have left; and where the chain does not go on behind a result, all have answered, and so they have of a
+-- serial insert's run, which draws at every backend. The kept answer has the form of what is asked, also when its backend has left.
 pub record IsParting (attached : ℕ) (m : Machine) (best own : Heard) (among : BackendSet) (more : Bool) : Type 0 where
   pub fewer : (b : ℕ) → has attached b ≡ true → has among.bits b ≡ true
   pub parted : (b : ℕ) (answer : Answer) → has attached b ≡ true → heard_from m.session.heard b ≡ Some answer
       → is_same answer best.answer ≡ false → own.b.number ≤ b
   pub whole : more ≡ false → is_refusal best.answer ≡ false → (b : ℕ) → has attached b ≡ true → has_told m b ≡ true
+  pub drawn : (work : Work) (posted : Bool) → stage_at m.point ≡ Some (Inserting work posted) → (b : ℕ) → has attached b ≡ true
+      → has_told m b ≡ true
+  pub form : (stage : Stage) → stage_at m.point ≡ Some stage → IsOf (request_of stage) best.answer
 
 -- the kept answer of those that differ
 abbrev pub IsKept : Point → Answer → Type 0

@@ -13,7 +13,7 @@ use Rattle.backend_trait.specs.declared.answer.Answer.TheVariants as answers
 use Rattle.backend_trait.specs.Keys.{Place}
 use Rattle.backend_trait.specs.Rows.{no_changes}
 use Rattle.backend_trait.specs.Effect.{has_place, Conflicts, table_in}
-use Rattle.backend_trait.specs.Store.{Live, Transaction, Absent, Alive, Dead, Pending, Store, WhereLive, drawn_by, held_by, is_refusal}
+use Rattle.backend_trait.specs.Store.{Live, Transaction, Absent, Alive, Dead, Pending, Store, WhereLive, drawn_by, held_by, table_lock, is_refusal}
 use Rattle.backend_trait.specs.Acts.{MayRefuse, IsOf, IsOutOfMemory, given_of}
 use Rattle.session_machine.specs.declared.work.Class.TheVariants as classes
 use Rattle.session_machine.specs.declared.work.Work.{Work}
@@ -38,7 +38,7 @@ use Rattle.one_copy_model.specs.declared.event.Event.{Event}
 use Rattle.one_copy_model.specs.Tracking.{Told, Tracked, in_commit, single, tracked_after}
 use Rattle.one_copy_model.specs.Replies.{given, IsRight}
 use Rattle.one_copy_model.specs.Statement.{HasCause}
-use Rattle.one_copy_model.specs.Chains.{IsInOrder, IsParting, IsKept, IsHeard, AreShaped, asked_in}
+use Rattle.one_copy_model.specs.Chains.{IsInOrder, IsParting, IsKept, IsHeard, AreShaped, asked_in, is_unposted}
 use Rattle.one_copy_model.specs.Orders.{OrderAt, reply_in, is_of_commit, IsClassedAt}
 use Rattle.one_copy_model.specs.Standing.{Leaving, Stands, standing_of, leaving_of}
 
@@ -116,7 +116,8 @@ abbrev pub FitsPoint : Option Stage → Point → GatePhase → Type 0
 FitsPoint (Some stage) point phase = fits_stage stage phase ≡ true
 FitsPoint None point phase = fits_point point phase ≡ true
 
--- The line: what waits at a backend, and an answer that was not taken, are of the request that the session waits for there.
+-- The line: what waits at a backend, and an answer that was not taken, are of the request that the session waits for there. A serial
+-- insert's run that waits is posted: its first post turns the flag.
 
 pub record IsInLine (m : Machine) (b : ℕ) (request : Request) : Type 0 where
   pub stage : Stage
@@ -124,6 +125,7 @@ pub record IsInLine (m : Machine) (b : ℕ) (request : Request) : Type 0 where
   pub waits : m.point ≡ Waiting stage at
   pub number : at.number ≡ b
   pub asks : request ≡ request_of stage
+  pub posted : is_unposted stage ≡ false
 
 pub record HasLine (w : World) (s b : ℕ) : Type 0 where
   pub asked : (p : Pending) → (w.store b).lost ≡ false → (w.store b).pending s ≡ Some p → IsInLine (w.machine s) b p.request
@@ -228,14 +230,16 @@ HasReason tables (RollingBack ending) s code since history = Unit {0}
 abbrev pub Decides : World → ℕ → Answer → Type 0
 Decides w s answer = ((b : ℕ) × IsHere w b × (answer_from w s b ≡ Some answer)) ⊎ (IsKept (w.machine s).point answer × ((b : ℕ) × IsHere w b))
 
--- Serial numbers: where a serial insert under way has been answered here they are those there behind its run, and else those there.
+-- Serial numbers: where a serial insert under way, whose session is live there, has been answered here, they are those there behind its
+-- run, and else those there. One that has died there has had its run there.
 
 abbrev pub inserted_in : Option Stage → Option Answer → Option Work
 inserted_in (Some (Inserting work true)) (Some answer) = Some work
 inserted_in stage told = None
 
-pub record HasInserted (w : World) (s b table : ℕ) (work : Work) : Type 0 where
-  pub inserted : inserted_in (stage_at (w.machine s).point) (answer_from w s b) ≡ Some work
+pub record HasInserted (t : Tracked) (s b table : ℕ) (work : Work) : Type 0 where
+  pub live : is_live ((single t).transaction s) ≡ true
+  pub inserted : inserted_in (stage_at (t.world.machine s).point) (answer_from t.world s b) ≡ Some work
   pub at : work.class ≡ classes.SerialInsert table
 
 abbrev pub drawn_where : List TableDef → (ℕ → Option ℤ) → Work → Transaction → ℕ → Option ℤ
@@ -245,6 +249,24 @@ drawn_where tables next work Dead = next
 
 abbrev pub numbers_behind : Store → ℕ → Work → ℕ → Option ℤ
 numbers_behind st s work = drawn_where st.tables st.next work (st.transaction s)
+
+-- The lock of a serial insert under way, whose session is live there, is placed there with its run. Until then nobody else who is live
+-- there has a serial insert of that table under way, or holds there what the lock conflicts with.
+
+abbrev pub inserting_in : Option Stage → Option Work
+inserting_in (Some (Inserting work posted)) = Some work
+inserting_in stage = None
+
+pub record Inserts (m : Machine) (table : ℕ) : Type 0 where
+  pub work : Work
+  pub inserting : inserting_in (stage_at m.point) ≡ Some work
+  pub at : work.class ≡ classes.SerialInsert table
+
+pub record HaveLocks (st : Store) (machine : ℕ → Machine) : Type 0 where
+  pub alone : (s o table : ℕ) → is_live (st.transaction s) ≡ true → is_live (st.transaction o) ≡ true → Inserts (machine s) table → Inserts (machine o) table
+      → s ≡ o
+  pub free : (s o table : ℕ) → s ≢ o → is_live (st.transaction s) ≡ true → Inserts (machine s) table
+      → ¬ (Conflicts (table_lock table) (held_by (st.transaction o)))
 
 -- An order is under way exactly where the session does not rest.
 
@@ -286,14 +308,17 @@ pub record Invariant (t : Tracked) : Type 0 where
       → (t.world.store b).pending s ≡ Some p → (single t).pending s ≡ Some q → p.crossed ≡ true → q.crossed ≡ true
   pub unchanged : (s : ℕ) (u : Live) (tables : ℕ) → (t.world.machine s).session.gate ≡ phases.Live false tables
       → (single t).transaction s ≡ Alive u → u.changes ≡ no_changes
+  pub closes : (s b : ℕ) (l : Live) → IsHere t.world b → stage_at (t.world.machine s).point ≡ Some Closing
+      → (t.world.store b).transaction s ≡ Alive l → l.changes ≡ no_changes
   pub rows_same : (b : ℕ) (p : Place) → IsHere t.world b → ((o : ℕ) → ¬ (Leaves t o b p))
       → fin.get (t.world.store b).rows p ≡ fin.get (single t).rows p
   pub rows_left : (o b : ℕ) (p : Place) (last : Live) → IsHere t.world b → Leaves t o b p
       → leaving_of t.world.tables o t.history ≡ Alive last → fin.get last.changes p ≡ Some (fin.get (single t).rows p)
-  pub numbers : (b table : ℕ) → IsHere t.world b → ((s : ℕ) (work : Work) → ¬ (HasInserted t.world s b table work))
+  pub numbers : (b table : ℕ) → IsHere t.world b → ((s : ℕ) (work : Work) → ¬ (HasInserted t s b table work))
       → (t.world.store b).next table ≡ (single t).next table
-  pub numbers_ahead : (s b table : ℕ) (work : Work) → IsHere t.world b → HasInserted t.world s b table work
+  pub numbers_ahead : (s b table : ℕ) (work : Work) → IsHere t.world b → HasInserted t s b table work
       → (t.world.store b).next table ≡ numbers_behind (single t) s work table
+  pub locks : HaveLocks (single t) t.world.machine
   pub alive : (s : ℕ) → is_live ((single t).transaction s) ≡ true → is_alive t.world s ≡ true
   pub reasons : (s : ℕ) (stage : Stage) (told : Told) (code : Code) → stage_at (t.world.machine s).point ≡ Some stage
       → t.orders s ≡ Some told → Decides t.world s (answers.Refused code) → HasReason t.world.tables stage s code told.entries t.history

@@ -23,6 +23,7 @@ use Rattle.session_machine.specs.declared.machine.Machine.{Machine}
 use Rattle.session_machine.specs.Allowed.{is_out}
 use Rattle.session_machine.specs.Rules.{moment_at}
 use Rattle.one_copy_model.specs.declared.deed.Deed.{Deed}
+use Rattle.one_copy_model.specs.declared.deed.Deed.TheVariants.{Gets}
 use Rattle.one_copy_model.specs.declared.deed.Entry.{Entry}
 use Rattle.one_copy_model.specs.declared.event.Event.{Event}
 use Rattle.one_copy_model.specs.declared.event.Event.TheVariants.{Of, Act, Lost}
@@ -75,9 +76,16 @@ placed false w s m event history =
     recorded s (refused_opening m.session m.point event)
     (opened_if (is_alive w s) s (opening_of m.point event) (with_code s (code_in (place_of m.session m.point event)) history))
 
+-- where a detachment decides that a run has its result, the deaths that it brings come before: who was alive only at the backend that
+-- leaves holds its rows no longer
+abbrev pub deaths_first : World → SessionEvent → List Deed → List Entry → List Entry
+deaths_first new (events.Detached b cause answer) (Gets result ∷ []) history = fallen new history 65
+deaths_first new event deeds history = history
+
 abbrev pub history_after : Tracked → Event → World → List Entry
 history_after t (Of s event) new =
-    fallen new (placed (is_live ((single t).transaction s.number)) t.world s.number (t.world.machine s.number) event t.history) 65
+    fallen new (placed (is_live ((single t).transaction s.number)) t.world s.number (t.world.machine s.number) event
+    (deaths_first new event (place_of (t.world.machine s.number).session (t.world.machine s.number).point event) t.history)) 65
 history_after t (Act s b answer) new = fallen new t.history 65
 history_after t (Lost b) new = fallen new t.history 65
 
