@@ -12,10 +12,11 @@ use Rattle.one_copy_model.specs.declared.deed.Deed.TheVariants.{Asks}
 use Rattle.one_copy_model.specs.declared.deed.Entry.{Entry}
 use Rattle.one_copy_model.specs.SingleRun.{store_after, MayDo}
 use Rattle.one_copy_model.specs.Tracking.{Told, Tracked}
-use Rattle.one_copy_model.specs.Invariant.{Invariant, IsSound}
+use Rattle.one_copy_model.specs.Invariant.{Invariant, IsSound, Inserts}
 use Rattle.world_frames.specs.Own.{Own}
 use Rattle.world_frames.proofs.Counts.{Moves, counted}
 use Rattle.world_frames.proofs.Passing.{own_passes}
+use Rattle.world_frames.proofs.Locks.{locks_turned}
 use Rattle.world_frames.proofs.Turns.{turned}
 use Rattle.world_frames.proofs.Turning.{FactsOf, facts_of, live_there}
 use Rattle.world_frames.proofs.Landing.{moved, moved_holds}
@@ -41,14 +42,15 @@ module _ (t : Tracked) (h : Invariant t) (s : SessionId) (n : Machine) (next : G
   mine = moved t s.number n next post mid by did
 
   pub asks_holds : MayDo (store_after t.world.tables t.history) s.number (Asks request)
+      → ((table : ℕ) → Inserts n table → Inserts (t.world.machine s.number) table)
       → Own t.world.tables t.world.gate.attached.bits mid t.world.store n post by did (live_there t s.number) s.number
       → Invariant mine
-  asks_holds may own =
+  asks_holds may enters own =
       let f : FactsOf t = facts_of t h in
       moved_holds t s.number n next post mid by did same own
       (λ o other. own_passes t.world.tables o t.history mid (asked_passes t.world.tables s.number t.history request o other) t.world.gate.attached.bits t.world.store (t.world.machine o) (t.world.mail o) (t.orders o) (t.done o) (live_there t o) (live_there mine o) refl (f.own o))
       (turned t.world.tables t.world.gate.attached.bits t.history mid t.world.store t.world.machine t.world.mail s.number n post (asked_passes t.world.tables s.number t.history request) aside.stays aside.lasts aside.outside aside.idle aside.idles
       refl refl (sound_asked (store_after t.world.tables t.history) (store_after t.world.tables t.history).transaction (store_after t.world.tables mid) refl h.sound_there) h.undead (may, h.run)
-      (λ a u is. (u, is, refl)) f.shared)
+      (λ a u is. (u, is, refl)) (locks_turned (store_after t.world.tables t.history) (store_after t.world.tables mid) t.world.machine s.number n (λ o other. refl) (λ w c. c) (λ table live i. (live, enters table i)) h.locks) f.shared)
       (counted t.world.machine s.number n (below_65 s) t.world.gate next moves f.counts)
       (λ o live. h.alive o live)

@@ -11,6 +11,7 @@ use Rattle.session_machine.specs.declared.action.Cause.{Cause}
 use Rattle.session_machine.specs.declared.action.Action.TheVariants as actions
 use Rattle.session_orders.specs.declared.outcome.Outcome.{Outcome}
 use Rattle.session_machine.specs.declared.machine.GatePhase.TheVariants as phases
+use Rattle.session_machine.specs.declared.machine.Stage.TheVariants.{Closing}
 use Rattle.session_machine.specs.declared.machine.Machine.{Machine}
 use Rattle.session_machine.specs.declared.machine.Session.{Session}
 use Rattle.session_machine.specs.declared.machine.Stage.{Stage}
@@ -22,7 +23,7 @@ use Rattle.one_copy_model.specs.declared.deed.Entry.{Entry}
 use Rattle.one_copy_model.specs.SingleRun.{store_after}
 use Rattle.one_copy_model.specs.Deaths.{stage_at, heard_from, mail_or}
 use Rattle.one_copy_model.specs.Tracking.{Told}
-use Rattle.one_copy_model.specs.Chains.{IsInOrder, IsRising, IsKept, asked_in}
+use Rattle.one_copy_model.specs.Chains.{IsInOrder, IsRising, IsKept, HasOne, asked_in}
 use Rattle.session_machine.specs.declared.machine.Heard.{Heard}
 use Rattle.pool_base.specs.declared.backend_set.BackendSet.{BackendSet}
 use Rattle.one_copy_model.specs.Orders.{OrderAt, reply_in, is_of_commit, IsClassedAt}
@@ -65,6 +66,15 @@ some_or_none : (x : Option Answer) → ((answer : Answer) → x ≡ Some answer 
 some_or_none None h = refl
 some_or_none (Some answer) h = absurd (h answer refl)
 
+pub none_one : (asked : Option ℕ) → HasOne asked []
+none_one None = tt
+none_one (Some b) = refl
+
+-- who is not asked any more
+pub one_unasked : (asked : Option ℕ) (heard : List Heard) → HasOne asked heard → HasOne None heard
+one_unasked None heard h = h
+one_unasked (Some b) heard h = subst (HasOne None) (sym h) tt
+
 -- where nobody has answered, and nobody is asked
 pub fresh_order : (attached : ℕ) (n : Machine) (stage : Stage) → n.session.heard ≡ [] → asked_in n.point ≡ None → IsInOrder attached n stage
 fresh_order attached n stage none unasked = record {
@@ -74,6 +84,7 @@ fresh_order attached n stage none unasked = record {
     | inl e ↦ absurd (let x : None ≡ Some c = sym unasked ∙ e in cc)
     | inr e ↦ absurd (let x : false ≡ true = sym (ap (λ (hs : List Heard). is_some (heard_from hs c)) none) ∙ e in cc)
   ];
+  one = λ single. subst (HasOne (asked_in n.point)) (sym none) (none_one (asked_in n.point));
 }
 
 -- of a chain that begins nobody has answered
@@ -85,6 +96,7 @@ begun_order attached session stage at none = record {
     | inl e ↦ absurd (let n : None ≡ Some c = e in cc)
     | inr e ↦ absurd (let n : false ≡ true = sym (ap (λ (hs : List Heard). is_some (heard_from hs c)) none) ∙ e in cc)
   ];
+  one = λ single. subst (HasOne None) (sym none) tt;
 }
 
 module _ (tables : List TableDef) (attached : ℕ) (history mid : List Entry) (here : ℕ → Store) (m : Machine) (mail : ℕ → Option Answer) (told : Option Told) (done : ℕ → Bool) (live : Bool) (s : ℕ)
@@ -103,6 +115,7 @@ module _ (tables : List TableDef) (attached : ℕ) (history mid : List Entry) (h
       → ((b : ℕ) (stage : Stage) → IsIn attached b → stage_at n.point ≡ Some stage → told_by n mail b ≡ None)
       → ((b : ℕ) → IsIn attached b → Stands (store_after tables mid) s (leaving_of tables s mid) (stand n mail b) ((here b).transaction s) ((store_after tables mid).transaction s))
       → ((u : Live) (written : ℕ) → n.session.gate ≡ phases.Live false written → (store_after tables mid).transaction s ≡ Alive u → u.changes ≡ no_changes)
+      → ((b : ℕ) (l : Live) → IsIn attached b → stage_at n.point ≡ Some Closing → (here b).transaction s ≡ Alive l → l.changes ≡ no_changes)
       → request_in ((store_after tables mid).pending s) ≡ where_live more (wants_of n.point (stage_at n.point))
       → ((is : Told) (outcome : Outcome) → by ≡ Some is → reply_in n.point ≡ Some outcome → IsRightBy attached n more s mid is outcome)
       → IsUnderWay n.point by
@@ -111,7 +124,7 @@ module _ (tables : List TableDef) (attached : ℕ) (history mid : List Entry) (h
       → ((b : ℕ) (is : Told) → IsIn attached b → by ≡ Some is → is_of_commit (stage_at n.point) ≡ true → given_by s is mid ≡ Some (commit_outcome n.session.status))
       → ((b : ℕ) (is : Told) → by ≡ Some is → is.entered ≡ true → IsIn attached b → stand n mail b ≢ Leaving → did b ≡ true)
       → Own tables attached mid here n mail by did more s
-  free_own_with n by did more unsplit causes inside classed in_order untold stands unchanged posts replies orders order_is since commits done_first = record {
+  free_own_with n by did more unsplit causes inside classed in_order untold stands unchanged closes posts replies orders order_is since commits done_first = record {
     stranger = λ is. absurd (real is);
     inside = inside;
     classed = classed;
@@ -125,6 +138,7 @@ module _ (tables : List TableDef) (attached : ℕ) (history mid : List Entry) (h
     stands = stands;
     crossed = λ b p q at sound is there e. let line = old.asked b p sound is in absurd (free line.stage line.at line.waits);
     unchanged = unchanged;
+    closes = closes;
     reasons = λ stage is code at e says. absurd (elim says [
       | inl x ↦ none_says (told_by n mail x.0) (answers.Refused code) (untold x.0 stage x.1 at) x.2
       | inr kept ↦ unsplit_kept n.point (answers.Refused code) unsplit kept.0
@@ -145,6 +159,7 @@ module _ (tables : List TableDef) (attached : ℕ) (history mid : List Entry) (h
       → ((b : ℕ) (stage : Stage) → IsIn attached b → stage_at n.point ≡ Some stage → told_by n mail b ≡ None)
       → ((b : ℕ) → IsIn attached b → Stands (store_after tables mid) s (leaving_of tables s mid) (stand n mail b) ((here b).transaction s) ((store_after tables mid).transaction s))
       → ((u : Live) (written : ℕ) → n.session.gate ≡ phases.Live false written → (store_after tables mid).transaction s ≡ Alive u → u.changes ≡ no_changes)
+      → ((b : ℕ) (l : Live) → IsIn attached b → stage_at n.point ≡ Some Closing → (here b).transaction s ≡ Alive l → l.changes ≡ no_changes)
       → request_in ((store_after tables mid).pending s) ≡ where_live more (wants_of n.point (stage_at n.point))
       → ((is : Told) (outcome : Outcome) → by ≡ Some is → reply_in n.point ≡ Some outcome → IsRightBy attached n more s mid is outcome)
       → IsUnderWay n.point by
@@ -153,6 +168,6 @@ module _ (tables : List TableDef) (attached : ℕ) (history mid : List Entry) (h
       → ((b : ℕ) (is : Told) → IsIn attached b → by ≡ Some is → is_of_commit (stage_at n.point) ≡ true → given_by s is mid ≡ Some (commit_outcome n.session.status))
       → ((b : ℕ) (is : Told) → by ≡ Some is → is.entered ≡ true → IsIn attached b → stand n mail b ≢ Leaving → did b ≡ true)
       → Own tables attached mid here n mail by did more s
-  free_own n by did more plain inside classed in_order untold stands unchanged posts replies orders order_is since commits done_first =
+  free_own n by did more plain inside classed in_order untold stands unchanged closes posts replies orders order_is since commits done_first =
       free_own_with n by did more (plain_unsplit n.point plain) (λ b cause is. absurd (plain_causes n.session n.point b cause plain is))
-      inside classed in_order untold stands unchanged posts replies orders order_is since commits done_first
+      inside classed in_order untold stands unchanged closes posts replies orders order_is since commits done_first

@@ -17,6 +17,7 @@ use Rattle.world_frames.specs.Own.{told_by, stand, IsIn, Own}
 use Rattle.world_frames.proofs.Places.{same_or_other}
 use Rattle.world_frames.proofs.Counts.{Moves, counted}
 use Rattle.world_frames.proofs.Passing.{own_passes}
+use Rattle.world_frames.proofs.Locks.{locks_ended}
 use Rattle.world_frames.proofs.Turns.{sound_ended, undead_ended, was_live, turned}
 use Rattle.world_frames.proofs.Turning.{FactsOf, facts_of, live_there}
 use Rattle.world_frames.proofs.Landing.{moved, moved_holds}
@@ -54,7 +55,7 @@ module _ (t : Tracked) (h : Invariant t) (s : SessionId) (n : Machine) (next : G
       (λ o other. own_passes t.world.tables o t.history mid (e.passes o other) t.world.gate.attached.bits t.world.store (t.world.machine o) (t.world.mail o) (t.orders o) (t.done o) (live_there t o) (live_there mine o) (ap is_live (others o other)) (f.own o))
       (turned t.world.tables t.world.gate.attached.bits t.history mid t.world.store t.world.machine t.world.mail s.number n post e.passes aside.stays aside.lasts aside.outside aside.idle aside.idles
       e.rows e.next (sound_ended old new s.number others e.none h.sound_there) (undead_ended old new s.number others e.none h.undead) e.run
-      (λ a u is. let v = was_live old new s.number others e.none a u is in (u, v.1, refl)) f.shared)
+      (λ a u is. let v = was_live old new s.number others e.none a u is in (u, v.1, refl)) (locks_ended old new t.world.machine s.number n others e.none h.locks) f.shared)
       (counted t.world.machine s.number n (below_65 s) t.world.gate next moves f.counts)
       (λ o live. elim (same_or_other o s.number) [
         | inl is ↦ absurd (dead_lives (new.transaction o) (ap new.transaction is ∙ e.none) live)

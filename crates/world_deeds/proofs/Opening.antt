@@ -33,7 +33,8 @@ use Rattle.one_copy_model.specs.Orders.{IsClassed}
 use Rattle.one_copy_model.specs.Invariant.{IsSound, is_dead}
 use Rattle.world_frames.proofs.Places.{same_or_other}
 use Rattle.world_frames.proofs.Tables.{tables_there}
-use Rattle.world_frames.proofs.Turns.{no_left, no_right}
+use Rattle.world_frames.proofs.Locks.{no_right}
+use Rattle.world_frames.proofs.Turns.{no_left}
 use Rattle.world_deeds.proofs.Endings.{asked, asked_passes, its, waits}
 
 -- a statement that is no serial insert takes no lock first

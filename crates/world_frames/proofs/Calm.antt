@@ -9,6 +9,7 @@ use Rattle.session_machine.specs.declared.action.Cause.{Cause}
 use Rattle.session_machine.specs.declared.action.Action.TheVariants as actions
 use Rattle.session_orders.specs.declared.outcome.Outcome.{Outcome}
 use Rattle.session_machine.specs.declared.machine.GatePhase.TheVariants as phases
+use Rattle.session_machine.specs.declared.machine.Stage.TheVariants.{Closing}
 use Rattle.session_machine.specs.declared.machine.Machine.{Machine}
 use Rattle.session_machine.specs.declared.machine.Session.{Session}
 use Rattle.session_machine.specs.declared.machine.Stage.{Stage}
@@ -80,6 +81,7 @@ module _ (tables : List TableDef) (attached : ℕ) (history : List Entry) (here 
     stands = λ b at. subst (λ (x : Standing). Stands (store_after tables history) s (leaving_of tables s history) x ((here b).transaction s) ((store_after tables history).transaction s)) (sym (stands b at)) (old.stands b at);
     crossed = old.crossed;
     unchanged = λ u written is. old.unchanged u written (unchanged written is);
+    closes = λ b l at is. absurd (no_stage (stage_at n.point) Closing calm is);
     reasons = λ stage is code at. absurd (no_stage (stage_at n.point) stage calm at);
     posts = old.posts ∙ sym posts;
     replies = replies;

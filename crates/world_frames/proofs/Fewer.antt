@@ -30,7 +30,7 @@ module _ (tables : List TableDef) (attached fewer : ℕ) (less : (b : ℕ) → I
   fewer_right m live s history told outcome (inr own) = inr (fewer_pools m told live outcome own)
 
   pub fewer_order : (m : Machine) (stage : Stage) → IsInOrder attached m stage → IsInOrder fewer m stage
-  fewer_order m stage h = record { rising = h.rising; above = h.above; below = λ b c up at under told. h.below b c up (less b at) under told }
+  fewer_order m stage h = record { rising = h.rising; above = h.above; below = λ b c up at under told. h.below b c up (less b at) under told; one = h.one }
 
   pub fewer_own : (history : List Entry) (here : ℕ → Store) (m : Machine) (mail : ℕ → Option Answer) (told : Option Told) (done : ℕ → Bool) (live : Bool) (s : ℕ)
       → Own tables attached history here m mail told done live s → Own tables fewer history here m mail told done live s
@@ -47,11 +47,14 @@ module _ (tables : List TableDef) (attached fewer : ℕ) (less : (b : ℕ) → I
       fewer = λ b in_it. p.fewer b (less b in_it);
       parted = λ b answer in_it. p.parted b answer (less b in_it);
       whole = λ no result b in_it. p.whole no result b (less b in_it);
+      drawn = λ work posted draws b in_it. p.drawn work posted draws b (less b in_it);
+      form = p.form;
     };
     causes = h.causes;
     stands = λ b at. h.stands b (less b at);
     crossed = λ b p q at. h.crossed b p q (less b at);
     unchanged = h.unchanged;
+    closes = λ b l at. h.closes b l (less b at);
     reasons = λ stage by code at is says. h.reasons stage by code at is (elim says [ inl x ↦ inl (x.0, less x.0 x.1, x.2) | inr kept ↦ inr (kept.0, (kept.1.0, less kept.1.0 kept.1.1)) ]);
     posts = h.posts;
     replies = λ by outcome is reply. fewer_right m live s history by outcome (h.replies by outcome is reply);

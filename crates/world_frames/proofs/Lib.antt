@@ -2,6 +2,7 @@ pub mod Calm
 pub mod Counts
 pub mod Fewer
 pub mod Landing
+pub mod Locks
 pub mod Made
 pub mod Passing
 pub mod Places

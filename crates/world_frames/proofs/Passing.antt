@@ -194,6 +194,7 @@ module _ (tables : List TableDef) (o : ℕ) (old new : List Entry) (p : Passes t
     stands = λ b at. stands_same (store_after tables old) (store_after tables new) o (tables_same tables new old) p.rows p.next (leaving_of tables o new) (leaving_of tables o old) _ _ ((store_after tables new).transaction o) ((store_after tables old).transaction o) p.leaving p.transaction (h.stands b at);
     crossed = λ b x y at sound is there e. let was = mark_was ((store_after tables old).pending o) ((store_after tables new).pending o) y p.waits there in was.2 (h.crossed b x was.0 at sound is was.1 e);
     unchanged = λ u written is alive. h.unchanged u written is (sym p.transaction ∙ alive);
+    closes = h.closes;
     reasons = λ stage by code at is says. reason_passes stage code by.entries (h.reasons stage by code at is says);
     posts = requests_same ((store_after tables old).pending o) ((store_after tables new).pending o) p.waits ∙ h.posts ∙ ap (λ (x : Bool). where_live x (wants_of m.point (stage_at m.point))) (sym same);
     replies = λ by outcome is reply. right_passes attached m live more by outcome (h.since by is) same (h.replies by outcome is reply);

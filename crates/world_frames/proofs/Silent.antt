@@ -13,10 +13,11 @@ use Rattle.one_copy_model.specs.SingleRun.{store_after}
 use Rattle.one_copy_model.specs.Deaths.{stage_at}
 use Rattle.one_copy_model.specs.Tracking.{in_commit}
 use Rattle.one_copy_model.specs.Standing.{Leaving}
-use Rattle.one_copy_model.specs.Invariant.{inserted_in}
+use Rattle.one_copy_model.specs.Invariant.{inserted_in, Inserts, HaveLocks}
 use Rattle.world_frames.specs.Own.{told_by, stand, IsIn}
 use Rattle.world_frames.specs.Facts.{Going, Inserted, Shared}
 use Rattle.world_frames.proofs.Places.{each_at, each_at2}
+use Rattle.world_frames.proofs.Locks.{locks_stay}
 
 -- who leaves here, inserts here and commits is the same before and behind it, where a backend is attached and something lives
 pub record IsSilent (tables : List TableDef) (attached : ℕ) (history : List Entry) (m n : Machine) (mail post : ℕ → Option Answer) : Type 0 where
@@ -38,21 +39,22 @@ module _ (tables : List TableDef) (attached fewer : ℕ) (history : List Entry) 
       (λ g. record { leaves = q.stays b at g.leaves; last = g.last; was = g.was; changes = g.changes })
       (λ o other g. g)
 
-  to_inserted : (b table : ℕ) (work : Work) → IsIn fewer b → (o : ℕ) → Inserted (machine o) (mail o) b table work → Inserted (with_at machine s n o) (with_at mail s post o) b table work
-  to_inserted b table work at = each_at2 (λ o x y. Inserted (machine o) (mail o) b table work → Inserted x y b table work) machine mail s n post
-      (λ i. record { inserted = sym (q.inserts b at) ∙ i.inserted; at = i.at })
+  to_inserted : (b table : ℕ) (work : Work) → IsIn fewer b → (o : ℕ) → Inserted tables history (machine o) (mail o) o b table work → Inserted tables history (with_at machine s n o) (with_at mail s post o) o b table work
+  to_inserted b table work at = each_at2 (λ o x y. Inserted tables history (machine o) (mail o) o b table work → Inserted tables history x y o b table work) machine mail s n post
+      (λ i. record { live = i.live; inserted = sym (q.inserts b at) ∙ i.inserted; at = i.at })
       (λ o other i. i)
 
-  from_inserted : (b table : ℕ) (work : Work) → IsIn fewer b → (o : ℕ) → Inserted (with_at machine s n o) (with_at mail s post o) b table work → Inserted (machine o) (mail o) b table work
-  from_inserted b table work at = each_at2 (λ o x y. Inserted x y b table work → Inserted (machine o) (mail o) b table work) machine mail s n post
-      (λ i. record { inserted = q.inserts b at ∙ i.inserted; at = i.at })
+  from_inserted : (b table : ℕ) (work : Work) → IsIn fewer b → (o : ℕ) → Inserted tables history (with_at machine s n o) (with_at mail s post o) o b table work → Inserted tables history (machine o) (mail o) o b table work
+  from_inserted b table work at = each_at2 (λ o x y. Inserted tables history x y o b table work → Inserted tables history (machine o) (mail o) o b table work) machine mail s n post
+      (λ i. record { live = i.live; inserted = q.inserts b at ∙ i.inserted; at = i.at })
       (λ o other i. i)
 
   from_commit : (a : ℕ) (u : Live) → (store_after tables history).transaction a ≡ Alive u → (o : ℕ) → in_commit (with_at machine s n o).session.gate ≡ true → in_commit (machine o).session.gate ≡ true
   from_commit a u is = each_at (λ o x. in_commit x.session.gate ≡ true → in_commit (machine o).session.gate ≡ true) machine s n (q.commits a u is) (λ o other h. h)
 
-  pub silent : Shared tables attached history here machine mail → Shared tables fewer history here (with_at machine s n) (with_at mail s post)
-  silent h = record {
+  pub silent_with : HaveLocks (store_after tables history) (with_at machine s n) → Shared tables attached history here machine mail
+      → Shared tables fewer history here (with_at machine s n) (with_at mail s post)
+  silent_with locks h = record {
     tables_here = h.tables_here;
     sound = λ b at. h.sound b (less b at);
     shaped = h.shaped;
@@ -65,5 +67,16 @@ module _ (tables : List TableDef) (attached fewer : ℕ) (history : List Entry) 
     rows_left = λ o b p last at g. h.rows_left o b p last (less b at) (from_going b p at o g);
     numbers = λ b table at none. h.numbers b table (less b at) (λ o work i. none o work (to_inserted b table work at o i));
     numbers_ahead = λ o b table work at i. h.numbers_ahead o b table work (less b at) (from_inserted b table work at o i);
+    locks = locks;
     run = h.run;
   }
+
+-- and no serial insert begins
+abbrev pub IsQuiet : List TableDef → ℕ → List Entry → Machine → Machine → (ℕ → Option Answer) → (ℕ → Option Answer) → Type 0
+IsQuiet tables attached history m n mail post = IsSilent tables attached history m n mail post × ((table : ℕ) → Inserts n table → Inserts m table)
+
+pub silent : (tables : List TableDef) → (attached fewer : ℕ) (history : List Entry) (here : ℕ → Store) (machine : ℕ → Machine) (mail : ℕ → ℕ → Option Answer)
+    (s : ℕ) (n : Machine) (post : ℕ → Option Answer) → ((b : ℕ) → IsIn fewer b → IsIn attached b) → IsQuiet tables fewer history (machine s) n (mail s) post
+    → Shared tables attached history here machine mail → Shared tables fewer history here (with_at machine s n) (with_at mail s post)
+silent tables attached fewer history here machine mail s n post less q h =
+    silent_with tables attached fewer history here machine mail s n post less q.0 (locks_stay (store_after tables history) machine s n q.1 h.locks) h

@@ -23,11 +23,11 @@ module _ (t : Tracked) where
   from_going : (o b : ℕ) (p : Place) → Going t.world.tables t.history (t.world.machine o) (t.world.mail o) o b p → Leaves t o b p
   from_going o b p l = record { leaves = l.leaves; last = l.last; was = l.was; changes = l.changes }
 
-  to_inserted : (s b table : ℕ) (work : Work) → HasInserted t.world s b table work → Inserted (t.world.machine s) (t.world.mail s) b table work
-  to_inserted s b table work i = record { inserted = i.inserted; at = i.at }
+  to_inserted : (s b table : ℕ) (work : Work) → HasInserted t s b table work → Inserted t.world.tables t.history (t.world.machine s) (t.world.mail s) s b table work
+  to_inserted s b table work i = record { live = i.live; inserted = i.inserted; at = i.at }
 
-  from_inserted : (s b table : ℕ) (work : Work) → Inserted (t.world.machine s) (t.world.mail s) b table work → HasInserted t.world s b table work
-  from_inserted s b table work i = record { inserted = i.inserted; at = i.at }
+  from_inserted : (s b table : ℕ) (work : Work) → Inserted t.world.tables t.history (t.world.machine s) (t.world.mail s) s b table work → HasInserted t s b table work
+  from_inserted s b table work i = record { live = i.live; inserted = i.inserted; at = i.at }
 
   to_pools : (s : ℕ) (told : Told) (live : Bool) (outcome : Outcome) → IsOwn t.world s told live outcome → IsPools t.world.gate.attached.bits (t.world.machine s) told live outcome
   to_pools s told live outcome (of_moment a c d) = pools_moment a c d
@@ -67,6 +67,7 @@ module _ (t : Tracked) where
       stands = h.stands s;
       crossed = h.crossed_there s;
       unchanged = h.unchanged s;
+      closes = h.closes s;
       reasons = h.reasons s;
       posts = h.posts s;
       replies = λ told outcome e g. to_right s told outcome (h.replies s told outcome e g);
@@ -89,6 +90,7 @@ module _ (t : Tracked) where
       rows_left = λ o b p last at l. h.rows_left o b p last at (from_going o b p l);
       numbers = λ b table at none. h.numbers b table at (λ s work i. none s work (to_inserted s b table work i));
       numbers_ahead = λ s b table work at i. h.numbers_ahead s b table work at (from_inserted s b table work i);
+      locks = h.locks;
       run = h.run;
     };
     counts = record { snaps = h.counts.snaps; commits = h.counts.commits; live = h.counts.live; apart = h.counts.apart; quiet = h.counts.quiet; few = h.few };
@@ -119,10 +121,12 @@ module _ (t : Tracked) where
     };
     crossed_there = λ s. (f.own s).crossed;
     unchanged = λ s. (f.own s).unchanged;
+    closes = λ s. (f.own s).closes;
     rows_same = λ b p at none. f.shared.rows_same b p at (λ o g. none o (from_going o b p g));
     rows_left = λ o b p last at l. f.shared.rows_left o b p last at (to_going o b p l);
     numbers = λ b table at none. f.shared.numbers b table at (λ s work i. none s work (from_inserted s b table work i));
     numbers_ahead = λ s b table work at i. f.shared.numbers_ahead s b table work at (to_inserted s b table work i);
+    locks = f.shared.locks;
     alive = alive;
     reasons = λ s. (f.own s).reasons;
     run = f.shared.run;

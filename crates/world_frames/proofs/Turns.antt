@@ -12,23 +12,18 @@ use Rattle.session_machine.specs.declared.work.Work.{Work}
 use Rattle.session_machine.specs.declared.machine.Machine.{Machine}
 use Rattle.one_copy_model.specs.declared.deed.Entry.{Entry}
 use Rattle.one_copy_model.specs.SingleRun.{store_after, IsRun}
-use Rattle.one_copy_model.specs.Deaths.{stage_at}
+use Rattle.one_copy_model.specs.Deaths.{is_live, stage_at}
 use Rattle.one_copy_model.specs.Tracking.{in_commit}
 use Rattle.one_copy_model.specs.Standing.{Leaving, leaving_of}
-use Rattle.one_copy_model.specs.Invariant.{IsSound, is_dead, inserted_in, drawn_where, numbers_behind}
+use Rattle.one_copy_model.specs.Invariant.{IsSound, is_dead, inserted_in, drawn_where, numbers_behind, HaveLocks}
 use Rattle.world_frames.specs.Own.{told_by, stand, IsIn}
 use Rattle.world_frames.specs.Facts.{Going, Inserted, Shared}
 use Rattle.world_frames.proofs.Places.{same_or_other, each_at, each_at2}
 use Rattle.world_frames.proofs.Tables.{tables_same}
 use Rattle.world_frames.proofs.Passing.{Passes}
+use Rattle.world_frames.proofs.Locks.{no_right}
 
 -- who holds nothing is in nobody's way
-pub no_right : (a : Wants) → ¬ (Conflicts a nothing)
-no_right a (same_place p x y) = let e : false ≡ true = y in cc
-no_right a (same_table t x y) = let e : false ≡ true = y in cc
-no_right a (table_left p x y) = let e : false ≡ true = y in cc
-no_right a (table_right p x y) = let e : false ≡ true = y in cc
-
 pub no_left : (a : Wants) → ¬ (Conflicts nothing a)
 no_left a (same_place p x y) = let e : false ≡ true = x in cc
 no_left a (same_table t x y) = let e : false ≡ true = x in cc
@@ -94,15 +89,15 @@ module _ (tables : List TableDef) (attached : ℕ) (old new : List Entry) (here 
       (λ g. absurd (lasts b at g.leaves))
       (λ o other g. (other, record { leaves = g.leaves; last = g.last; was = sym (passes o other).leaving ∙ g.was; changes = g.changes }))
 
-  inserted_to : (b table : ℕ) (work : Work) → IsIn attached b → (o : ℕ) → Inserted (machine o) (mail o) b table work → Inserted (with_at machine s n o) (with_at mail s post o) b table work
-  inserted_to b table work at = each_at2 (λ o x y. Inserted (machine o) (mail o) b table work → Inserted x y b table work) machine mail s n post
+  inserted_to : (b table : ℕ) (work : Work) → IsIn attached b → (o : ℕ) → Inserted tables old (machine o) (mail o) o b table work → Inserted tables new (with_at machine s n o) (with_at mail s post o) o b table work
+  inserted_to b table work at = each_at2 (λ o x y. Inserted tables old (machine o) (mail o) o b table work → Inserted tables new x y o b table work) machine mail s n post
       (λ i. absurd (idle b work at i.inserted))
-      (λ o other i. i)
+      (λ o other i. record { live = ap is_live (passes o other).transaction ∙ i.live; inserted = i.inserted; at = i.at })
 
-  inserted_from : (b table : ℕ) (work : Work) → IsIn attached b → (o : ℕ) → Inserted (with_at machine s n o) (with_at mail s post o) b table work → (o ≢ s) × Inserted (machine o) (mail o) b table work
-  inserted_from b table work at = each_at2 (λ o x y. Inserted x y b table work → (o ≢ s) × Inserted (machine o) (mail o) b table work) machine mail s n post
+  inserted_from : (b table : ℕ) (work : Work) → IsIn attached b → (o : ℕ) → Inserted tables new (with_at machine s n o) (with_at mail s post o) o b table work → (o ≢ s) × Inserted tables old (machine o) (mail o) o b table work
+  inserted_from b table work at = each_at2 (λ o x y. Inserted tables new x y o b table work → (o ≢ s) × Inserted tables old (machine o) (mail o) o b table work) machine mail s n post
       (λ i. absurd (idles b work at i.inserted))
-      (λ o other i. (other, i))
+      (λ o other i. (other, record { live = ap is_live (sym (passes o other).transaction) ∙ i.live; inserted = i.inserted; at = i.at }))
 
   commit_from : (o : ℕ) → in_commit (with_at machine s n o).session.gate ≡ true → (o ≢ s) × (in_commit (machine o).session.gate ≡ true)
   commit_from = each_at (λ o x. in_commit x.session.gate ≡ true → (o ≢ s) × (in_commit (machine o).session.gate ≡ true)) machine s n
@@ -137,8 +132,9 @@ module _ (tables : List TableDef) (attached : ℕ) (old new : List Entry) (here 
       → ((o : ℕ) → is_dead ((store_after tables new).transaction o) ≡ false)
       → IsRun tables new
       → ((a : ℕ) (u : Live) → (store_after tables new).transaction a ≡ Alive u → ((v : Live) × ((store_after tables old).transaction a ≡ Alive v) × (u.stale ≡ v.stale)) ⊎ Begins a u)
+      → HaveLocks (store_after tables new) (with_at machine s n)
       → Shared tables attached old here machine mail → Shared tables attached new here (with_at machine s n) (with_at mail s post)
-  turned_with rows next sound undead run was h = record {
+  turned_with rows next sound undead run was locks h = record {
     tables_here = h.tables_here;
     sound = h.sound;
     shaped = h.shaped;
@@ -155,6 +151,7 @@ module _ (tables : List TableDef) (attached : ℕ) (old new : List Entry) (here 
     numbers_ahead = λ o b table work at i.
         let c = inserted_from b table work at o i in
         h.numbers_ahead o b table work at c.1 ∙ sym (behind_same (store_after tables old) (store_after tables new) o work table (tables_same tables new old) (passes o c.0).transaction next);
+    locks = locks;
     run = run;
   }
 
@@ -163,5 +160,6 @@ module _ (tables : List TableDef) (attached : ℕ) (old new : List Entry) (here 
       → ((o : ℕ) → is_dead ((store_after tables new).transaction o) ≡ false)
       → IsRun tables new
       → ((a : ℕ) (u : Live) → (store_after tables new).transaction a ≡ Alive u → (v : Live) × ((store_after tables old).transaction a ≡ Alive v) × (u.stale ≡ v.stale))
+      → HaveLocks (store_after tables new) (with_at machine s n)
       → Shared tables attached old here machine mail → Shared tables attached new here (with_at machine s n) (with_at mail s post)
-  turned rows next sound undead run was h = turned_with rows next sound undead run (λ a u is. inl (was a u is)) h
+  turned rows next sound undead run was locks h = turned_with rows next sound undead run (λ a u is. inl (was a u is)) locks h

@@ -11,11 +11,11 @@ use Rattle.session_machine.specs.declared.work.Work.{Work}
 use Rattle.session_machine.specs.declared.machine.Machine.{Machine}
 use Rattle.one_copy_model.specs.declared.deed.Entry.{Entry}
 use Rattle.one_copy_model.specs.SingleRun.{store_after, IsRun}
-use Rattle.one_copy_model.specs.Deaths.{stage_at}
+use Rattle.one_copy_model.specs.Deaths.{is_live, stage_at}
 use Rattle.one_copy_model.specs.Tracking.{Told, in_commit}
 use Rattle.one_copy_model.specs.Chains.{AreShaped}
 use Rattle.one_copy_model.specs.Standing.{Leaving, leaving_of}
-use Rattle.one_copy_model.specs.Invariant.{count_below, in_snapshot, in_transaction, IsSound, is_dead, inserted_in, numbers_behind}
+use Rattle.one_copy_model.specs.Invariant.{count_below, in_snapshot, in_transaction, IsSound, is_dead, inserted_in, numbers_behind, HaveLocks}
 use Rattle.world_frames.specs.Own.{told_by, stand, IsIn, Own}
 
 -- a session leaves here with a change of a place
@@ -25,8 +25,9 @@ pub record Going (tables : List TableDef) (history : List Entry) (m : Machine) (
   pub was : leaving_of tables o history ≡ Alive last
   pub changes : is_some (fin.get last.changes p) ≡ true
 
--- its serial insert has been answered here
-pub record Inserted (m : Machine) (mail : ℕ → Option Answer) (b table : ℕ) (work : Work) : Type 0 where
+-- its serial insert has been answered here, and is live there
+pub record Inserted (tables : List TableDef) (history : List Entry) (m : Machine) (mail : ℕ → Option Answer) (s b table : ℕ) (work : Work) : Type 0 where
+  pub live : is_live ((store_after tables history).transaction s) ≡ true
   pub inserted : inserted_in (stage_at m.point) (told_by m mail b) ≡ Some work
   pub at : work.class ≡ classes.SerialInsert table
 
@@ -54,10 +55,11 @@ pub record Shared (tables : List TableDef) (attached : ℕ) (history : List Entr
       → fin.get (here b).rows p ≡ fin.get (store_after tables history).rows p
   pub rows_left : (o b : ℕ) (p : Place) (last : Live) → IsIn attached b → Going tables history (machine o) (mail o) o b p
       → leaving_of tables o history ≡ Alive last → fin.get last.changes p ≡ Some (fin.get (store_after tables history).rows p)
-  pub numbers : (b table : ℕ) → IsIn attached b → ((s : ℕ) (work : Work) → ¬ (Inserted (machine s) (mail s) b table work))
+  pub numbers : (b table : ℕ) → IsIn attached b → ((s : ℕ) (work : Work) → ¬ (Inserted tables history (machine s) (mail s) s b table work))
       → (here b).next table ≡ (store_after tables history).next table
-  pub numbers_ahead : (s b table : ℕ) (work : Work) → IsIn attached b → Inserted (machine s) (mail s) b table work
+  pub numbers_ahead : (s b table : ℕ) (work : Work) → IsIn attached b → Inserted tables history (machine s) (mail s) s b table work
       → (here b).next table ≡ numbers_behind (store_after tables history) s work table
+  pub locks : HaveLocks (store_after tables history) machine
   pub run : IsRun tables history
 
 -- of each session it is said whether its transaction is live in the single run

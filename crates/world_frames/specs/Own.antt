@@ -19,6 +19,7 @@ use Rattle.session_machine.specs.declared.action.Cause.{Cause}
 use Rattle.session_machine.specs.declared.action.Action.TheVariants as actions
 use Rattle.session_machine.specs.declared.machine.GatePhase.TheVariants as phases
 use Rattle.session_machine.specs.declared.machine.Heard.{Heard}
+use Rattle.session_machine.specs.declared.machine.Stage.TheVariants.{Closing}
 use Rattle.session_machine.specs.declared.machine.Stage.{Stage}
 use Rattle.session_machine.specs.declared.machine.Point.TheVariants.{Resting, SplitDue}
 use Rattle.session_machine.specs.declared.machine.Machine.{Machine}
@@ -91,6 +92,7 @@ pub record Own (tables : List TableDef) (attached : ℕ) (history : List Entry) 
   pub crossed : (b : ℕ) (p q : Pending) → IsIn attached b → (here b).lost ≡ false → (here b).pending s ≡ Some p
       → (store_after tables history).pending s ≡ Some q → p.crossed ≡ true → q.crossed ≡ true
   pub unchanged : (u : Live) (written : ℕ) → m.session.gate ≡ phases.Live false written → (store_after tables history).transaction s ≡ Alive u → u.changes ≡ no_changes
+  pub closes : (b : ℕ) (l : Live) → IsIn attached b → stage_at m.point ≡ Some Closing → (here b).transaction s ≡ Alive l → l.changes ≡ no_changes
   pub reasons : (stage : Stage) (by : Told) (code : Code) → stage_at m.point ≡ Some stage → told ≡ Some by
       → Speaks attached m mail (answers.Refused code) → HasReason tables stage s code by.entries history
   pub posts : request_in ((store_after tables history).pending s) ≡ where_live live (wants_of m.point (stage_at m.point))
