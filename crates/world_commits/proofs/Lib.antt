@@ -1,5 +1,0 @@
-pub mod Committed
-pub mod EnterCommitLaw
-pub mod Entering
-pub mod Growing
-pub mod Steady

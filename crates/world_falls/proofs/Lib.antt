@@ -1,4 +1,0 @@
-pub mod Deaths
-pub mod Dying
-pub mod Leaving
-pub mod Splitting

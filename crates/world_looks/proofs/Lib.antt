@@ -1,9 +1,0 @@
-pub mod Choosing
-pub mod EndingLaw
-pub mod Endings
-pub mod LockingLaw
-pub mod Looking
-pub mod Nexts
-pub mod OpeningLaw
-pub mod Sames
-pub mod Showing

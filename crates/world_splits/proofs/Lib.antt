@@ -1,4 +1,0 @@
-pub mod Itself
-pub mod Groups
-pub mod SplitLaw
-pub mod StayLaw
