@@ -1,7 +1,8 @@
 -- What the front of a journal leads to goes on with its next line.
-use Rattle.std.proofs.Common.{◌≡◌, ◌+◌, ℕ, suc, List, [], ◌∷◌, ◌++◌, length, refl, sym, ap, ◌∙◌, subst, arith, length-append}
+use Rattle.std.proofs.Common.{◌≡◌, ◌+◌, ◌<◌, ℕ, suc, List, [], ◌∷◌, ◌++◌, length, refl, sym, ap, ◌∙◌, subst, arith, length-append}
 use Rattle.std.proofs.lemmas.List.{append_assoc}
 use Rattle.schema.specs.declared.catalogue.TableDef.{TableDef}
+use Rattle.schema_print.specs.Allowed.{AreAllowed}
 use Rattle.one_copy_model.specs.declared.event.Event.{Event}
 use Rattle.one_copy_model.specs.World.{World, after, after_all, MayHappen, IsSchedule}
 use Rattle.world_program.specs.declared.replaying.Start.{Start}
@@ -9,9 +10,10 @@ use Rattle.world_program.specs.Alike.{tidy, AreAlike}
 use Rattle.world_program.specs.Starting.{start_of}
 use Rattle.world_program.specs.UnderWay.{IsFit}
 use Rattle.world_program.proofs.Alike.{may_alike, after_alike}
+use Rattle.world_program.proofs.OneStore.{of_one_store}
 use Rattle.world_program.proofs.Playing.{fit_first, fit_all, fit_alike}
 use Rattle.journal_reader.specs.Lines.{line_of, lines_of}
-use Rattle.journal_reader.specs.Runs.{IsRunOf, Leads}
+use Rattle.journal_reader.specs.Runs.{IsRunOf, IsRunOfOneStore, Leads}
 
 schedule_snoc : (w : World) (es : List Event) (e : Event) → IsSchedule w es → MayHappen (after_all w es) e → IsSchedule w (es ++ e ∷ [])
 schedule_snoc w [] e s may = (may, tt)
@@ -74,3 +76,15 @@ front_is_run start lines left n w none front = record {
     append-empty : (xs : List ℕ) → xs ++ [] ≡ xs
     append-empty [] = refl
     append-empty (x ∷ xs) = ap (λ (ys : List ℕ). x ∷ ys) (append-empty xs)
+
+pub none_left : (xs : List ℕ) → length xs ≡ 0 → xs ≡ []
+none_left [] e = refl
+none_left (x ∷ xs) e = absurd (let n : suc (length xs) ≡ 0 = e in omega (arith, n))
+
+pub front_of_one_store : (start : Start) (lines left : List ℕ) (n : ℕ) (w : World) → AreAllowed start.catalogue → start.attached.bits < 256 → left ≡ [] → IsFrontOf start lines left n w
+    → IsRunOfOneStore start lines n
+unfolding front_is_run
+front_of_one_store start lines left n w allowed few none front = record {
+  run = front_is_run start lines left n w none front;
+  one_store = of_one_store start front.events allowed few front.schedule;
+}

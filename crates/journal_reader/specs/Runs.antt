@@ -4,6 +4,7 @@ use Rattle.one_copy_model.specs.declared.event.Event.{Event}
 use Rattle.schema.specs.declared.catalogue.TableDef.{TableDef}
 use Rattle.one_copy_model.specs.World.{World, MayHappen, IsSchedule, after}
 use Rattle.world_program.specs.declared.replaying.Start.{Start}
+use Rattle.world_program.specs.OneStore.{IsOfOneStore}
 use Rattle.world_program.specs.Starting.{start_of}
 use Rattle.world_program.specs.Alike.{AreAlike}
 use Rattle.journal_reader.specs.Lines.{line_of, lines_of}
@@ -14,6 +15,11 @@ pub record IsRunOf (start : Start) (lines : List ℕ) (n : ℕ) : Type 0 where
   pub schedule : IsSchedule (start_of start) events
   pub printed : lines_of start.catalogue events ≡ lines
   pub count : length events ≡ n
+
+-- they are a schedule, and so of one store
+pub record IsRunOfOneStore (start : Start) (lines : List ℕ) (n : ℕ) : Type 0 where
+  pub run : IsRunOf start lines n
+  pub one_store : IsOfOneStore start run.events
 
 -- an event with that line may come in a world, and leads to a world that is like the next
 pub record Leads (tables : List TableDef) (w : World) (line : List ℕ) (next : World) : Type 0 where

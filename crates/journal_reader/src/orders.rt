@@ -77,14 +77,23 @@ fn checked_of(alloc: Global, tables: &Catalogue, one: &Statement) -> Result<Chec
     }
 }
 
+/// Takes away the last of what a read is ordered by: that is the key of its table, which a check
+/// puts behind all else.
+fn without_key(one: &mut Statement) {
+    if let Statement::Select(select) = one {
+        drop(select.order.pop());
+    }
+}
+
 /// The one statement of a text, over the tables.
-fn one_of(alloc: Global, tables: &Catalogue, all: &[Statement]) -> Result<Checked, LineFault>
+fn one_of(alloc: Global, tables: &Catalogue, all: &mut [Statement]) -> Result<Checked, LineFault>
     requires { IsWithin tables.now }
 {
-    match all {
-        [one] => checked_of(alloc, tables, one),
-        _ => Err(LineFault::BadLine),
+    if all.len() != 1 {
+        return Err(LineFault::BadLine);
     }
+    without_key(&mut all[0]);
+    checked_of(alloc, tables, &all[0])
 }
 
 fn unread(fault: SqlFault) -> LineFault {
@@ -104,7 +113,10 @@ fn statement_of(alloc: Global, tables: &Catalogue, text: &str) -> Result<Checked
         return Err(LineFault::BadLine);
     }
     match read_statements(alloc, text) {
-        Ok(statements) => one_of(alloc, tables, statements.as_slice()),
+        Ok(statements) => {
+            let mut all = statements.into_vec();
+            one_of(alloc, tables, all.as_mut_slice())
+        }
         Err(fault) => Err(unread(fault)),
     }
 }

@@ -7,7 +7,7 @@ ghost use Rattle.one_copy_model.specs.World.{MayHappen};
 ghost use Rattle.world_program.specs.Meaning.{world_of};
 ghost use Rattle.world_program.specs.UnderWay.{IsFit};
 ghost use Rattle.journal_reader.specs.Lines.{line_of};
-ghost use Rattle.journal_reader.specs.Runs.{IsRunOf, Leads};
+ghost use Rattle.journal_reader.specs.Runs.{IsRunOf, IsRunOfOneStore, Leads};
 
 use crate::events::read_event;
 use crate::fault::LineFault;
@@ -73,7 +73,9 @@ fn behind(
 pub fn check_events(alloc: Global, start: &Start, lines: &[u8]) -> Result<usize, RunFault>
     requires in_range { AreInRange start.now.catalogue }
     requires allowed { AreAllowed start.now.catalogue }
-    ensures { IfOk result (IsRunOf start.now lines.now) }
+    ensures run { IfOk result (IsRunOf start.now lines.now) }
+    // So their replies are those of one store, and the backends agree with it.
+    ensures one_store { IfOk result (IsRunOfOneStore start.now lines.now) }
 {
     let tables = catalogue_copied(alloc, &start.catalogue)?;
     let mut w = Replicas::new(alloc, tables, start.policy, start.attached)?;

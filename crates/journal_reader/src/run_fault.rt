@@ -1,11 +1,11 @@
-//! Why lines are no run.
+//! Where the following of lines stopped.
 ghost use Rattle.std.specs.Prelude.{◌≡◌};
 ghost use Rattle.journal_reader.specs.declared.run_fault.RunFault.TheVariants.{NoMemory as OutOfMemory};
 
 use crate::fault::LineFault;
 use pool_base::NoMemory;
 
-/// Why the lines of a journal are no run.
+/// Where the following of a journal's lines stopped.
 #[derive(Clone, Copy, Debug, PartialEq, Eq, Drop)]
 pub enum RunFault {
     /// The line of that event, counted from 0, is not spelled as one.

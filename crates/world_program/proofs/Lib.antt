@@ -9,3 +9,4 @@ mod Stepping
 mod UnderWay
 pub mod Alike
 pub mod Playing
+pub mod OneStore

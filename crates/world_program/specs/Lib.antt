@@ -6,3 +6,4 @@ pub mod Deciding
 pub mod Backends
 pub mod Steps
 pub mod Starting
+pub mod OneStore

@@ -5,6 +5,7 @@ ghost use Rattle.schema_print.specs.Printed.{AreInRange};
 ghost use Rattle.one_copy_model.specs.World.{after, after_all, MayHappen, IsSchedule, FailsAt};
 ghost use Rattle.world_program.specs.Meaning.{world_of};
 ghost use Rattle.world_program.specs.Alike.{AreAlike};
+ghost use Rattle.world_program.specs.OneStore.{IsOfOneStore};
 ghost use Rattle.world_program.specs.Starting.{start_of};
 ghost use Rattle.world_program.specs.UnderWay.{IsFit};
 ghost use Rattle.world_program.specs.declared.fault.ReplayFault.TheVariants as faults;
@@ -43,7 +44,8 @@ fn behind(w: Replicas, event: &Event, n: usize) -> Result<Replicas, ReplayFault>
     Ok(step(w, event)?)
 }
 
-/// The world behind all events, but for the answers of chains that no session reads any more.
+/// The world behind all events, but for the answers of chains that no session reads any more. The
+/// events are a schedule then, and so of one store: one copy, agreement, acknowledged commits.
 ///
 /// Errors: the first event that may not come; want of memory.
 pub fn replay(alloc: Global, start: &Start, events: &[Event]) -> Result<Replicas, ReplayFault>
@@ -52,6 +54,7 @@ pub fn replay(alloc: Global, start: &Start, events: &[Event]) -> Result<Replicas
     ensures schedule { IfOk result (λ _. IsSchedule (start_of start.now) events.now) }
     ensures world { IfOk result (λ w. AreAlike (world_of w)
         (after_all (start_of start.now) events.now)) }
+    ensures one_store { IfOk result (λ _. IsOfOneStore start.now events.now) }
 
     // The one event that is the first that may not come.
     ensures fails { (n : ℕ) → result ≡ Err (faults.Event n)

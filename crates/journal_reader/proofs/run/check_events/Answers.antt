@@ -1,7 +1,8 @@
-use Rattle.std.proofs.Common.{arith}
+use Rattle.std.proofs.Common.{rules, ◌≡◌, ◌<◌, length, arith}
+use Rattle.std.proofs.lemmas.Bool.Decides.{nat_tests}
 use Rattle.world_program.specs.Meaning.{world_of}
 use Rattle.journal_reader.proofs.Tables.{within_of}
-use Rattle.journal_reader.proofs.Running.{front_is_fit, front_leads}
+use Rattle.journal_reader.proofs.Running.{front_is_fit, front_leads, front_of_one_store, none_left}
 use Rattle.journal_reader.proofs.run.check_events.Goals as goal
 
 pub behind-requires-clause-within : goal.behind-requires-clause-within
@@ -20,3 +21,9 @@ lines-preserved c =
           c.lines.invariant.0 c.split_at.ensures.by_index.0 c.in-Ok.ensures,
       omega (arith, back, some, room),
     )
+
+pub returns-clause-one_store : goal.returns-clause-one_store
+returns-clause-one_store c =
+    let few : c.args.start.now.attached.bits < 256 = search rules in
+    let none : length c.lines.left.now ≡ 0 = grind (arith, nat_tests) in
+    front_of_one_store c.args.start.now c.args.lines.now c.lines.left.now c.lines.n (world_of c.lines.w) c.requires.allowed few (none_left c.lines.left.now none) c.lines.invariant.0

@@ -1,4 +1,4 @@
-use Rattle.std.proofs.Common.{◌∙◌, List, length, refl, sym, ap, subst}
+use Rattle.std.proofs.Common.{rules, ◌<◌, ◌∙◌, List, length, refl, sym, ap, subst}
 use Rattle.std.proofs.lemmas.Option.{slice_get_read}
 use Rattle.schema.specs.declared.catalogue.TableDef.{TableDef}
 use Rattle.one_copy_model.specs.World.{World, first_world, FailsAt}
@@ -6,6 +6,7 @@ use Rattle.world_program.specs.Alike.{tidy}
 use Rattle.world_program.specs.Meaning.{world_of}
 use Rattle.world_program.specs.Starting.{start_of}
 use Rattle.world_program.proofs.Playing.{fit_first, front_fit, front_next, front_fails, whole}
+use Rattle.world_program.proofs.OneStore.{of_one_store}
 use Rattle.world_program.proofs.replaying.replay.Goals as goal
 
 pub loop-n-init : goal.loop-n-init
@@ -39,3 +40,9 @@ returns-clause-schedule c =
 pub returns-clause-world : goal.returns-clause-world
 returns-clause-world c =
     (whole (start_of c.args.start.now) (world_of c.loop-n.w) c.args.events.now c.loop-n.n c.loop-n.auto.n-end c.loop-n-test.false c.loop-n.invariant).1
+
+pub returns-clause-one_store : goal.returns-clause-one_store
+returns-clause-one_store c =
+    let few : c.args.start.now.attached.bits < 256 = search rules in
+    of_one_store c.args.start.now c.args.events.now c.requires.allowed few
+    (whole (start_of c.args.start.now) (world_of c.loop-n.w) c.args.events.now c.loop-n.n c.loop-n.auto.n-end c.loop-n-test.false c.loop-n.invariant).0
