@@ -1,6 +1,6 @@
-/* bare_driver KIND CLIENTS SECONDS PORT..: what the pool asks of its servers, sent without the pool. KIND is read, update or
-   block. It prints how many transactions were committed in a second, and the median and the longest time of them, in
-   milliseconds. */
+/* bare_driver KIND CLIENTS SECONDS PORT..: what the pool asks of its servers, sent without the pool. KIND is read, update, block
+   or chained: reads whose COMMIT goes with the next snapshot, as the pool sends it. It prints how many transactions were
+   committed in a second, and the median and the longest time of them, in milliseconds. */
 #include <libpq-fe.h>
 #include <pthread.h>
 #include <stdio.h>
@@ -10,6 +10,7 @@
 
 enum { MOST = 8 };
 static const char *BEGIN = "BEGIN ISOLATION LEVEL REPEATABLE READ; SELECT 1";
+static const char *NEXT = "COMMIT AND CHAIN; SELECT 1";
 static const char *kind;
 static int servers, seconds;
 static char **ports;
@@ -39,15 +40,16 @@ static int all(PGconn **links, int count, const char *text) {
   return good;
 }
 
-static int transaction(PGconn **links, unsigned *seed) {
+static int transaction(PGconn **links, unsigned *seed, int is_open) {
   char read[80], write[80];
   int key = rand_r(seed) % 100 + 1;
   snprintf(read, sizeof read, "SELECT v FROM accounts WHERE id = %d", key);
   snprintf(write, sizeof write, "UPDATE accounts SET v = v + 1 WHERE id = %d", key);
-  int good = all(links, servers, BEGIN);
+  int chained = !strcmp(kind, "chained"), reads = chained || !strcmp(kind, "read");
+  int good = all(links, servers, is_open ? NEXT : BEGIN);
   if (strcmp(kind, "update") != 0) good = good && all(links, 1, read);
-  if (strcmp(kind, "read") != 0) good = good && all(links, servers, write);
-  if (good) return all(links, servers, "COMMIT");
+  if (!reads) good = good && all(links, servers, write);
+  if (good) return chained || all(links, servers, "COMMIT");
   for (int at = 0; at < servers; at++) PQclear(PQexec(links[at], "ROLLBACK"));
   return 0;
 }
@@ -72,8 +74,9 @@ static void *run(void *given) {
     links[at] = PQconnectdb(place);
     if (PQstatus(links[at]) != CONNECTION_OK) exit(1);
   }
+  int good = 0;
   for (double begun = now(), end = begun + seconds; begun < end;) {
-    int good = transaction(links, &self->seed);
+    good = transaction(links, &self->seed, good && !strcmp(kind, "chained"));
     double done = now();
     if (good) note(self, done - begun);
     begun = done;

@@ -1,5 +1,5 @@
 //! The trait of links.
-ghost use Rattle.std.specs.Prelude.{◌≡◌, ◌≤◌, ℕ, Bool, true, Option, None, IsSome};
+ghost use Rattle.std.specs.Prelude.{◌≡◌, ◌≤◌, ◌⊎◌, ℕ, Bool, true, Option, None, IsSome};
 ghost use Rattle.pool_base.specs.Outside.{Rose};
 ghost use Rattle.backend_trait.specs.declared.request.Request.{Request};
 ghost use Rattle.link_words.specs.Forms.{IsPosted, IsPolled};
@@ -35,6 +35,16 @@ pub trait Link: Drop {
         ensures lost { lost self.old ≡ true → result ≡ Polled.Lost }
         ensures ends { result ≡ Polled.Lost → lost self.new ≡ true }
         ensures stays { lost self.old ≡ true → lost self.new ≡ true };
+
+    /// Tells the backend what was held back from it, where nothing is pending. False: some of it is
+    /// not told yet.
+    fn settle(&mut self) -> bool
+        requires idle { pending self.old ≡ None }
+        ensures kept { pending self.new ≡ pending self.old }
+        ensures lost { lost self.new ≡ true → (lost self.old ≡ true)
+            ⊎ Rose (fault_count self.old) (fault_count self.new) }
+        ensures stays { lost self.old ≡ true → lost self.new ≡ true }
+        ensures later { fault_count self.old ≤ fault_count self.new };
 
     /// Waits for it no longer: each poll from now on is `Lost`.
     fn give_up(&mut self)

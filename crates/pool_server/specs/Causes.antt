@@ -37,6 +37,7 @@ is_cut_off causes.Stopped = false
 -- the step ends the session, or loses its client, by such a cause
 abbrev pub in_step : (EndCause → Bool) → Step → Bool
 in_step test steps.Goes = false
+in_step test steps.Silent = false
 in_step test steps.Leaves = false
 in_step test (steps.Lost cause) = test cause
 in_step test steps.Ended = false

@@ -17,7 +17,7 @@ mod work;
 
 pub use end::EndCause;
 pub use footing::{Footing, Phase};
-pub use outside::{GatePass, Notices};
+pub use outside::{ClientSource, GatePass, Notices};
 pub use policy::policy_of;
 pub use seats::Seats;
 pub use serve::{Around, serve_session};

@@ -1,10 +1,11 @@
-//! What a session needs of what lies outside it: the gate, and somebody to tell.
-ghost use Rattle.std.specs.Prelude.{◌≡◌, ◌||◌, Bool, true};
+//! What a session needs of what lies outside it: the gate, its client's bytes, somebody to tell.
+ghost use Rattle.std.specs.Prelude.{◌≡◌, ◌<◌, ◌≤◌, ◌||◌, Bool, true, IfNone, IfSome, length};
+ghost use Rattle.pool_base.specs.Outside.{FaultyRead, Gave, is_end};
 ghost use Rattle.shared_gate.specs.History.{Stand, is_grant, stand_next};
 ghost use Rattle.pool_server.specs.Passes.{cuts, is_leave, may_make};
 
 use crate::end::EndCause;
-use pool_base::{BackendId, GateAnswer, GateCall, SessionId};
+use pool_base::{BackendId, GateAnswer, GateCall, Got, SessionId, Source};
 use session_machine::Cause;
 
 /// The gate, as one session calls it.
@@ -36,6 +37,24 @@ pub trait GatePass {
     /// Whether no backend was left while the pass stood in a commit.
     fn is_cut(&self) -> bool
         ensures { result ≡ cut self.now };
+}
+
+/// What gives a client's bytes, and can be waited for a short while alone.
+pub trait ClientSource: Source {
+    /// Reads the next bytes into the piece, where some come within a short while, or the end.
+    /// `None`: nothing has come so far.
+    fn read_soon(&mut self, into: &mut [u8]) -> Option<Got>
+        requires { 0 < length into.old }
+        ensures len { length into.new ≡ length into.old }
+        ensures gives { IfSome result (λ got. Gave got into.new (Self.left self.old)
+            (Self.left self.new)) }
+        ensures ended { IfSome result (λ got. Self.ended self.new
+            ≡ (Self.ended self.old || is_end got)) }
+        ensures nothing { IfNone result ((Self.left self.new ≡ Self.left self.old)
+            × (Self.ended self.new ≡ Self.ended self.old)) }
+        ensures failed { IfSome result (λ got. FaultyRead got (Self.fault_count self.old)
+            (Self.fault_count self.new)) }
+        ensures later { Self.fault_count self.old ≤ Self.fault_count self.new };
 }
 
 /// Who is told what an operator wants to know.

@@ -7,6 +7,8 @@ use crate::end::EndCause;
 pub(crate) enum Step {
     /// The session goes on.
     Goes,
+    /// The client has sent nothing for a short while.
+    Silent,
     /// The wire has ordered its Leave, and will say how it closes.
     Leaves,
     /// The client is lost to the session, by this cause.

@@ -7,11 +7,11 @@ ghost use Rattle.pool_server.specs.Causes.{is_cut_off, is_read_fault, is_write_f
 ghost use Rattle.pool_server.specs.Told.{Begins};
 
 use crate::end::EndCause;
-use crate::outside::{GatePass, Notices};
+use crate::outside::{ClientSource, GatePass, Notices};
 use crate::session::Session;
 use crate::way_out::come_out;
 use catalogue::Catalogue;
-use pool_base::{Clock, NoMemory, SessionId, Sink, Source};
+use pool_base::{Clock, NoMemory, SessionId, Sink};
 use pool_config::Config;
 use session_links::LinkMaker;
 use std::alloc::Global;
@@ -39,7 +39,7 @@ pub fn serve_session<I, O, M, C, G, N>(
     s: SessionId,
 ) -> EndCause
 where
-    I: Source,
+    I: ClientSource,
     O: Sink,
     M: LinkMaker,
     C: Clock,
@@ -73,7 +73,7 @@ fn run<I, O, M, C, G, N>(
     s: SessionId,
 ) -> EndCause
 where
-    I: Source,
+    I: ClientSource,
     O: Sink,
     M: LinkMaker,
     C: Clock,
@@ -93,6 +93,7 @@ where
     };
     'steps: for _ in 0..u64::MAX {
         if let Some(cause) = session.step(around, config, tables) {
+            session.settle();
             return cause;
         }
     }

@@ -16,7 +16,7 @@ ghost use Rattle.pool_server.specs.Causes.{in_answer, in_parting, in_step, is_cu
 ghost use Rattle.pool_server.specs.Told.{Begins};
 
 use crate::end::EndCause;
-use crate::outside::{GatePass, Notices};
+use crate::outside::{ClientSource, GatePass, Notices};
 use crate::parting::{Parting, Step};
 use crate::policy::policy_of;
 use crate::serve::Around;
@@ -24,7 +24,7 @@ use crate::talk::Talk;
 use crate::work::Work;
 use catalogue::Catalogue;
 use link_words::Link;
-use pool_base::{Clock, NoMemory, SessionId, Sink, Source};
+use pool_base::{Clock, NoMemory, SessionId, Sink};
 use pool_config::Config;
 use session_engine::Ask;
 use session_links::LinkMaker;
@@ -36,6 +36,8 @@ pub(crate) struct Session<L: Link> {
     talk: Talk,
     work: Work<L>,
     parting: Parting,
+    /// The client has sent nothing for a short while, and the backends know all.
+    is_silent: bool,
 }
 
 impl<L: Link> Session<L> {
@@ -47,7 +49,55 @@ impl<L: Link> Session<L> {
             talk: Talk::new(alloc, s)?,
             work: Work::new(alloc, s, policy_of(config))?,
             parting: Parting::No,
+            is_silent: false,
         })
+    }
+
+    /// What is due of the wire is done. Where the client is silent the backends are told what was
+    /// held back from them, before it is waited for longer.
+    #[tactic(auto, using(crate::proofs::Begun::begins_same))]
+    fn rest<I, O, M, C, G, N>(
+        &mut self,
+        around: &mut Around<I, O, M, C, G, N>,
+        tables: &Catalogue,
+    ) -> Step
+    where
+        I: ClientSource,
+        O: Sink,
+        C: Clock,
+        requires within { IsWithin tables.now }
+        ensures read { in_step is_read_fault result ≡ true
+            → Rose (I.fault_count around.old.source) (I.fault_count around.new.source) }
+        ensures write { in_step is_write_fault result ≡ true
+            → Rose (O.fault_count around.old.sink) (O.fault_count around.new.sink) }
+        ensures cut { in_step is_cut_off result ≡ false }
+        ensures read_later { I.fault_count around.old.source
+            ≤ I.fault_count around.new.source }
+        ensures write_later { O.fault_count around.old.sink ≤ O.fault_count around.new.sink }
+        ensures taken { Begins (O.taken around.old.sink) (O.taken around.new.sink) }
+        ensures parting { self.new.parting ≡ self.old.parting }
+    {
+        if self.is_silent {
+            self.is_silent = false;
+            return self.talk.listen(&mut around.source);
+        }
+        self.work.rest();
+        let step = self.talk.turn(
+            &mut self.work.core,
+            tables,
+            &mut around.source,
+            &mut around.sink,
+            &mut around.clock,
+        );
+        if step == Step::Silent {
+            self.is_silent = self.work.settle();
+        }
+        step
+    }
+
+    /// The backends are told what was held back from them.
+    pub fn settle(&mut self) {
+        self.work.settle();
     }
 
     /// What is due is done.
@@ -59,7 +109,7 @@ impl<L: Link> Session<L> {
         tables: &Catalogue,
     ) -> Step
     where
-        I: Source,
+        I: ClientSource,
         O: Sink,
         M: LinkMaker<L = L>,
         C: Clock,
@@ -78,13 +128,7 @@ impl<L: Link> Session<L> {
         ensures parting { self.new.parting ≡ self.old.parting }
     {
         match self.work.core.asks() {
-            Ask::Rest => self.talk.turn(
-                &mut self.work.core,
-                tables,
-                &mut around.source,
-                &mut around.sink,
-                &mut around.clock,
-            ),
+            Ask::Rest => self.rest(around, tables),
             Ask::Gate(call) => self.work.call(call, &mut around.gate),
             Ask::Detach(b) => self.work.detach(b, &mut around.gate, &mut around.notices),
             Ask::Post(b) => {
@@ -109,7 +153,7 @@ impl<L: Link> Session<L> {
         tables: &Catalogue,
     ) -> Option<EndCause>
     where
-        I: Source,
+        I: ClientSource,
         O: Sink,
         M: LinkMaker<L = L>,
         C: Clock,
@@ -165,7 +209,7 @@ impl<L: Link> Session<L> {
             ⊎ (in_step is_cut_off step ≡ true) }
     {
         match step {
-            Step::Goes => None,
+            Step::Goes | Step::Silent => None,
             Step::Leaves => {
                 self.parting = Parting::Closing;
                 None

@@ -11,6 +11,7 @@ ghost use Rattle.pool_server.specs.Causes.{IsQuiet, in_step, is_cut_off, is_read
 ghost use Rattle.pool_server.specs.Told.{Begins};
 
 use crate::end::EndCause;
+use crate::outside::ClientSource;
 use crate::parting::Step;
 use catalogue::Catalogue;
 use pool_base::{Clock, Code, Got, NoMemory, SessionId, Sink, SinkFailed, Source, Text, write_all};
@@ -107,7 +108,7 @@ impl Talk {
 
     /// The wire's next step is taken.
     #[tactic(auto, using(crate::proofs::Begun::begins_same))]
-    pub fn turn<I: Source, O: Sink, C: Clock>(
+    pub fn turn<I: ClientSource, O: Sink, C: Clock>(
         &mut self,
         core: &mut Core,
         tables: &Catalogue,
@@ -159,7 +160,7 @@ impl Talk {
 
     /// What waits is written, and the next bytes are read.
     #[tactic(auto, using(crate::proofs::Begun::begins_all, crate::proofs::Begun::begins_front))]
-    fn exchange<I: Source, O: Sink>(&mut self, source: &mut I, sink: &mut O) -> Step
+    fn exchange<I: ClientSource, O: Sink>(&mut self, source: &mut I, sink: &mut O) -> Step
         ensures read { in_step is_read_fault result ≡ true
             → Rose (I.fault_count source.old) (I.fault_count source.new) }
         ensures write { in_step is_write_fault result ≡ true
@@ -172,11 +173,28 @@ impl Talk {
         if !self.flush(sink) {
             return Step::Lost(EndCause::WriteFault);
         }
-        self.listen(source)
+        self.listen_soon(source)
+    }
+
+    /// The next bytes are read, where some come within a short while.
+    fn listen_soon<I: ClientSource>(&mut self, source: &mut I) -> Step
+        ensures read { in_step is_read_fault result ≡ true
+            → Rose (I.fault_count source.old) (I.fault_count source.new) }
+        ensures write { in_step is_write_fault result ≡ false }
+        ensures cut { in_step is_cut_off result ≡ false }
+        ensures later { I.fault_count source.old ≤ I.fault_count source.new }
+    {
+        let mut piece = [0u8; PIECE];
+        match source.read_soon(&mut piece) {
+            None => Step::Silent,
+            Some(Got::Bytes(count)) => self.feed(&piece[..count]),
+            Some(Got::End) => self.end_input(),
+            Some(Got::Failed) => Step::Lost(EndCause::ReadFault),
+        }
     }
 
     /// The next bytes are read.
-    fn listen<I: Source>(&mut self, source: &mut I) -> Step
+    pub fn listen<I: Source>(&mut self, source: &mut I) -> Step
         ensures read { in_step is_read_fault result ≡ true
             → Rose (I.fault_count source.old) (I.fault_count source.new) }
         ensures write { in_step is_write_fault result ≡ false }
@@ -185,16 +203,28 @@ impl Talk {
     {
         let mut piece = [0u8; PIECE];
         match source.read(&mut piece) {
-            Got::Bytes(count) => match self.wire.feed(&piece[..count]) {
-                Ok(()) => Step::Goes,
-                Err(NoMemory) => Step::Lost(EndCause::NoMemory),
-            },
-            Got::End => {
-                self.wire.end_input();
-                Step::Goes
-            }
+            Got::Bytes(count) => self.feed(&piece[..count]),
+            Got::End => self.end_input(),
             Got::Failed => Step::Lost(EndCause::ReadFault),
         }
+    }
+
+    /// The client's bytes have come.
+    fn feed(&mut self, piece: &[u8]) -> Step
+        ensures { IsQuiet result }
+    {
+        match self.wire.feed(piece) {
+            Ok(()) => Step::Goes,
+            Err(NoMemory) => Step::Lost(EndCause::NoMemory),
+        }
+    }
+
+    /// The client's bytes have ended.
+    fn end_input(&mut self) -> Step
+        ensures { IsQuiet result }
+    {
+        self.wire.end_input();
+        Step::Goes
     }
 
     /// The wire is closed. A client that was refused has been told so.

@@ -28,6 +28,10 @@ const POLL_TRIES: u32 = 600;
 /// asked whether it answers at all. It is asked again behind as many more: every 20 seconds.
 const QUIET_TRIES: u32 = 400;
 
+/// How many turns of the wire may pass without a post before the backends are told what was held
+/// back from them, though the client is not silent: it may go on with what asks no backend.
+const TURNS: u32 = 1000;
+
 /// How long a backend may take.
 #[derive(Clone, Copy, PartialEq, Eq)]
 enum Patience {
@@ -48,6 +52,8 @@ pub(crate) struct Work<L: Link> {
     epoch: Option<u32>,
     /// How often the same step was tried without an answer.
     tries: u32,
+    /// How many turns of the wire have passed since the last post.
+    turns: u32,
 }
 
 /// Whether a request may wait for another session.
@@ -72,6 +78,7 @@ impl<L: Link> Work<L> {
             patience: Patience::Endless,
             epoch: None,
             tries: 0,
+            turns: 0,
         })
     }
 
@@ -198,6 +205,7 @@ impl<L: Link> Work<L> {
         match self.links.post(b, request, maker, options) {
             Sent::Accepted => {
                 self.tries = 0;
+                self.turns = 0;
                 self.core.posted();
                 Step::Goes
             }
@@ -226,6 +234,23 @@ impl<L: Link> Work<L> {
             }
             Found::NoMemory => self.short(gate),
         }
+    }
+
+    /// The wire has its turn.
+    pub fn rest(&mut self) {
+        self.turns = self.turns.saturating_add(1);
+        if self.turns >= TURNS && self.settle() {
+            self.turns = 0;
+        }
+    }
+
+    /// The backends are told what was held back from them. False: some of it is not told yet.
+    pub fn settle(&mut self) -> bool {
+        let mut told = true;
+        for number in 0..8 {
+            told = self.links.settle(BackendId { number }) && told;
+        }
+        told
     }
 
     fn hear(&mut self, b: BackendId, answer: Answer) -> Step

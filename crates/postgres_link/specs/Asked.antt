@@ -75,10 +75,10 @@ AreCells (k ∷ ks) (v ∷ vs) (cell ∷ cells) = IsCell k v cell × AreCells ks
 abbrev pub AreColumns : List ColType → List Field → Type 0
 AreColumns kinds fields = (length fields ≡ length kinds) × All (λ f. f.format ≡ 0) fields
 
--- these columns come next: first of all, or behind the tag of BEGIN where the text begins a block
+-- these columns come next: first of all, or behind the tag of the word that opens a block, where the text opens one
 abbrev pub Describes : Wanted → Stage → List Field → Type 0
-Describes (wanted.Rows kinds false) stage.Open fields = AreColumns kinds fields
-Describes (wanted.Rows kinds true) stage.Begun fields = AreColumns kinds fields
+Describes (wanted.Rows kinds None) stage.Open fields = AreColumns kinds fields
+Describes (wanted.Rows kinds (Some word)) stage.Begun fields = AreColumns kinds fields
 Describes w s fields = ⊥
 
 abbrev pub Opens : Wanted → Stage → List Field → Stage → Type 0
@@ -99,37 +99,37 @@ Adds (stage.Said r) row new = ⊥
 abbrev pub Gains : Wanted → Stage → List (Option (List ℕ)) → Stage → Type 0
 Gains (wanted.Done w) s values new = ⊥
 Gains (wanted.Count v) s values new = ⊥
-Gains (wanted.Rows kinds begins) s values new = (has_rows s ≡ true) × (row : Row) × AreCells kinds values row.cells × Adds s row new
+Gains (wanted.Rows kinds opener) s values new = (has_rows s ≡ true) × (row : Row) × AreCells kinds values row.cells × Adds s row new
 
 -- the answer is a tag alone
 abbrev pub IsByTag : Wanted → Type 0
 IsByTag (wanted.Done w) = Unit {0}
 IsByTag (wanted.Count v) = Unit {0}
-IsByTag (wanted.Rows kinds begins) = ⊥
+IsByTag (wanted.Rows kinds opener) = ⊥
 
 abbrev pub IsByRows : Wanted → Type 0
 IsByRows (wanted.Done w) = ⊥
 IsByRows (wanted.Count v) = ⊥
-IsByRows (wanted.Rows kinds begins) = Unit {0}
+IsByRows (wanted.Rows kinds opener) = Unit {0}
 
--- the tag of BEGIN comes next
-abbrev pub awaits_begin : Wanted → Stage → Bool
-awaits_begin (wanted.Rows kinds true) stage.Open = true
-awaits_begin w s = false
+-- the word whose tag comes next, of a text that opens a block
+abbrev pub opener : Wanted → Stage → Option Word
+opener (wanted.Rows kinds word) stage.Open = word
+opener w s = None
 
-abbrev pub Begins : List ℕ → Stage → Type 0
-Begins tag new = (tag ≡ word_tag word.Begin) × (new ≡ stage.Begun)
+abbrev pub Begins : Word → List ℕ → Stage → Type 0
+Begins word tag new = (tag ≡ word_tag word) × (new ≡ stage.Begun)
 
--- of a text for rows, which may begin a block: its BEGIN is done, or the tag counts the rows
-abbrev pub CompletesRows : Stage → Bool → List ℕ → Stage → Type 0
-CompletesRows stage.Open true tag new = Begins tag new
-CompletesRows (stage.Rows rows) begins tag new = Counts (codes "SELECT ") tag (length rows) × (new ≡ stage.Said (reply.Rows rows))
-CompletesRows s begins tag new = ⊥
+-- of a text for rows, which may open a block: the word that opens it is done, or the tag counts the rows
+abbrev pub CompletesRows : Stage → Option Word → List ℕ → Stage → Type 0
+CompletesRows stage.Open (Some word) tag new = Begins word tag new
+CompletesRows (stage.Rows rows) opens tag new = Counts (codes "SELECT ") tag (length rows) × (new ≡ stage.Said (reply.Rows rows))
+CompletesRows s opens tag new = ⊥
 
 abbrev pub Completes : Wanted → Stage → List ℕ → Stage → Type 0
 Completes (wanted.Done w) stage.Open tag new = (tag ≡ word_tag w) × (new ≡ stage.Said reply.Done)
 Completes (wanted.Count v) stage.Open tag new = (n : ℕ) × Counts (verb_tag v) tag n × (new ≡ stage.Said (reply.Count n))
-Completes (wanted.Rows kinds begins) s tag new = CompletesRows s begins tag new
+Completes (wanted.Rows kinds opens) s tag new = CompletesRows s opens tag new
 Completes w s tag new = ⊥
 
 abbrev pub is_said : Stage → Bool
@@ -141,15 +141,15 @@ is_said (stage.Said r) = true
 abbrev pub Refuses : Stage → List Part → Stage → Type 0
 Refuses s parts new = (is_said s ≡ false) × (code : Code) × (code_part parts ≡ Some code.bytes) × IsCode code.bytes × (length code.bytes ≡ 5) × (new ≡ stage.Said (reply.Refused code))
 
--- the status behind the answer: a block is open behind BEGIN, with rows or without, LOCK TABLE and a write, none behind COMMIT and ROLLBACK; behind a refusal no block goes on
+-- the status behind the answer: a block is open behind the word that opens one, with rows or without, LOCK TABLE and a write, none behind COMMIT and ROLLBACK; behind a refusal no block goes on
 abbrev pub Leaves : Wanted → Reply → ℕ → Type 0
 Leaves w (reply.Refused code) status = status ≢ 84
 Leaves (wanted.Done word.Commit) r status = status ≡ 73
 Leaves (wanted.Done word.Rollback) r status = status ≡ 73
 Leaves (wanted.Done w) r status = status ≡ 84
 Leaves (wanted.Count v) r status = status ≡ 84
-Leaves (wanted.Rows kinds true) r status = status ≡ 84
-Leaves (wanted.Rows kinds false) r status = status ≢ 69
+Leaves (wanted.Rows kinds (Some w)) r status = status ≡ 84
+Leaves (wanted.Rows kinds None) r status = status ≢ 69
 
 -- the answer has come so far with the message; notices and settings are passed over
 abbrev pub GoesOn : Wanted → Stage → ServerMessage → Stage → Type 0

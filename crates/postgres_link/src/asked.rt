@@ -27,9 +27,12 @@ pub enum Verb {
 pub enum Wanted {
     Done(Word),
     Count(Verb),
-    /// Rows, by the types of their columns; where the text `begins` a block, behind the tag of its
-    /// BEGIN.
-    Rows { kinds: List<ColType>, begins: bool },
+    /// Rows, by the types of their columns; where the text opens a block, behind the tag of the
+    /// word that does: BEGIN, or an end AND CHAIN of the block before.
+    Rows {
+        kinds: List<ColType>,
+        opener: Option<Word>,
+    },
 }
 
 /// What a text is answered.
@@ -46,7 +49,7 @@ pub enum Reply {
 pub enum Stage {
     /// Nothing of it has come.
     Open,
-    /// The tag of its BEGIN has come.
+    /// The tag of the word that opens its block has come.
     Begun,
     /// The columns have come, and these rows.
     Rows(List<Row>),

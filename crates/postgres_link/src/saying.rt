@@ -5,16 +5,16 @@
 //! Open --tag--> Said       Open, Begun, Rows --error--> Said
 //! ```
 //!
-//! A text that begins a block goes another way to its columns:
+//! A text that opens a block goes another way to its columns:
 //!
 //! ```text
-//! Open --tag of BEGIN--> Begun --columns--> Rows
+//! Open --tag of the word that opens it--> Begun --columns--> Rows
 //! ```
 //!
 //! Settings and notices are passed over everywhere.
 ghost use Rattle.std.specs.Prelude.{◌≡◌, true, OnErr, OnOk, IfOk, IfSome, IfNone, IsTrue, ◌↔◌, All, length};
 ghost use Rattle.postgres_link.specs.declared.asked.Stage.{Stage};
-ghost use Rattle.postgres_link.specs.Asked.{Goes, Ends, Leaves, Describes, Opens, Gains, Begins, Completes, Refuses, Carries, IsClosed, IsByTag, IsByRows, awaits_begin, is_said, has_rows, Adds};
+ghost use Rattle.postgres_link.specs.Asked.{Goes, Ends, Leaves, Describes, Opens, Gains, Begins, Completes, Refuses, Carries, IsClosed, IsByTag, IsByRows, is_said, opener, has_rows, Adds};
 
 use crate::asked::{Asked, Reply, Stage, Wanted, Word};
 use crate::code::code_of;
@@ -44,14 +44,14 @@ fn describes(wanted: &Wanted, stage: &Stage, fields: &[Field]) -> bool
         (
             Wanted::Rows {
                 kinds,
-                begins: false,
+                opener: None,
             },
             Stage::Open,
         ) => { are_columns(kinds.as_slice(), fields) }
         (
             Wanted::Rows {
                 kinds,
-                begins: true,
+                opener: Some(_),
             },
             Stage::Begun,
         ) => { are_columns(kinds.as_slice(), fields) }
@@ -140,21 +140,21 @@ fn said(alloc: Global, wanted: &Wanted, stage: &Stage, tag: &[u8]) -> Option<Rep
     }
 }
 
-/// Whether the tag of BEGIN comes next.
-fn awaits_begin(wanted: &Wanted, stage: &Stage) -> bool
-    ensures { result ≡ awaits_begin wanted.now stage.now }
+/// The word whose tag comes next, of a text that opens a block.
+fn opener(wanted: &Wanted, stage: &Stage) -> Option<Word>
+    ensures { result ≡ opener wanted.now stage.now }
 {
-    matches!(
-        (wanted, stage),
-        (Wanted::Rows { begins: true, .. }, Stage::Open)
-    )
+    match (wanted, stage) {
+        (Wanted::Rows { opener, .. }, Stage::Open) => *opener,
+        _ => None,
+    }
 }
 
-/// The tag of BEGIN, where it comes next.
-fn begin(asked: &mut Asked, tag: &[u8]) -> Step<Reply>
-    ensures { Carries (λ new. Begins tag.now new) result asked.old asked.new }
+/// The tag of the word that opens a block, where it comes next.
+fn begin(asked: &mut Asked, word: Word, tag: &[u8]) -> Step<Reply>
+    ensures { Carries (λ new. Begins word tag.now new) result asked.old asked.new }
 {
-    if tag != word_tag(Word::Begin) {
+    if tag != word_tag(word) {
         return Step::Breaks;
     }
     set(&mut asked.stage, Stage::Begun);
@@ -167,8 +167,8 @@ fn complete_rows(alloc: Global, asked: &mut Asked, tag: &[u8]) -> Step<Reply>
     ensures { Carries (λ new. Completes asked.old.wanted asked.old.stage tag.now new) result
         asked.old asked.new }
 {
-    if awaits_begin(&asked.wanted, &asked.stage) {
-        return begin(asked, tag);
+    if let Some(word) = opener(&asked.wanted, &asked.stage) {
+        return begin(asked, word, tag);
     }
     let (Wanted::Rows { .. }, Stage::Rows(rows)) = (&asked.wanted, &asked.stage) else {
         return Step::Breaks;
@@ -233,8 +233,14 @@ fn leaves(wanted: &Wanted, reply: &Reply, status: u8) -> bool
         (Reply::Refused(_), _) => status != b'T',
         (_, Wanted::Done(Word::Commit | Word::Rollback)) => status == b'I',
         (_, Wanted::Done(Word::Begin | Word::LockTable)) | (_, Wanted::Count(_)) => status == b'T',
-        (_, Wanted::Rows { begins: true, .. }) => status == b'T',
-        (_, Wanted::Rows { begins: false, .. }) => status != b'E',
+        (
+            _,
+            Wanted::Rows {
+                opener: Some(_),
+                ..
+            },
+        ) => status == b'T',
+        (_, Wanted::Rows { opener: None, .. }) => status != b'E',
     }
 }
 

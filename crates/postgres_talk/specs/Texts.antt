@@ -10,6 +10,8 @@ use Rattle.sql_print.specs.Printed.{statement_text}
 use Rattle.checked_print.specs.Statements.{spelled_statement}
 use Rattle.backend_trait.specs.declared.request.Request.{Request}
 use Rattle.backend_trait.specs.declared.request.Request.TheVariants as request
+use Rattle.postgres_talk.specs.declared.spelled.Ending.{Ending}
+use Rattle.postgres_talk.specs.declared.spelled.Ending.TheVariants as ending
 
 abbrev pub lock_text : List ℕ → List ℕ
 lock_text table = (codes "LOCK TABLE " ++ spelled (name table)) ++ codes " IN SHARE ROW EXCLUSIVE MODE"
@@ -51,6 +53,15 @@ set_by (Some sequence) next = Some (set_text sequence next)
 -- the block is begun, and its second statement takes the snapshot
 abbrev pub snapshot_text : List ℕ
 snapshot_text = codes "BEGIN ISOLATION LEVEL REPEATABLE READ; SELECT 1"
+
+abbrev pub end_text : Ending → List ℕ
+end_text ending.Commit = codes "COMMIT"
+end_text ending.Rollback = codes "ROLLBACK"
+
+-- the block ends, and the next one is of the same kind; the second statement takes its snapshot
+abbrev pub next_text : Ending → List ℕ
+next_text ending.Commit = codes "COMMIT AND CHAIN; SELECT 1"
+next_text ending.Rollback = codes "ROLLBACK AND CHAIN; SELECT 1"
 
 -- the text; None: a table or a serial column is not there
 abbrev pub text_of : List TableDef → Request → Option (List ℕ)

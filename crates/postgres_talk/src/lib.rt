@@ -8,6 +8,6 @@ mod texts;
 mod welcome;
 
 pub use answers::answer_of;
-pub use spelled::{NotSpelled, Spelled, spell};
+pub use spelled::{Ending, NotSpelled, Spelled, spell, spell_end, spell_next};
 pub use talk::{Said, Talk};
 pub use welcome::put_start;

@@ -1,6 +1,6 @@
 //! Requests as messages.
 ghost use Rattle.std.specs.Prelude.{◌≡◌, ◌++◌, IfOk, OnOk, Err, None};
-ghost use Rattle.postgres_talk.specs.Texts.{Sends, query, snapshot_text, text_of};
+ghost use Rattle.postgres_talk.specs.Texts.{Sends, end_text, next_text, query, snapshot_text, text_of};
 
 use crate::texts::{lock_text, read_serial_text, set_serial_text};
 use backend_trait::Request;
@@ -20,6 +20,13 @@ const HEAD: usize = 6;
 pub struct Spelled {
     pub bytes: List<u8>,
     pub wanted: Wanted,
+}
+
+/// How a block ends.
+#[derive(Clone, Copy, Debug)]
+pub enum Ending {
+    Commit,
+    Rollback,
 }
 
 /// Why a request is not sent.
@@ -86,25 +93,56 @@ fn if_there(alloc: Global, text: Option<Text>, wanted: Wanted) -> Result<Spelled
     one_text(alloc, text.as_bytes(), wanted)
 }
 
-/// `BEGIN ISOLATION LEVEL REPEATABLE READ; SELECT 1`: its second statement takes the snapshot.
-fn snapshot(alloc: Global) -> Result<Spelled, NotSpelled>
-    ensures bytes { IfOk result (λ spelled. spelled.bytes ≡ query snapshot_text) }
+/// A text that opens a block by this word, and takes its snapshot by `SELECT 1`.
+fn opening(alloc: Global, text: &[u8], word: Word) -> Result<Spelled, NotSpelled>
+    ensures bytes { IfOk result (λ spelled. spelled.bytes ≡ query text.now) }
     ensures there { result ≡ Err NotSpelled.NotThere → ⊥ }
 {
     let kinds = List::from_slice(alloc, &[ColType::Int4])?;
     let wanted = Wanted::Rows {
         kinds,
-        begins: true,
+        opener: Some(word),
     };
-    let text = b"BEGIN ISOLATION LEVEL REPEATABLE READ; SELECT 1";
     one_text(alloc, text, wanted)
+}
+
+/// `BEGIN ISOLATION LEVEL REPEATABLE READ; SELECT 1`: its second statement takes the snapshot.
+fn snapshot(alloc: Global) -> Result<Spelled, NotSpelled>
+    ensures bytes { IfOk result (λ spelled. spelled.bytes ≡ query snapshot_text) }
+    ensures there { result ≡ Err NotSpelled.NotThere → ⊥ }
+{
+    let text = b"BEGIN ISOLATION LEVEL REPEATABLE READ; SELECT 1";
+    opening(alloc, text, Word::Begin)
+}
+
+/// The message of a block's end, and what it is to be answered by.
+pub fn spell_end(alloc: Global, ending: Ending) -> Result<Spelled, NotSpelled>
+    ensures bytes { IfOk result (λ spelled. spelled.bytes ≡ query (end_text ending)) }
+    ensures there { result ≡ Err NotSpelled.NotThere → ⊥ }
+{
+    match ending {
+        Ending::Commit => one_text(alloc, b"COMMIT", Wanted::Done(Word::Commit)),
+        Ending::Rollback => one_text(alloc, b"ROLLBACK", Wanted::Done(Word::Rollback)),
+    }
+}
+
+/// The message of a block's end and of the next snapshot in one, and what it is to be answered by:
+/// the next block is of the same kind. A server that is in no block refuses it.
+pub fn spell_next(alloc: Global, ending: Ending) -> Result<Spelled, NotSpelled>
+    ensures bytes { IfOk result (λ spelled. spelled.bytes ≡ query (next_text ending)) }
+    ensures there { result ≡ Err NotSpelled.NotThere → ⊥ }
+{
+    match ending {
+        Ending::Commit => opening(alloc, b"COMMIT AND CHAIN; SELECT 1", Word::Commit),
+        Ending::Rollback => opening(alloc, b"ROLLBACK AND CHAIN; SELECT 1", Word::Rollback),
+    }
 }
 
 /// Rows with columns of these types.
 fn rows_of(kinds: List<ColType>) -> Wanted {
     Wanted::Rows {
         kinds,
-        begins: false,
+        opener: None,
     }
 }
 
@@ -156,8 +194,8 @@ pub fn spell(alloc: Global, tables: &Catalogue, request: &Request) -> Result<Spe
             let text = lock_text(alloc, tables, *table)?;
             if_there(alloc, text, Wanted::Done(Word::LockTable))
         }
-        Request::Commit => one_text(alloc, b"COMMIT", Wanted::Done(Word::Commit)),
-        Request::Rollback => one_text(alloc, b"ROLLBACK", Wanted::Done(Word::Rollback)),
+        Request::Commit => spell_end(alloc, Ending::Commit),
+        Request::Rollback => spell_end(alloc, Ending::Rollback),
         Request::ReadSerial(table) => {
             let kinds = sequence_kinds(alloc)?;
             let text = read_serial_text(alloc, tables, *table)?;

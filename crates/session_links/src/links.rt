@@ -4,7 +4,7 @@ ghost use Rattle.pool_base.specs.Sets.{has};
 ghost use Rattle.session_links.specs.Slots.{IsFound, IsSent, are_sound, is_awaited, is_sound, kept_at, request_in, slot_at};
 
 use crate::maker::LinkMaker;
-use crate::slot::{Found, Sent, Slot, given_up, look, put};
+use crate::slot::{Found, Sent, Slot, given_up, look, put, settled};
 use backend_trait::Request;
 use link_words::Link;
 use pg_messages::Pair;
@@ -93,6 +93,21 @@ impl<L: Link> Links<L> {
         let (slot, found) = look(slot);
         self.put_back(b, slot);
         found
+    }
+
+    /// Has the link to this backend tell it what was held back, where no answer is awaited. False:
+    /// some of it is not told yet.
+    #[tactic(auto, using(crate::proofs::Sound::put_here, crate::proofs::Sound::put_else))]
+    pub fn settle(&mut self, b: BackendId) -> bool
+        ensures awaited { is_awaited (slot_at self.new.slots.items b.number)
+            ≡ is_awaited (slot_at self.old.slots.items b.number) }
+        ensures others { (c : ℕ) → c ≢ b.number
+            → slot_at self.new.slots.items c ≡ slot_at self.old.slots.items c }
+    {
+        let slot = self.take(b);
+        let (slot, told) = settled(slot);
+        self.put_back(b, slot);
+        told
     }
 
     /// Waits at this backend no longer: its next look is `Lost`. Where no answer is awaited nothing

@@ -153,6 +153,22 @@ fn loss_of<L: Link>(mut link: L) -> Loss {
     Loss { before, after }
 }
 
+/// Has a link where no answer is awaited tell its backend what was held back. False: some of it is
+/// not told yet.
+pub(crate) fn settled<L: Link>(slot: Slot<L>) -> (Slot<L>, bool)
+    requires before { is_sound L.pending slot ≡ true }
+    ensures sound { is_sound L.pending result.0 ≡ true }
+    ensures awaited { is_awaited result.0 ≡ is_awaited slot }
+{
+    match slot {
+        Slot::Idle(mut link) => {
+            let told = link.settle();
+            (Slot::Idle(link), told)
+        }
+        other => (other, true),
+    }
+}
+
 /// Waits for an answer no longer. Where none is awaited nothing changes.
 pub(crate) fn given_up<L: Link>(slot: Slot<L>) -> Slot<L>
     requires before { is_sound L.pending slot ≡ true }

@@ -1,3 +1,4 @@
 pub mod Wires
+pub mod Debts
 pub mod Links
 pub mod Connections

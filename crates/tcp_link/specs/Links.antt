@@ -12,13 +12,20 @@ abbrev pub pending_of : State → Option Request
 pending_of state.Idle = None
 pending_of (state.Sent talk) = Some talk.request
 pending_of (state.Unsent request) = Some request
+pending_of (state.Held request ending) = Some request
 
 -- the wire's faults and the others, as far as a u64 counts
 abbrev pub faults_of : ℕ → ℕ → ℕ
 faults_of wire violations = min (wire + violations) (2 ^ 64 - 1)
 
--- what was said, of a request that was sent, has its form; of no other is anything said
+abbrev pub IsNoAnswer : Said → Type 0
+IsNoAnswer said.NotYet = Unit {0}
+IsNoAnswer (said.Answer answer) = ⊥
+IsNoAnswer said.Broken = Unit {0}
+
+-- an answer to a request that was sent has its form; to no other is there one
 abbrev pub Answers : State → Said → Type 0
-Answers state.Idle told = told ≡ said.Broken
+Answers state.Idle told = IsNoAnswer told
 Answers (state.Sent talk) told = IsSaid talk.request told
-Answers (state.Unsent request) told = told ≡ said.Broken
+Answers (state.Unsent request) told = IsNoAnswer told
+Answers (state.Held request ending) told = IsNoAnswer told

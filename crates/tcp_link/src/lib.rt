@@ -4,6 +4,7 @@
 
 mod codes;
 mod connection;
+mod debt;
 mod outbox;
 mod patient;
 mod stream;
@@ -11,7 +12,7 @@ mod wire;
 
 pub use connection::{Connected, answers, connect};
 pub use patient::PatientLink;
-pub use stream::{TcpSink, TcpSource, TcpWire, split};
+pub use stream::{TcpSink, TcpWire};
 pub use wire::{Received, Sent, Wire};
 
 /// A session at a PostgreSQL server over TCP.

@@ -3,7 +3,7 @@ ghost use Rattle.std.specs.Prelude.{◌≤◌, length};
 ghost use Rattle.tcp_link.specs.Wires.{IsEmptied};
 
 use crate::wire::{Sent, Wire};
-use pool_base::List;
+use pool_base::{List, NoMemory};
 use std::alloc::Global;
 use std::mem;
 
@@ -36,6 +36,17 @@ impl Outbox {
     /// These bytes are to be sent, in place of any others.
     pub fn fill(&mut self, bytes: List<u8>) {
         drop(mem::replace(self, Outbox { bytes, from: 0 }));
+    }
+
+    /// These bytes are to be sent behind what is left.
+    pub fn add(&mut self, bytes: List<u8>) -> Result<(), NoMemory> {
+        if self.from == self.bytes.len() {
+            self.fill(bytes);
+            return Ok(());
+        }
+        let added = self.bytes.extend_from_slice(bytes.as_slice());
+        drop(bytes);
+        added
     }
 
     /// Sends what is left, as far as the wire takes it.

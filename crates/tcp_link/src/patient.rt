@@ -1,26 +1,30 @@
 //! A session at a server: one request at a time.
 //!
 //! ```text
-//! Idle --post--> Sent or Unsent --poll--> Idle
+//! Idle --post--> Sent, Unsent or Held --poll--> Idle
 //! ```
 //!
 //! After a fault the link is lost, and each poll says so. Then what is pending stays so. Where the
 //! server has turned the client away nothing is sent: a rollback is done at once, and what can be
 //! refused is refused with the server's code.
-ghost use Rattle.std.specs.Prelude.{◌≡◌, ◌<◌, ◌≤◌, length, false, true, IfOk, IfNone, IfSome, None, Some};
+//!
+//! The end of a block that has but read is done at once, and the server is told of it later: with
+//! the next snapshot, before another request, or where the link settles.
+ghost use Rattle.std.specs.Prelude.{◌≡◌, ◌<◌, ◌≤◌, ◌⊎◌, length, false, true, IfOk, IfNone, IfSome, None, Some};
 ghost use Rattle.pool_base.specs.Outside.{Rose};
 ghost use Rattle.link_words.specs.Forms.{IsPolled};
 ghost use Rattle.tcp_link.specs.Links.{Answers, pending_of, faults_of};
 
 use crate::codes::PROGRAM_LIMIT_EXCEEDED;
+use crate::debt::{Debt, Ended};
 use crate::outbox::{Emptied, Outbox};
 use crate::wire::{Received, Wire};
 use backend_trait::{Polled, Posted, Request};
 use catalogue::Catalogue;
 use link_words::Link;
 use pool_base::{Code, NoMemory};
-use postgres_link::{Inbox, Reply};
-use postgres_talk::{NotSpelled, Said, Spelled, Talk, answer_of, spell};
+use postgres_link::{Inbox, Reply, Wanted};
+use postgres_talk::{Ending, NotSpelled, Said, Spelled, Talk, answer_of, spell, spell_next};
 use std::alloc::Global;
 use std::mem;
 
@@ -37,6 +41,8 @@ enum State {
     /// The request is not sent: the client is turned away, its text does not fit into a message, or
     /// names what is not there.
     Unsent(Request),
+    /// The request ends a block that changed nothing, and is not sent now.
+    Held(Request, Ending),
 }
 
 /// A session at a server.
@@ -49,6 +55,7 @@ pub struct PatientLink<'a, W: Wire> {
     outbox: Outbox,
     piece: Vec<u8>,
     state: State,
+    debt: Debt,
     /// It gives no answer any more, to this request or another.
     lost: bool,
     /// The faults that are not the wire's.
@@ -88,6 +95,7 @@ impl<'a, W: Wire> PatientLink<'a, W> {
             outbox: Outbox::new(alloc),
             piece: new_piece(alloc)?,
             state: State::Idle,
+            debt: Debt::new(),
             lost: false,
             violations: 0,
             refusal,
@@ -129,15 +137,29 @@ impl<'a, W: Wire> PatientLink<'a, W> {
         self.lose()
     }
 
-    fn send(&mut self, request: Request, spelled: Spelled)
-        ensures pending { pending_of self.new.state ≡ Some request }
+    /// The message of a request. A snapshot takes along the end of the block before it.
+    fn spelled(&self, request: &Request) -> Result<Spelled, NotSpelled> {
+        match self.debt.taken_along(request) {
+            Some(ending) => spell_next(self.alloc, ending),
+            None => spell(self.alloc, self.tables, request),
+        }
+    }
+
+    /// Puts the messages of a request into the outbox: before any other than a snapshot the server
+    /// is told of the end of the block before it.
+    fn put(&mut self, request: &Request) -> Result<Wanted, NotSpelled>
+        ensures state { self.new.state ≡ self.old.state }
         ensures lost { self.new.lost ≡ self.old.lost }
         ensures wire { self.new.wire ≡ self.old.wire }
         ensures violations { self.new.violations ≡ self.old.violations }
     {
-        let Spelled { bytes, wanted } = spelled;
-        self.outbox.fill(bytes);
-        self.set(State::Sent(Talk::new(request, wanted)));
+        let Spelled { bytes, wanted } = self.spelled(request)?;
+        if self.debt.taken_along(request).is_none() {
+            self.debt.tell(self.alloc, &mut self.outbox)?;
+        }
+        self.outbox.add(bytes)?;
+        self.debt.pay();
+        Ok(wanted)
     }
 
     /// Looks for the answer in what has come.
@@ -148,9 +170,14 @@ impl<'a, W: Wire> PatientLink<'a, W> {
         ensures wire { self.new.wire ≡ self.old.wire }
         ensures violations { self.new.violations ≡ self.old.violations }
     {
+        match self.debt.hear(self.alloc, &mut self.inbox)? {
+            Ended::Yes => {}
+            Ended::NotYet => return Ok(Said::NotYet),
+            Ended::Broken => return Ok(Said::Broken),
+        }
         match &mut self.state {
             State::Sent(talk) => talk.listen(self.alloc, &mut self.inbox),
-            State::Idle | State::Unsent(_) => Ok(Said::Broken),
+            State::Idle | State::Unsent(_) | State::Held(_, _) => Ok(Said::Broken),
         }
     }
 
@@ -170,10 +197,40 @@ impl<'a, W: Wire> PatientLink<'a, W> {
             Ok(Said::NotYet) => None,
             Ok(Said::Broken) => Some(self.violate()),
             Ok(Said::Answer(answer)) => {
+                self.debt.heed(&answer);
                 self.set(State::Idle);
                 Some(Polled::Answered(answer))
             }
         }
+    }
+
+    /// Takes what comes next. What it answers is to be said, where nothing was taken.
+    fn take(&mut self) -> Option<Polled>
+        ensures polled { IfSome result (λ polled. IsPolled polled (pending_of self.old.state)
+            (pending_of self.new.state)
+            (faults_of (W.fault_count self.old.wire) self.old.violations)
+            (faults_of (W.fault_count self.new.wire) self.new.violations)) }
+        ensures ends { IfSome result (λ polled. polled ≡ Polled.Lost → self.new.lost ≡ true) }
+        ensures state { self.new.state ≡ self.old.state }
+        ensures lost { self.new.lost ≡ true → (self.old.lost ≡ true)
+            ⊎ Rose (faults_of (W.fault_count self.old.wire) self.old.violations)
+            (faults_of (W.fault_count self.new.wire) self.new.violations) }
+        ensures stays { self.old.lost ≡ true → self.new.lost ≡ true }
+        ensures later { faults_of (W.fault_count self.old.wire) self.old.violations
+            ≤ faults_of (W.fault_count self.new.wire) self.new.violations }
+    {
+        if self.inbox.reserve(PIECE).is_err() {
+            return Some(Polled::NoMemory);
+        }
+        let count = match self.wire.receive(self.piece.as_mut_slice()) {
+            Received::Bytes(count) => count,
+            Received::NotYet => return Some(Polled::NotYet),
+            Received::Failed => return Some(self.lose()),
+        };
+        if self.inbox.take(&self.piece.as_slice()[..count]).is_err() {
+            return Some(self.violate());
+        }
+        None
     }
 
     /// Takes what comes next, and looks for the answer in it.
@@ -185,16 +242,8 @@ impl<'a, W: Wire> PatientLink<'a, W> {
         ensures later { faults_of (W.fault_count self.old.wire) self.old.violations
             ≤ faults_of (W.fault_count self.new.wire) self.new.violations }
     {
-        if self.inbox.reserve(PIECE).is_err() {
-            return Polled::NoMemory;
-        }
-        let count = match self.wire.receive(self.piece.as_mut_slice()) {
-            Received::Bytes(count) => count,
-            Received::NotYet => return Polled::NotYet,
-            Received::Failed => return self.lose(),
-        };
-        if self.inbox.take(&self.piece.as_slice()[..count]).is_err() {
-            return self.violate();
+        if let Some(polled) = self.take() {
+            return polled;
         }
         match self.look() {
             Some(polled) => polled,
@@ -252,6 +301,87 @@ impl<'a, W: Wire> PatientLink<'a, W> {
             None => self.violate(),
         }
     }
+
+    /// The end of a block that changed nothing is done: the server is told of it later.
+    fn hold(&mut self) -> Polled
+        ensures polled { IsPolled result (pending_of self.old.state) (pending_of self.new.state)
+            (faults_of (W.fault_count self.old.wire) self.old.violations)
+            (faults_of (W.fault_count self.new.wire) self.new.violations) }
+        ensures ends { result ≡ Polled.Lost → self.new.lost ≡ true }
+        ensures later { faults_of (W.fault_count self.old.wire) self.old.violations
+            ≤ faults_of (W.fault_count self.new.wire) self.new.violations }
+    {
+        let State::Held(request, ending) = &self.state else {
+            return self.violate();
+        };
+        let ending = *ending;
+        match answer_of(request, Reply::Done) {
+            Some(answer) => {
+                self.debt.hold(ending);
+                self.set(State::Idle);
+                Polled::Answered(answer)
+            }
+            None => self.violate(),
+        }
+    }
+
+    /// Hears the answer to the end of a block. False: more of it is to come. What has broken off is
+    /// found so by the next poll.
+    fn is_ended(&mut self) -> bool
+        ensures state { self.new.state ≡ self.old.state }
+        ensures lost { self.new.lost ≡ self.old.lost }
+        ensures wire { self.new.wire ≡ self.old.wire }
+        ensures violations { self.new.violations ≡ self.old.violations }
+    {
+        match self.debt.hear(self.alloc, &mut self.inbox) {
+            Ok(Ended::Yes | Ended::Broken) => true,
+            Ok(Ended::NotYet) | Err(NoMemory) => false,
+        }
+    }
+
+    /// Sends what is left of the end of a block, and takes the answer, if it comes in time. False:
+    /// some of it is not sent. A wire that has failed fails at the next poll too.
+    fn end(&mut self) -> bool
+        ensures state { self.new.state ≡ self.old.state }
+        ensures lost { self.new.lost ≡ true → (self.old.lost ≡ true)
+            ⊎ Rose (faults_of (W.fault_count self.old.wire) self.old.violations)
+            (faults_of (W.fault_count self.new.wire) self.new.violations) }
+        ensures stays { self.old.lost ≡ true → self.new.lost ≡ true }
+        ensures later { faults_of (W.fault_count self.old.wire) self.old.violations
+            ≤ faults_of (W.fault_count self.new.wire) self.new.violations }
+    {
+        match self.outbox.empty(&mut self.wire) {
+            Emptied::All => {}
+            Emptied::NotYet => return false,
+            Emptied::Failed => return true,
+        }
+        if self.is_ended() {
+            return true;
+        }
+        match self.take() {
+            None => {
+                self.is_ended();
+            }
+            Some(polled) => drop(polled),
+        }
+        true
+    }
+
+    /// Tells the server of the end that was held back. False: some of it is not sent.
+    fn tell(&mut self) -> bool
+        ensures state { self.new.state ≡ self.old.state }
+        ensures lost { self.new.lost ≡ true → (self.old.lost ≡ true)
+            ⊎ Rose (faults_of (W.fault_count self.old.wire) self.old.violations)
+            (faults_of (W.fault_count self.new.wire) self.new.violations) }
+        ensures stays { self.old.lost ≡ true → self.new.lost ≡ true }
+        ensures later { faults_of (W.fault_count self.old.wire) self.old.violations
+            ≤ faults_of (W.fault_count self.new.wire) self.new.violations }
+    {
+        if self.debt.tell(self.alloc, &mut self.outbox).is_err() {
+            return false;
+        }
+        !self.debt.is_awaited() || self.end()
+    }
 }
 
 impl<'a, W: Wire> Link for PatientLink<'a, W> {
@@ -268,9 +398,14 @@ impl<'a, W: Wire> Link for PatientLink<'a, W> {
             self.set(State::Unsent(request));
             return Posted::Accepted;
         }
-        match spell(self.alloc, self.tables, &request) {
-            Ok(spelled) => {
-                self.send(request, spelled);
+        if let Some(ending) = self.debt.held(&request) {
+            self.set(State::Held(request, ending));
+            return Posted::Accepted;
+        }
+        self.debt.ask(&request);
+        match self.put(&request) {
+            Ok(wanted) => {
+                self.set(State::Sent(Talk::new(request, wanted)));
                 Posted::Accepted
             }
             Err(NotSpelled::TooLong) => {
@@ -292,8 +427,13 @@ impl<'a, W: Wire> Link for PatientLink<'a, W> {
         }
         match &self.state {
             State::Sent(_) => self.go_on(),
+            State::Held(_, _) => self.hold(),
             State::Unsent(_) | State::Idle => self.refuse(),
         }
+    }
+
+    fn settle(&mut self) -> bool {
+        self.lost || self.tell()
     }
 
     fn give_up(&mut self) {

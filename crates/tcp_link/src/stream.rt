@@ -3,23 +3,12 @@
 ghost use Rattle.std.specs.Prelude.{◌≡◌};
 
 use crate::wire::{Received, Sent, Wire};
-use pool_base::{ReaderSource, WriterSink};
-use std::io;
+use pool_base::WriterSink;
 use std::io::{ErrorKind, Read, Write};
 use std::net::TcpStream;
 
-/// The bytes that come over a stream. A read waits until some are there.
-pub type TcpSource = ReaderSource<TcpStream>;
-
 /// What takes bytes to be sent over a stream.
 pub type TcpSink = WriterSink<TcpStream>;
-
-/// The two halves of a stream. What is written is sent at once.
-pub fn split(stream: TcpStream) -> io::Result<(TcpSource, TcpSink)> {
-    stream.set_nodelay(true)?;
-    let other = stream.try_clone()?;
-    Ok((ReaderSource::new(stream), WriterSink::new(other)))
-}
 
 /// A stream with a time that a read or a write of it waits at most.
 #[derive(Drop)]

@@ -3,6 +3,7 @@
 #![tactic(auto)]
 
 mod accept;
+mod client;
 mod host;
 mod maker;
 mod notices;

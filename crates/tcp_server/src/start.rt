@@ -1,6 +1,7 @@
 //! A session in a thread of its own.
 ghost use Rattle.std.specs.Prelude.{◌≡◌};
 
+use crate::client::{TcpSource, split};
 use crate::host::Host;
 use crate::maker::TcpMaker;
 use crate::notices::ErrorLines;
@@ -13,7 +14,7 @@ use std::cell::Cell;
 use std::net::TcpStream;
 use std::sync::{Arc, Mutex};
 use std::thread;
-use tcp_link::{TcpSink, TcpSource, split};
+use tcp_link::TcpSink;
 
 /// A connection that has a seat.
 #[derive(Drop)]
