@@ -1,34 +1,7 @@
--- Journals whose events are a schedule of the replicated world that their header says.
-use Rattle.std.specs.Prelude.{◌≡◌, ◌<◌, ℕ, true, List, [], ◌∷◌, ◌++◌, length}
+-- Files whose text ends in a journal of a schedule of the replicated world.
+use Rattle.std.specs.Prelude.{◌≡◌, ℕ, List, ◌++◌}
 use Rattle.pool_base.specs.Outside.{Told, IsTold}
-use Rattle.pool_base.specs.Sets.{has}
-use Rattle.pool_config.specs.declared.config.Config.{Config}
-use Rattle.schema.specs.declared.catalogue.TableDef.{TableDef}
-use Rattle.journal.specs.Header.{IsHeader}
-use Rattle.session_seat.specs.Policy.{policy_in}
-use Rattle.world_program.specs.declared.replaying.Start.{Start}
-use Rattle.journal_reader.specs.Runs.{IsRunOfOneStore}
-
--- a set has the backends below that number
-abbrev pub AreFirst : ℕ → ℕ → Type 0
-AreFirst bits count = (b : ℕ) → b < 8 → (has bits b ≡ true → b < count) × (b < count → has bits b ≡ true)
-
--- the world of a configuration and tables: each backend of the configuration is attached
-pub record IsStartOf (config : Config) (tables : List TableDef) (start : Start) : Type 0 where
-  pub catalogue : start.catalogue ≡ tables
-  pub policy : start.policy ≡ policy_in config
-  pub attached : AreFirst start.attached.bits (length config.nodes)
-
--- behind a header these lines are those of so many events, which are a schedule of the world that it says, and so of one store
-pub record IsRun (text : List ℕ) (n : ℕ) : Type 0 where
-  pub config : Config
-  pub start : Start
-  pub header : List ℕ
-  pub lines : List ℕ
-  pub parts : text ≡ header ++ lines
-  pub printed : IsHeader config start.catalogue header
-  pub begins : IsStartOf config start.catalogue start
-  pub schedule : IsRunOfOneStore start lines n
+use Rattle.world_plays.specs.Journals.{IsRun}
 
 -- such a run stands at the end of the text, behind whatever bytes
 pub record IsJournal (text : List ℕ) (n : ℕ) : Type 0 where
@@ -38,13 +11,7 @@ pub record IsJournal (text : List ℕ) (n : ℕ) : Type 0 where
   pub holds : IsRun run n
 
 -- what is told of a file is a journal of that kind
-pub record IsFileOfSchedule (told : Told) : Type 0 where
+pub record IsFileOfSchedule (told : Told) (n : ℕ) : Type 0 where
   pub text : List ℕ
   pub is_told : IsTold told text
-  pub count : ℕ
-  pub holds : IsJournal text count
-
--- the one word names such a file
-abbrev pub AreWordsOfSchedule : List (List ℕ) → (List ℕ → Told) → Type 0
-AreWordsOfSchedule (name ∷ []) contents = IsFileOfSchedule (contents name)
-AreWordsOfSchedule _ contents = ⊥
+  pub holds : IsJournal text n

@@ -4,7 +4,8 @@ ghost use Rattle.pool_base.specs.Sets.{has};
 ghost use Rattle.pool_config.specs.Configuration.{IsAllowed};
 ghost use Rattle.schema_print.specs.Allowed.{AreAllowed};
 ghost use Rattle.schema_print.specs.Printed.{AreInRange};
-ghost use Rattle.journal_check.specs.Journals.{AreFirst, IsStartOf};
+ghost use Rattle.session_seat.specs.Shared.{AreFirst};
+ghost use Rattle.world_plays.specs.Journals.{IsStartOf};
 
 use crate::fault::{JournalFault, of_config, of_schema};
 use crate::lines::{line_count, unmarked};

@@ -1,6 +1,7 @@
 //! A journal: its header, and its events.
 ghost use Rattle.std.specs.Prelude.{◌≡◌, IfOk};
-ghost use Rattle.journal_check.specs.Journals.{IsRun, IsJournal};
+ghost use Rattle.world_plays.specs.Journals.{IsRun};
+ghost use Rattle.journal_check.specs.Journals.{IsJournal};
 
 use crate::fault::{JournalFault, of_run};
 use crate::header::read_header;

@@ -10,3 +10,4 @@ pub mod ScriptReading
 pub mod DrawingLemmas
 pub mod ServingLemmas
 pub mod PlayedOut
+pub mod OneStore

@@ -13,7 +13,7 @@ use Rattle.pool_run.specs.Status.{code_of}
 use Rattle.pool_run.specs.declared.status.Status.{Status}
 use Rattle.pool_run.specs.declared.status.Status.TheVariants.{Done, NoCommand, Refused, ScriptRefused, FilesFailed, SinkFailed, NoMemory, NotBuilt, Stopped, NoneLeft}
 use Rattle.pool_run.specs.Scripts.{lines_in}
-use Rattle.pool_run.specs.Texts.{IsRead, IsBuilt, IsSeveral, config_name, schema_name, is_plain}
+use Rattle.pool_run.specs.Texts.{IsRead, IsBuilt, IsSeveral, config_name, schema_name, is_plain, keeps_journal}
 use Rattle.pool_run.specs.Drawing.{TakesNone}
 use Rattle.pool_run.specs.Ways.{SaysOneClient}
 use Rattle.schema.specs.declared.catalogue.TableDef.{TableDef}
@@ -100,7 +100,7 @@ is_sink NoneLeft h = cc
 files_texts : (command : Command) (config : Config) (tables : List TableDef) (script : Option (List ℕ)) (s : Status) (o : Outside) → s ≡ FilesFailed → TextsEnds command config tables script s o → ⊥
 files_texts command config tables script s o is (refused bytes why rows f) = subst (λ s. RefusedEnds ScriptRefused bytes s o) is f
 files_texts command config tables script s o is (built lines b f) = subst (λ s. ScriptEnds (length config.nodes) tables lines s o) is f
-files_texts command config tables script s o is (several lines b none f) = subst (λ s. SeveralEnds lines s o) is f
+files_texts command config tables script s o is (several lines b none f) = subst (λ s. SeveralEnds (keeps_journal command) config tables lines s o) is f
 files_texts command config tables script s o is (unbuilt stands none others kept f) = subst (λ s. UnbuiltEnds s o) is f
 files_texts command config tables script s o is (unchecked memory same kept) = let never : FilesFailed ≡ NoMemory = sym is ∙ memory in absurd (cc)
 
@@ -138,7 +138,7 @@ files_rose words contents x y number o r four = files_words (command_of words) c
 sink_texts : (command : Command) (config : Config) (tables : List TableDef) (script : Option (List ℕ)) (s : Status) (o : Outside) → s ≡ SinkFailed → TextsEnds command config tables script s o → Rose o.faults_before o.faults_after
 sink_texts command config tables script s o is (refused bytes why rows f) = (subst (λ s. RefusedEnds ScriptRefused bytes s o) is f).0
 sink_texts command config tables script s o is (built lines b f) = (subst (λ s. ScriptEnds (length config.nodes) tables lines s o) is f).0
-sink_texts command config tables script s o is (several lines b none f) = (subst (λ s. SeveralEnds lines s o) is f).0
+sink_texts command config tables script s o is (several lines b none f) = (subst (λ s. SeveralEnds (keeps_journal command) config tables lines s o) is f).0
 sink_texts command config tables script s o is (unbuilt stands none others kept f) = (subst (λ s. UnbuiltEnds s o) is f).0
 sink_texts command config tables script s o is (unchecked memory same kept) = let never : SinkFailed ≡ NoMemory = sym is ∙ memory in absurd (cc)
 
@@ -176,7 +176,7 @@ sink_rose words contents x y number o r five = sink_words (command_of words) con
 none_texts : (command : Command) (config : Config) (tables : List TableDef) (script : Option (List ℕ)) (s : Status) (o : Outside) → s ≡ NoCommand → TextsEnds command config tables script s o → ⊥
 none_texts command config tables script s o is (refused bytes why rows f) = subst (λ s. RefusedEnds ScriptRefused bytes s o) is f
 none_texts command config tables script s o is (built lines b f) = subst (λ s. ScriptEnds (length config.nodes) tables lines s o) is f
-none_texts command config tables script s o is (several lines b none f) = subst (λ s. SeveralEnds lines s o) is f
+none_texts command config tables script s o is (several lines b none f) = subst (λ s. SeveralEnds (keeps_journal command) config tables lines s o) is f
 none_texts command config tables script s o is (unbuilt stands none others kept f) = subst (λ s. UnbuiltEnds s o) is f
 none_texts command config tables script s o is (unchecked memory same kept) = let never : NoCommand ≡ NoMemory = sym is ∙ memory in absurd (cc)
 
@@ -232,7 +232,7 @@ no_command_always words contents x y number o r is =
 refused_texts : (command : Command) (config : Config) (tables : List TableDef) (script : Option (List ℕ)) (s : Status) (o : Outside) → s ≡ Refused → TextsEnds command config tables script s o → ⊥
 refused_texts command config tables script s o is (refused bytes why rows f) = let e : RefusedEnds ScriptRefused bytes Refused o = subst (λ s. RefusedEnds ScriptRefused bytes s o) is f in let never : ScriptRefused ≡ Refused = e.0 in absurd (cc)
 refused_texts command config tables script s o is (built lines b f) = subst (λ s. ScriptEnds (length config.nodes) tables lines s o) is f
-refused_texts command config tables script s o is (several lines b none f) = subst (λ s. SeveralEnds lines s o) is f
+refused_texts command config tables script s o is (several lines b none f) = subst (λ s. SeveralEnds (keeps_journal command) config tables lines s o) is f
 refused_texts command config tables script s o is (unbuilt stands none others kept f) = subst (λ s. UnbuiltEnds s o) is f
 refused_texts command config tables script s o is (unchecked memory same kept) = let never : Refused ≡ NoMemory = sym is ∙ memory in absurd (cc)
 

@@ -13,7 +13,7 @@ use Rattle.pool_run.specs.Status.{code_of}
 use Rattle.pool_run.specs.declared.status.Status.{Status}
 use Rattle.pool_run.specs.declared.status.Status.TheVariants.{Done, NoCommand, Refused, ScriptRefused, FilesFailed, SinkFailed, NoMemory, NotBuilt, Stopped, NoneLeft}
 use Rattle.pool_run.specs.Scripts.{ScriptCause, long_text, many_lines, has_bad_line, without, with, IsReadAs, IsRefusedScript, SaysNoScript, lines_in}
-use Rattle.pool_run.specs.Texts.{IsRead, IsScriptRead}
+use Rattle.pool_run.specs.Texts.{IsRead, IsScriptRead, keeps_journal}
 use Rattle.pool_run.specs.Ends.{Outside, NoCommandEnds, RefusedEnds, UnreadEnds, UnbuiltEnds, ScriptEnds, SeveralEnds, TextsEnds, refused, built, several, unbuilt, unchecked, ScriptStageEnds, script_unread, script_read, SchemaEnds, schema_stands, schema_refused, schema_unparsed, RestEnds, schema_unread, schema_read}
 use Rattle.pool_run.specs.Ends.{ConfigEnds, configured, faulty, unparsed, CommandEnds, unread, long, read, WordsEnd, Returns, ScriptIsRefused, config_too_long, fault_line}
 use Rattle.pool_run.proofs.Numbers.{is_script_refused}
@@ -24,7 +24,7 @@ texts_refused : (words : List (List ℕ)) (contents : List ℕ → Told) (comman
 texts_refused words contents command config tables script s o named is r (refused bytes why rows f) =
     record { command = command; is = named; script = script; read = r; bytes = bytes; cause = why; wrote = (subst (λ s. RefusedEnds ScriptRefused bytes s o) is f).1; rows = rows }
 texts_refused words contents command config tables script s o named is r (built lines b f) = absurd (subst (λ s. ScriptEnds (length config.nodes) tables lines s o) is f)
-texts_refused words contents command config tables script s o named is r (several lines b none f) = absurd (subst (λ s. SeveralEnds lines s o) is f)
+texts_refused words contents command config tables script s o named is r (several lines b none f) = absurd (subst (λ s. SeveralEnds (keeps_journal command) config tables lines s o) is f)
 texts_refused words contents command config tables script s o named is r (unbuilt stands none others kept f) = absurd (subst (λ s. UnbuiltEnds s o) is f)
 texts_refused words contents command config tables script s o named is r (unchecked memory same kept) = let never : ScriptRefused ≡ NoMemory = sym is ∙ memory in absurd (cc)
 

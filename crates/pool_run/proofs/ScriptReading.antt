@@ -1,5 +1,5 @@
 -- What is read of a script, and whether that asks for what is built.
-use Rattle.std.proofs.Common.{◌≡◌, ℕ, ◌<◌, ◌≤◌, true, false, List, length, map, sym, ◌∙◌, subst}
+use Rattle.std.proofs.Common.{◌≡◌, ℕ, ◌<◌, ◌≤◌, Bool, true, false, List, length, map, sym, ◌∙◌, subst}
 use Rattle.std.specs.Prelude.{Option, Some, None, Ok, Err}
 use Rattle.std.proofs.lemmas.Bool.{false≢true}
 use Rattle.pgproto.specs.Line.{Line, line_of}
@@ -17,7 +17,7 @@ use Rattle.pool_run.specs.Texts.{IsBuilt, IsSeveral}
 use Rattle.pool_run.specs.declared.plan.Way.{Way}
 use Rattle.pool_run.specs.declared.plan.Way.TheVariants.{OneClient, Sessions}
 use Rattle.pool_run.specs.declared.status.Status.{Status}
-use Rattle.pool_run.specs.Ends.{Outside, Untouched, UnbuiltEnds, TextsEnds, built, several, unbuilt}
+use Rattle.pool_run.specs.Ends.{Outside, Untouched, UnbuiltEnds, SeveralEnds, TextsEnds, built, several, unbuilt}
 use Rattle.pool_run.specs.Plan.{FitsOneClient, FitsSessions, FitsWay, IsFew, IsWay, WayEnds}
 use Rattle.schema.specs.declared.catalogue.TableDef.{TableDef}
 
@@ -51,7 +51,7 @@ fits_sessions command config script lines found r b =
 
 -- how lines end that are played so, and that may be played so
 pub way_ends : (command : Command) (config : Config) (tables : List TableDef) (script : Option (List ℕ)) (lines : List Line) (way : Way) (s : Status) (o : Outside) → IsReading script lines
-    → IsWay command config tables lines (Some way) → WayEnds way (length config.nodes) tables lines s o → TextsEnds command config tables script s o
+    → IsWay command config tables lines (Some way) → WayEnds way config tables lines s o → TextsEnds command config tables script s o
 way_ends command config tables script lines OneClient s o r fits e =
     built lines (record {
       plain = fits.0.0.0;
@@ -63,8 +63,8 @@ way_ends command config tables script lines OneClient s o r fits e =
       takes_none = fits.1;
     }) e
 way_ends command config tables script lines (Sessions journal) s o r fits e =
-    several lines (record { plays = fits.1.0.0; some_backend = fits.1.0.1.0; few_backends = fits.1.0.1.1; reads = r.reads; keeping = fits.1.1 })
-    (λ found b. fits.0 (fits_one command config tables script lines found r b)) e
+    several lines (record { plays = fits.1.0.0.0; some_backend = fits.1.0.0.1.0; few_backends = fits.1.0.0.1.1; reads = r.reads; keeping = fits.1.0.1 })
+    (λ found b. fits.0 (fits_one command config tables script lines found r b)) (subst (λ (j : Bool). SeveralEnds j config tables lines s o) fits.1.1 e)
 
 pub way_fits : (command : Command) (config : Config) (tables : List TableDef) (lines : List Line) (way : Way) → IsWay command config tables lines (Some way) → FitsWay way lines
 way_fits command config tables lines OneClient fits = fits.0.1.0
@@ -72,7 +72,7 @@ way_fits command config tables lines (Sessions journal) fits = tt
 
 pub way_few : (command : Command) (config : Config) (tables : List TableDef) (lines : List Line) (way : Way) → IsWay command config tables lines (Some way) → IsFew (length config.nodes)
 way_few command config tables lines OneClient fits = record { some = fits.0.0.1.0; few = fits.0.0.1.1 }
-way_few command config tables lines (Sessions journal) fits = record { some = fits.1.0.1.0; few = fits.1.0.1.1 }
+way_few command config tables lines (Sessions journal) fits = record { some = fits.1.0.0.1.0; few = fits.1.0.0.1.1 }
 
 -- lines that are played in no way
 pub no_way : (command : Command) (config : Config) (tables : List TableDef) (script : Option (List ℕ)) (lines : List Line) (s : Status) (o : Outside) → IsReading script lines

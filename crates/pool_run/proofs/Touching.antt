@@ -1,5 +1,5 @@
 -- Which statuses may come once a store was touched.
-use Rattle.std.proofs.Common.{◌≡◌, ◌≢◌, ◌⊎◌, ℕ, List, length, refl, subst, ◌∙◌, inl, inr}
+use Rattle.std.proofs.Common.{◌≡◌, ◌≢◌, ◌⊎◌, ℕ, Bool, List, length, refl, subst, ◌∙◌, inl, inr}
 use Rattle.std.specs.Prelude.{Option, Some, None}
 use Rattle.pgproto.specs.Line.{Line}
 use Rattle.pool_base.specs.Outside.{Told}
@@ -8,6 +8,7 @@ use Rattle.pool_command.specs.Command.{command_of}
 use Rattle.pool_config.specs.declared.config.Config.{Config}
 use Rattle.schema.specs.declared.catalogue.TableDef.{TableDef}
 use Rattle.backend_trait.specs.Store.{Store}
+use Rattle.pool_run.specs.Texts.{keeps_journal}
 use Rattle.pool_run.specs.Status.{code_of}
 use Rattle.pool_run.specs.declared.status.Status.{Status}
 use Rattle.pool_run.specs.declared.status.Status.TheVariants.{Done, NoCommand, Refused, ScriptRefused, FilesFailed, SinkFailed, NoMemory, NotBuilt, Stopped, NoneLeft}
@@ -30,22 +31,22 @@ script_touches count tables lines NotBuilt o e = absurd e
 script_touches count tables lines Stopped o e = absurd e
 script_touches count tables lines NoneLeft o e = absurd e
 
-several_touches : (lines : List Line) (s : Status) (o : Outside) → SeveralEnds lines s o → Touches s
-several_touches lines Done o e = inl refl
-several_touches lines SinkFailed o e = inr (inl refl)
-several_touches lines NoMemory o e = inr (inr (inl refl))
-several_touches lines Stopped o e = inr (inr (inr (inl refl)))
-several_touches lines NoneLeft o e = inr (inr (inr (inr refl)))
-several_touches lines NoCommand o e = absurd e
-several_touches lines Refused o e = absurd e
-several_touches lines ScriptRefused o e = absurd e
-several_touches lines FilesFailed o e = absurd e
-several_touches lines NotBuilt o e = absurd e
+several_touches : (journal : Bool) (config : Config) (tables : List TableDef) (lines : List Line) (s : Status) (o : Outside) → SeveralEnds journal config tables lines s o → Touches s
+several_touches journal config tables lines Done o e = inl refl
+several_touches journal config tables lines SinkFailed o e = inr (inl refl)
+several_touches journal config tables lines NoMemory o e = inr (inr (inl refl))
+several_touches journal config tables lines Stopped o e = inr (inr (inr (inl refl)))
+several_touches journal config tables lines NoneLeft o e = inr (inr (inr (inr refl)))
+several_touches journal config tables lines NoCommand o e = absurd e
+several_touches journal config tables lines Refused o e = absurd e
+several_touches journal config tables lines ScriptRefused o e = absurd e
+several_touches journal config tables lines FilesFailed o e = absurd e
+several_touches journal config tables lines NotBuilt o e = absurd e
 
 texts_touch : (command : Command) (config : Config) (tables : List TableDef) (script : Option (List ℕ)) (s : Status) (o : Outside) → TextsEnds command config tables script s o → Touches s ⊎ Untouched o
 texts_touch command config tables script s o (refused bytes why kept f) = inr kept
 texts_touch command config tables script s o (built lines b f) = inl (script_touches (length config.nodes) tables lines s o f)
-texts_touch command config tables script s o (several lines b none f) = inl (several_touches lines s o f)
+texts_touch command config tables script s o (several lines b none f) = inl (several_touches (keeps_journal command) config tables lines s o f)
 texts_touch command config tables script s o (unbuilt stands none others kept f) = inr kept
 texts_touch command config tables script s o (unchecked memory same kept) = inr kept
 

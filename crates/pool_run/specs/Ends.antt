@@ -1,5 +1,5 @@
 -- How a run may end: for each case, each status with what was written, or that it never comes.
-use Rattle.std.specs.Prelude.{◌≡◌, ◌<◌, ◌⊎◌, ℕ, length, List, ◌++◌, Option, Some, None, codes}
+use Rattle.std.specs.Prelude.{◌≡◌, ◌<◌, ◌⊎◌, ℕ, Bool, true, length, List, ◌++◌, Option, Some, None, codes}
 use Rattle.pool_base.specs.Outside.{Rose, Appends, AppendsFront, Told, IsTold, IsLonger}
 use Rattle.backend_trait.specs.Rows.{Rows, no_rows}
 use Rattle.backend_trait.specs.Store.{Store}
@@ -24,7 +24,8 @@ use Rattle.schema.specs.Reading.{Says as SaysTables}
 use Rattle.pool_run.specs.Schemas.{IsSchemaRead, SchemaCause, schema_too_long, bad_schema_line}
 use Rattle.pool_run.specs.Scripts.{ScriptCause, Stands}
 use Rattle.pool_run.specs.Shelf.{HaveRows}
-use Rattle.pool_run.specs.Texts.{config_name, schema_name, IsRead, IsScriptRead, IsBuilt, IsSeveral, line}
+use Rattle.pool_run.specs.Journals.{HasJournal}
+use Rattle.pool_run.specs.Texts.{config_name, schema_name, IsRead, IsScriptRead, IsBuilt, IsSeveral, keeps_journal, line}
 
 abbrev pub no_command : List ℕ
 no_command = line (codes "pool: the words are no command")
@@ -127,19 +128,23 @@ ScriptEnds count tables lines NoneLeft o = ⊥
 abbrev pub Grows : Outside → Type 0
 Grows o = Grew o.had o.has
 
--- a script of sessions is played: each line has its echo, in order, and behind it what is told; where a check inside the pool fails,
--- the pool stops itself
-abbrev pub SeveralEnds : List Line → Status → Outside → Type 0
-SeveralEnds lines Done o = AreSpoken lines o.had o.has
-SeveralEnds lines NoCommand o = ⊥
-SeveralEnds lines Refused o = ⊥
-SeveralEnds lines ScriptRefused o = ⊥
-SeveralEnds lines FilesFailed o = ⊥
-SeveralEnds lines SinkFailed o = Rose o.faults_before o.faults_after × Grows o
-SeveralEnds lines NoMemory o = Grows o
-SeveralEnds lines NotBuilt o = ⊥
-SeveralEnds lines Stopped o = Grows o
-SeveralEnds lines NoneLeft o = AreSpoken lines o.had o.has
+-- a script of sessions was played to its end: each line has its echo, in order, and behind it what is told; behind all stands the journal, where
+-- it is kept
+abbrev pub IsSpoken : Bool → Config → List TableDef → List Line → Outside → Type 0
+IsSpoken journal config tables lines o = AreSpoken lines o.had o.has × (journal ≡ true → HasJournal config tables lines o.had o.has)
+
+-- a script of sessions is played, with its journal or without; where a check inside the pool fails, the pool stops itself
+abbrev pub SeveralEnds : Bool → Config → List TableDef → List Line → Status → Outside → Type 0
+SeveralEnds journal config tables lines Done o = IsSpoken journal config tables lines o
+SeveralEnds journal config tables lines NoCommand o = ⊥
+SeveralEnds journal config tables lines Refused o = ⊥
+SeveralEnds journal config tables lines ScriptRefused o = ⊥
+SeveralEnds journal config tables lines FilesFailed o = ⊥
+SeveralEnds journal config tables lines SinkFailed o = Rose o.faults_before o.faults_after × Grows o
+SeveralEnds journal config tables lines NoMemory o = Grows o
+SeveralEnds journal config tables lines NotBuilt o = ⊥
+SeveralEnds journal config tables lines Stopped o = Grows o
+SeveralEnds journal config tables lines NoneLeft o = IsSpoken journal config tables lines o
 
 -- a script of this text was played to its end over these tables and the backends of the configuration: what was written is the transcript of
 -- one store, and each backend has its rows
@@ -169,7 +174,7 @@ pub record Played (config_told schema_told : Told) (text : List ℕ) (o : Outsid
 pub data TextsEnds (command : Command) (config : Config) (tables : List TableDef) (script : Option (List ℕ)) (status : Status) (o : Outside) : Type 0 where
   refused : (bytes : List ℕ) → ScriptCause command script bytes → Untouched o → RefusedEnds ScriptRefused bytes status o → TextsEnds command config tables script status o
   built : (lines : List Line) → IsBuilt command config tables script lines → ScriptEnds (length config.nodes) tables lines status o → TextsEnds command config tables script status o
-  several : (lines : List Line) → IsSeveral command config script lines → ((found : List Line) → IsBuilt command config tables script found → ⊥) → SeveralEnds lines status o → TextsEnds command config tables script status o
+  several : (lines : List Line) → IsSeveral command config script lines → ((found : List Line) → IsBuilt command config tables script found → ⊥) → SeveralEnds (keeps_journal command) config tables lines status o → TextsEnds command config tables script status o
   unbuilt : Stands command script → ((lines : List Line) → IsBuilt command config tables script lines → ⊥) → ((lines : List Line) → IsSeveral command config script lines → ⊥) → Untouched o → UnbuiltEnds status o → TextsEnds command config tables script status o
   unchecked : status ≡ NoMemory → o.has ≡ o.had → Untouched o → TextsEnds command config tables script status o
 

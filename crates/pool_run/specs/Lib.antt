@@ -6,6 +6,7 @@ pub mod Drawing
 pub mod Ways
 pub mod Reading
 pub mod Shelf
+pub mod Journals
 pub mod Ends
 pub mod Plan
 pub mod Serving

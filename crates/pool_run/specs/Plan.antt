@@ -1,5 +1,5 @@
 -- What a run is to do once its words and its texts were read, and how it then ends.
-use Rattle.std.specs.Prelude.{◌≡◌, ◌≢◌, ◌<◌, ◌≤◌, ℕ, true, List, Option, None, Some, Result, Ok, Err, length, map}
+use Rattle.std.specs.Prelude.{◌≡◌, ◌≢◌, ◌<◌, ◌≤◌, ℕ, Bool, true, List, Option, None, Some, Result, Ok, Err, length, map}
 use Rattle.std.specs.List.{AllByRecursion}
 use Rattle.pgproto.specs.Spelling.{IsOfGrammar}
 use Rattle.pgproto.specs.Line.{Line, line_of}
@@ -22,7 +22,7 @@ use Rattle.pool_run.specs.declared.status.Status.TheVariants.{Refused, ScriptRef
 use Rattle.pool_run.specs.Ends.{Outside, Untouched, NoCommandEnds, RefusedEnds, UnbuiltEnds, ScriptEnds, SeveralEnds, IsSchemaRefusal, config_too_long, fault_line}
 use Rattle.pool_run.specs.Drawing.{TakesNone}
 use Rattle.pool_run.specs.Scripts.{script_too_long, bad_line}
-use Rattle.pool_run.specs.Texts.{is_plain, is_play}
+use Rattle.pool_run.specs.Texts.{is_plain, is_play, keeps_journal}
 use Rattle.pool_run.specs.Ways.{AreSingle, AreKeeping}
 use Rattle.schema.specs.declared.catalogue.TableDef.{TableDef}
 use Rattle.schema_print.specs.Allowed.{AreAllowed}
@@ -73,27 +73,31 @@ StopEnds (stops.Script stop) status o = IsScriptRefusal stop status o
 StopEnds stops.NotBuilt status o = UnbuiltEnds status o
 
 -- how lines end that are played so
-abbrev pub WayEnds : Way → ℕ → List TableDef → List Line → Status → Outside → Type 0
-WayEnds OneClient count tables lines status o = ScriptEnds count tables lines status o
-WayEnds (Sessions journal) count tables lines status o = SeveralEnds lines status o
+abbrev pub WayEnds : Way → Config → List TableDef → List Line → Status → Outside → Type 0
+WayEnds OneClient config tables lines status o = ScriptEnds (length config.nodes) tables lines status o
+WayEnds (Sessions journal) config tables lines status o = SeveralEnds journal config tables lines status o
+
+-- how the script of a plan ends that is played as sessions
+abbrev pub SessionsEnd : Bool → Plan → Status → Outside → Type 0
+SessionsEnd journal plan status o = SeveralEnds journal plan.config plan.catalogue (map line_of plan.lines.script) status o
 
 -- how a run ends that is to do this
 abbrev pub PlanEnds : Result Plan Stop → Status → Outside → Type 0
-PlanEnds (Ok plan) status o = WayEnds plan.lines.way (length plan.config.nodes) plan.catalogue (map line_of plan.lines.script) status o
+PlanEnds (Ok plan) status o = WayEnds plan.lines.way plan.config plan.catalogue (map line_of plan.lines.script) status o
 PlanEnds (Err stop) status o = Untouched o × StopEnds stop status o
 
--- the same of lines, with a number of backends and tables
-abbrev pub LinesEnd : ℕ → List TableDef → Result Lines Stop → Status → Outside → Type 0
-LinesEnd count tables (Ok lines) status o = WayEnds lines.way count tables (map line_of lines.script) status o
-LinesEnd count tables (Err stop) status o = Untouched o × StopEnds stop status o
+-- the same of lines, with a configuration and tables
+abbrev pub LinesEnd : Config → List TableDef → Result Lines Stop → Status → Outside → Type 0
+LinesEnd config tables (Ok lines) status o = WayEnds lines.way config tables (map line_of lines.script) status o
+LinesEnd config tables (Err stop) status o = Untouched o × StopEnds stop status o
 
 -- an end of what is to be done is an end of that kind
 abbrev pub Leads : Result Plan Stop → (Status → Outside → Type 0) → Type 0
 Leads asked Kind = (status : Status) (o : Outside) → PlanEnds asked status o → Kind status o
 
--- the same of lines, over these tables
-abbrev pub LinesLead : ℕ → List TableDef → Result Lines Stop → (Status → Outside → Type 0) → Type 0
-LinesLead count tables asked Kind = (status : Status) (o : Outside) → LinesEnd count tables asked status o → Kind status o
+-- the same of lines, with this configuration and these tables
+abbrev pub LinesLead : Config → List TableDef → Result Lines Stop → (Status → Outside → Type 0) → Type 0
+LinesLead config tables asked Kind = (status : Status) (o : Outside) → LinesEnd config tables asked status o → Kind status o
 
 -- what is asked for beside the text of the script: one client's single statements that take no serial number; or sessions
 abbrev pub IsOneClient : Command → Config → List Line → Type 0
@@ -109,4 +113,5 @@ FitsSessions command config lines = ((is_play command ≡ true) × ((0 < length 
 abbrev pub IsWay : Command → Config → List TableDef → List Line → Option Way → Type 0
 IsWay command config tables lines None = ¬ (FitsOneClient command config tables lines) × ¬ (FitsSessions command config lines)
 IsWay command config tables lines (Some OneClient) = FitsOneClient command config tables lines
-IsWay command config tables lines (Some (Sessions journal)) = ¬ (FitsOneClient command config tables lines) × FitsSessions command config lines
+IsWay command config tables lines (Some (Sessions journal)) =
+    ¬ (FitsOneClient command config tables lines) × (FitsSessions command config lines × (journal ≡ keeps_journal command))

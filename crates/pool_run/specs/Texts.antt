@@ -49,6 +49,12 @@ is_play (Play config schema script journal) = true
 is_play (Generate config schema number size) = false
 is_play (Serve config schema) = false
 
+-- whether the journal is kept
+abbrev pub keeps_journal : Command → Bool
+keeps_journal (Play config schema script journal) = journal
+keeps_journal (Generate config schema number size) = false
+keeps_journal (Serve config schema) = false
+
 -- a script of one client that sends single statements, of which none takes a serial number of the tables, is played, over one to eight
 -- backends, without the journal
 pub record IsBuilt (command : Command) (config : Config) (tables : List TableDef) (script : Option (List ℕ)) (lines : List Line) : Type 0 where

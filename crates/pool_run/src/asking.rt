@@ -1,10 +1,11 @@
 //! From the words to what a run is to do.
-ghost use Rattle.std.specs.Prelude.{◌≤◌, IsTrue, IsSome, ◌↔◌, length, map, IfOk, IfSome};
+ghost use Rattle.std.specs.Prelude.{◌≡◌, ◌≤◌, IsTrue, IsSome, ◌↔◌, length, map, IfOk, IfSome};
 ghost use Rattle.pgproto.specs.Line.{line_of};
 ghost use Rattle.pool_config.specs.Configuration.{IsAllowed};
 ghost use Rattle.pool_run.specs.Ends.{CommandEnds, ConfigEnds, Ends, RestEnds, SchemaEnds, ScriptStageEnds, TextsEnds};
 ghost use Rattle.pool_run.specs.Plan.{FitsOneClient, FitsSessions, IsFew, IsOneClient, IsPlayable, IsSound, IsWay, Leads, LinesEnd, LinesLead};
 ghost use Rattle.pool_run.specs.Scripts.{IsReading};
+ghost use Rattle.pool_run.specs.Texts.{keeps_journal};
 ghost use Rattle.schema.specs.Grammar.{IsWithin};
 ghost use Rattle.schema_print.specs.Allowed.{AreAllowed};
 ghost use Rattle.schema_print.specs.Printed.{AreInRange};
@@ -122,7 +123,7 @@ fn with_tables(
     requires allowed { AreAllowed catalogue }
     requires playable { IfOk lines IsPlayable }
     requires few { IfOk lines (λ _. IsFew (length config.nodes)) }
-    ensures ends { Leads result (LinesEnd (length config.nodes) catalogue lines) }
+    ensures ends { Leads result (LinesEnd config catalogue lines) }
     ensures sound { IfOk result IsSound }
 {
     match lines {
@@ -148,9 +149,8 @@ fn ask_script<F: Files>(
     files: &mut F,
 ) -> Result<Lines, Stop>
     requires within { IsWithin catalogue.now }
-    ensures ends { LinesLead (length config.now.nodes) catalogue.now result (ScriptStageEnds
-        (F.contents files.old) (F.fault_count files.old) (F.fault_count files.new)
-        command.now config.now catalogue.now) }
+    ensures ends { LinesLead config.now catalogue.now result (ScriptStageEnds (F.contents files.old)
+        (F.fault_count files.old) (F.fault_count files.new) command.now config.now catalogue.now) }
     ensures playable { IfOk result IsPlayable }
     ensures few { IfOk result (λ _. IsFew (length config.now.nodes)) }
 {
@@ -170,7 +170,7 @@ fn ask_lines(
 ) -> Result<Lines, Stop>
     requires within { IsWithin catalogue.now }
     requires short { IfSome script.now (λ text. length text ≤ 4194304) }
-    ensures ends { LinesLead (length config.now.nodes) catalogue.now result (TextsEnds command.now
+    ensures ends { LinesLead config.now catalogue.now result (TextsEnds command.now
         config.now catalogue.now script.now) }
     ensures playable { IfOk result IsPlayable }
     ensures few { IfOk result (λ _. IsFew (length config.now.nodes)) }
@@ -193,7 +193,7 @@ fn built_lines(
 ) -> Result<Lines, Stop>
     requires within { IsWithin catalogue.now }
     requires read { IsReading script.now (map line_of lines) }
-    ensures ends { LinesLead (length config.now.nodes) catalogue.now result (TextsEnds command.now
+    ensures ends { LinesLead config.now catalogue.now result (TextsEnds command.now
         config.now catalogue.now script.now) }
     ensures playable { IfOk result IsPlayable }
     ensures few { IfOk result (λ _. IsFew (length config.now.nodes)) }
@@ -230,7 +230,8 @@ fn way_of(
 
 /// Whether all that was read asks for sessions, as they are built: then whether with their journal.
 fn sessions_of(command: &Command, config: &Config, lines: &[ScriptLine]) -> Option<bool>
-    ensures { IsSome result ↔ FitsSessions command.now config.now (map line_of lines.now) }
+    ensures fits { IsSome result ↔ FitsSessions command.now config.now (map line_of lines.now) }
+    ensures journal { IfSome result (λ journal. journal ≡ keeps_journal command.now) }
 {
     if !are_few(config.nodes.len()) || !are_keeping(lines) {
         return None;

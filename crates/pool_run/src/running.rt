@@ -40,11 +40,10 @@ pub fn run<F: Files, O: Sink, B: Backend>(
     requires enough { 8 ≤ length shelf.old.items }
     requires fresh { AreFresh B.meaning B.is_honest B.is_prompt B.is_steady shelf.old.items }
     // Each status comes with its cause, and with what was written.
-    ensures { Returns (map
-        (λ w. w.now) words.now) (F.contents files.old) (F.fault_count files.old) (F.fault_count
-        files.new) result (outside (O.fault_count out.old) (O.fault_count out.new) (O.taken
-        out.old) (O.taken out.new) (map B.meaning shelf.old.items) (map B.meaning
-        shelf.new.items)) }
+    ensures { Returns (map (λ w. w.now) words.now) (F.contents files.old) (F.fault_count files.old)
+        (F.fault_count files.new) result (outside (O.fault_count out.old) (O.fault_count out.new)
+        (O.taken out.old) (O.taken out.new) (map B.meaning shelf.old.items)
+        (map B.meaning shelf.new.items)) }
 {
     let asked = ask(alloc, words, files);
     let status = carry_out(alloc, &asked, out, shelf);
@@ -89,14 +88,8 @@ fn run_plan<O: Sink, B: Backend>(
     match plan.lines.way {
         Way::OneClient => {
             let script = plan.lines.script.as_slice();
-            run_script(
-                alloc,
-                &plan.catalogue,
-                script,
-                plan.config.nodes.len(),
-                out,
-                shelf,
-            )
+            let count = plan.config.nodes.len();
+            run_script(alloc, &plan.catalogue, script, count, out, shelf)
         }
         Way::Sessions { journal } => run_sessions(alloc, plan, journal, out, shelf),
     }

@@ -1,11 +1,12 @@
 //! A script of sessions is played over the first boxes of a shelf.
-ghost use Rattle.std.specs.Prelude.{◌≡◌, ◌≤◌, ◌⊎◌, List as Sequence, length, map, take};
+ghost use Rattle.std.specs.Prelude.{◌≡◌, ◌≤◌, ◌⊎◌, List as Sequence, [], true, length, map, take};
 ghost use Rattle.backend_trait.specs.Store.{Store};
 ghost use Rattle.pool_run.specs.declared.status.Status.TheVariants.{Done, NoneLeft};
-ghost use Rattle.pgproto.specs.Line.{line_of};
-ghost use Rattle.pool_run.specs.Ends.{outside, SeveralEnds};
-ghost use Rattle.pool_run.specs.Plan.{IsSound};
+ghost use Rattle.pool_run.specs.Ends.{outside};
+ghost use Rattle.pool_run.specs.Plan.{IsSound, SessionsEnd};
 ghost use Rattle.pool_run.specs.Shelf.{AreFresh, ArePrepared};
+ghost use Rattle.session_seat.specs.Shared.{IsFirst, shared_of};
+ghost use Rattle.session_seat.specs.declared.book.Journal.TheVariants.{On};
 
 use crate::plan::Plan;
 use crate::running::prepare_first;
@@ -18,6 +19,7 @@ use session_seat::{Journal, Setting, World};
 use sql_copies::catalogue_copied;
 use std::alloc::Global;
 use std::mem;
+use world_plays::plays_are_runs;
 
 /// Plays the script of a plan as sessions, over as many boxes as the configuration has backends.
 #[tactic(auto, using(crate::proofs::Ending::grows_none))]
@@ -31,10 +33,9 @@ pub(crate) fn run_sessions<O: Sink, B: Backend>(
     requires sound { IsSound plan.now }
     requires enough { 8 ≤ length shelf.old.items }
     requires fresh { AreFresh B.meaning B.is_honest B.is_prompt B.is_steady shelf.old.items }
-    ensures { SeveralEnds (map line_of plan.now.lines.script) result
-        (outside (O.fault_count out.old) (O.fault_count out.new)
-        (O.taken out.old) (O.taken out.new) (map B.meaning shelf.old.items)
-        (map B.meaning shelf.new.items)) }
+    ensures { SessionsEnd journal plan.now result (outside (O.fault_count out.old)
+        (O.fault_count out.new) (O.taken out.old) (O.taken out.new)
+        (map B.meaning shelf.old.items) (map B.meaning shelf.new.items)) }
 {
     let count = plan.config.nodes.len();
     match prepare_first(shelf.as_mut_slice(), count, &plan.catalogue) {
@@ -47,7 +48,9 @@ pub(crate) fn run_sessions<O: Sink, B: Backend>(
 }
 
 /// The journal, where one is to be kept.
-fn journal_at(alloc: Global, is_kept: bool) -> Journal {
+fn journal_at(alloc: Global, is_kept: bool) -> Journal
+    ensures { is_kept ≡ true → result ≡ On [] }
+{
     if is_kept {
         Journal::On(List::new(alloc))
     } else {
@@ -69,17 +72,14 @@ fn play_sessions<O: Sink, B: Backend>(
     requires enough { length plan.now.config.nodes ≤ length shelf.old.items }
     requires each { ArePrepared B.meaning B.is_honest B.is_prompt B.is_steady plan.now.catalogue
         (take (length plan.now.config.nodes) shelf.old.items) }
-    ensures { SeveralEnds (map line_of plan.now.lines.script) result
-        (outside (O.fault_count out.old) (O.fault_count out.new)
-        (O.taken out.old) (O.taken out.new) (map B.meaning shelf.old.items)
-        (map B.meaning shelf.new.items)) }
+    ensures { SessionsEnd journal plan.now result (outside (O.fault_count out.old)
+        (O.fault_count out.new) (O.taken out.old) (O.taken out.new)
+        (map B.meaning shelf.old.items) (map B.meaning shelf.new.items)) }
 {
     let held = mem::replace(shelf, Vec::new(alloc));
+    let world = World::new(tables, held, plan.config.nodes.len());
     let mut worlds = Vec::new(alloc);
-    if worlds
-        .push(World::new(tables, held, plan.config.nodes.len()))
-        .is_err()
-    {
+    if worlds.push(world).is_err() {
         return Status::NoMemory;
     }
     let status = play_in(alloc, plan, journal, out, &mut worlds[0]);
@@ -99,8 +99,10 @@ fn play_in<O: Sink, B: Backend>(
     world: &mut World<B>,
 ) -> Status
     requires sound { IsSound plan.now }
-    ensures { (before after : Sequence Store) → SeveralEnds (map line_of plan.now.lines.script)
-        result (outside (O.fault_count out.old) (O.fault_count out.new) (O.taken out.old)
+    requires first { IsFirst plan.now.catalogue (length plan.now.config.nodes) (shared_of B.meaning
+        world.old.gate.state world.old.tables world.old.count world.old.shelf.items) }
+    ensures { (before after : Sequence Store) → SessionsEnd journal plan.now result
+        (outside (O.fault_count out.old) (O.fault_count out.new) (O.taken out.old)
         (O.taken out.new) before after) }
 {
     let setting = Setting {
@@ -110,6 +112,7 @@ fn play_in<O: Sink, B: Backend>(
         moment: 0,
     };
     let script = plan.lines.script.as_slice();
+    plays_are_runs();
     match play(setting, script, world, journal_at(alloc, journal), out) {
         Ok(attached) => ended(attached),
         Err(PlayFault::NoMemory) => Status::NoMemory,

@@ -1,6 +1,6 @@
 //! The texts that a command names, and what is built.
 ghost use Rattle.std.specs.Prelude.{◌≡◌, ◌<◌, ◌≤◌, IsTrue, ◌↔◌, IfOk, IfErr, IfSome, IsSome, length, true, string_bytes};
-ghost use Rattle.pool_run.specs.Texts.{config_name, schema_name, is_plain, is_play, IsRead, IsScriptRead};
+ghost use Rattle.pool_run.specs.Texts.{config_name, schema_name, is_plain, is_play, keeps_journal, IsRead, IsScriptRead};
 ghost use Rattle.pool_run.specs.Reading.{IsFault};
 ghost use Rattle.pool_run.specs.Ends.{fault_line};
 
@@ -129,7 +129,8 @@ pub fn are_few(count: usize) -> bool
 
 /// How the command plays a script: with its journal, or without. None: it plays none.
 pub fn journal_of(command: &Command) -> Option<bool>
-    ensures { IsSome result ↔ (is_play command.now ≡ true) }
+    ensures play { IsSome result ↔ (is_play command.now ≡ true) }
+    ensures journal { IfSome result (λ journal. journal ≡ keeps_journal command.now) }
 {
     match command {
         Command::Play { journal, .. } => Some(*journal),

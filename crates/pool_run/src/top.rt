@@ -9,6 +9,7 @@ ghost use Rattle.pool_run.specs.Texts.{config_name, schema_name};
 ghost use Rattle.pool_run.specs.Ways.{SaysOneClient};
 ghost use Rattle.pool_run.specs.Schemas.{IsRefusedSchema};
 ghost use Rattle.pool_run.specs.Scripts.{IsRefusedScript};
+ghost use Rattle.pool_run.specs.Journals.{PlayedAsOneStore};
 ghost use Rattle.pool_run.specs.Ends.{outside, Returns, Played, TextIsRefused, IsRefusedText, ScriptIsRefused};
 
 use crate::running::run;
@@ -48,6 +49,13 @@ pub fn pool_run<F: Files, O: Sink>(
         → Played (F.contents files.old config) (F.contents files.old schema) text
         (outside (O.fault_count out.old) (O.fault_count out.new) (O.taken out.old) (O.taken out.new)
         (map (λ x. meaning x) shelf.old.items) (map (λ x. meaning x) shelf.new.items)) }
+    // Status 0 or 6, where the journal is kept: behind the transcript of the script that the file
+    // contains stands a journal, whose events are a schedule of the replicated world that the
+    // configuration and the schema say, and so of one run of one store.
+    ensures one_store { (result ≡ 0) ⊎ (result ≡ 6) → (config schema script : Sequence ℕ)
+        → command_of (map (λ w. w.now) words.now) ≡ Some (Play config schema script true)
+        → PlayedAsOneStore (F.contents files.old config) (F.contents files.old schema)
+        (F.contents files.old script) (O.taken out.old) (O.taken out.new) }
     // Status 1: exactly where the words are no command, unless its line could not be written or
     // memory was refused while they were read.
     ensures no_command { result ≡ 1 → command_of (map (λ w. w.now) words.now) ≡ None }

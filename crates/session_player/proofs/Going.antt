@@ -13,7 +13,6 @@ use Rattle.pool_base.proofs.Sinking.{appends_on}
 use Rattle.pool_base.specs.declared.session_id.SessionId.{SessionId}
 use Rattle.pool_base.specs.declared.backend_id.BackendId.{BackendId}
 use Rattle.schema.specs.declared.catalogue.TableDef.{TableDef}
-use Rattle.snapshot_gate.specs.declared.state.GateState.{GateState}
 use Rattle.session_machine.specs.declared.action.SessionEvent.{SessionEvent}
 use Rattle.session_machine.specs.declared.action.SessionEvent.TheVariants as events
 use Rattle.session_machine.specs.declared.machine.Machine.{Machine}
@@ -26,8 +25,9 @@ use Rattle.session_seat.specs.declared.book.Journal.TheVariants.{Off, On}
 use Rattle.session_seat.specs.declared.step.Step.{Step}
 use Rattle.session_seat.specs.declared.step.Step.TheVariants as steps
 use Rattle.session_seat.specs.Told.{Entry, Of, Loses, added, told_of, told_lost, told, lines}
-use Rattle.session_seat.specs.Schedule.{Moves, State, state, with_machine, IsSchedule}
-use Rattle.session_seat.specs.Steps.{Stand, at, Tells, Stays, IsStep}
+use Rattle.session_seat.specs.Shared.{Shared, IsLoss}
+use Rattle.session_seat.specs.Schedule.{Moves, State, state, first_state, with_machine, IsSchedule}
+use Rattle.session_seat.specs.Steps.{Stand, at, IsBefore, Stays, IsStep}
 use Rattle.session_player.specs.declared.slots.Client.{Client}
 use Rattle.session_player.specs.declared.slots.Slot.{Slot}
 use Rattle.session_player.specs.declared.slots.Slot.TheVariants.{Free, Taken}
@@ -35,7 +35,7 @@ use Rattle.session_player.specs.Slots.{IsPlaced, is_taken}
 use Rattle.pgproto.specs.Line.{Line}
 use Rattle.session_player.specs.Written.{Grew, AreParts}
 use Rattle.session_player.proofs.Walking.{taken_all}
-use Rattle.session_player.specs.Journals.{machine_in_slot, machines_of, state_of, first_state, Went, Goes, IsPut, IsJournaled}
+use Rattle.session_player.specs.Journals.{machine_in_slot, machines_of, state_of, Went, Goes, IsPut, IsJournaled}
 
 -- Lines behind lines.
 
@@ -51,16 +51,16 @@ lines_on : (tables : List TableDef) (xs ys : List Entry) → lines tables (xs ++
 lines_on tables [] ys = refl
 lines_on tables (x ∷ xs) ys = ap (λ z. told tables x ++ z) (lines_on tables xs ys) ∙ sym (append_assoc (told tables x) (lines tables xs) (lines tables ys))
 
-schedule_on : (a b c : State) (xs ys : List Entry) → IsSchedule a xs b → IsSchedule b ys c → IsSchedule a (xs ++ ys) c
-schedule_on a b c [] ys is more = subst (λ z. IsSchedule z ys c) is more
-schedule_on a b c (x ∷ xs) ys (mid, comes, is) more = (mid, comes, schedule_on mid b c xs ys is more)
+schedule_on : (tables : List TableDef) (a b c : State) (xs ys : List Entry) → IsSchedule tables a xs b → IsSchedule tables b ys c → IsSchedule tables a (xs ++ ys) c
+schedule_on tables a b c [] ys is more = subst (λ z. IsSchedule tables z ys c) is more
+schedule_on tables a b c (x ∷ xs) ys (mid, comes, is) more = (mid, comes, schedule_on tables mid b c xs ys is more)
 
 pub went_none : (tables : List TableDef) (a : State) (j k : Journal) → k ≡ j → Went tables a j a k
 went_none tables a j k same = ([], refl, same ∙ added_none j)
 
 pub went_on : (tables : List TableDef) (a b c : State) (j k l : Journal) → Went tables a j b k → Went tables b k c l → Went tables a j c l
 went_on tables a b c j k l (xs, is, tells) (ys, more, behind) =
-    (xs ++ ys, schedule_on a b c xs ys is more, behind ∙ (ap (λ z. added z (lines tables ys)) tells ∙ (added_on j (lines tables xs) (lines tables ys) ∙ ap (added j) (sym (lines_on tables xs ys)))))
+    (xs ++ ys, schedule_on tables a b c xs ys is more, behind ∙ (ap (λ z. added z (lines tables ys)) tells ∙ (added_on j (lines tables xs) (lines tables ys) ∙ ap (added j) (sym (lines_on tables xs ys)))))
 
 -- One session's machine among all.
 
@@ -105,61 +105,68 @@ with_here all s m = ap (λ (b : Bool). if b then m else all s) (itself s.number)
 
 goes_stays : (tables : List TableDef) (s : SessionId) (old new : Stand) → Stays old new → Goes tables s old new
 goes_stays tables s old new stays all is =
-    ([], (λ i. record { gate = stays.gate i; machines = (ap (with_machine all s) stays.machine ∙ with_self all s old.machine is) i }), stays.journal ∙ added_none old.journal)
+    ([], (λ i. record { shared = stays.shared i; machines = (ap (with_machine all s) stays.machine ∙ with_self all s old.machine is) i }), stays.journal ∙ added_none old.journal)
 
-one_comes : (s : SessionId) (event : SessionEvent) (old new : Stand) (all : SessionId → Machine) → all s ≡ old.machine → Moves old.gate old.machine event new.gate new.machine
-    → IsSchedule (state old.gate all) (Of s event ∷ []) (state new.gate (with_machine all s new.machine))
-one_comes s event old new all is moves =
+pub goes_on : (tables : List TableDef) (s : SessionId) (a b c : Stand) → Goes tables s a b → Goes tables s b c → Goes tables s a c
+goes_on tables s a b c one two all is =
+    let mid : SessionId → Machine = with_machine all s b.machine in
+    let last : Went tables (state b.shared mid) b.journal (state c.shared (with_machine mid s c.machine)) c.journal = two mid (with_here all s b.machine) in
+    went_on tables (state a.shared all) (state b.shared mid) (state c.shared (with_machine all s c.machine)) a.journal b.journal c.journal (one all is)
+    (subst (λ (z : SessionId → Machine). Went tables (state b.shared mid) b.journal (state c.shared z) c.journal) (with_twice all s b.machine c.machine) last)
+
+one_comes : (tables : List TableDef) (s : SessionId) (event : SessionEvent) (old new : Stand) (all : SessionId → Machine) → all s ≡ old.machine → Moves tables s old.shared old.machine event new.shared new.machine
+    → IsSchedule tables (state old.shared all) (Of s event ∷ []) (state new.shared (with_machine all s new.machine))
+one_comes tables s event old new all is moves =
     let here : with_machine all s new.machine s ≡ new.machine = with_here all s new.machine in (
-      state new.gate (with_machine all s new.machine),
+      state new.shared (with_machine all s new.machine),
       (
-        subst (λ (m : Machine). Moves old.gate m event new.gate (with_machine all s new.machine s)) (sym is) (subst (λ (m : Machine). Moves old.gate old.machine event new.gate m) (sym here) moves),
+        subst (λ (m : Machine). Moves tables s old.shared m event new.shared (with_machine all s new.machine s)) (sym is)
+            (subst (λ (m : Machine). Moves tables s old.shared old.machine event new.shared m) (sym here) moves),
         ap (with_machine all s) (sym here),
       ),
       refl,
     )
 
-goes_told : (tables : List TableDef) (s : SessionId) (event : SessionEvent) (old new : Stand) → Moves old.gate old.machine event new.gate new.machine
+goes_told : (tables : List TableDef) (s : SessionId) (event : SessionEvent) (old new : Stand) → Moves tables s old.shared old.machine event new.shared new.machine
     → new.journal ≡ added old.journal (told_of tables s event) → Goes tables s old new
 goes_told tables s event old new moves tells all is =
-    (Of s event ∷ [], one_comes s event old new all is moves, tells ∙ ap (added old.journal) (sym (append-nil (told_of tables s event))))
+    (Of s event ∷ [], one_comes tables s event old new all is moves, tells ∙ ap (added old.journal) (sym (append-nil (told_of tables s event))))
 
-goes_lost : (tables : List TableDef) (s : SessionId) (event : SessionEvent) (b : BackendId) (old new : Stand) → Moves old.gate old.machine event new.gate new.machine
-    → new.journal ≡ added (added old.journal (told_lost b)) (told_of tables s event) → Goes tables s old new
-goes_lost tables s event b old new moves tells all is = (
-  Loses b ∷ Of s event ∷ [],
-  (state old.gate all, refl, one_comes s event old new all is moves),
-  tells ∙ (added_on old.journal (told_lost b) (told_of tables s event) ∙ ap (λ (z : List ℕ). added old.journal (told_lost b ++ z)) (sym (append-nil (told_of tables s event)))),
+-- the loss of a backend moves no machine
+goes_lost : (tables : List TableDef) (s : SessionId) (b : BackendId) (old new : Stand) → IsLoss old.shared b new.shared → new.machine ≡ old.machine → new.journal ≡ added old.journal (told_lost b) → Goes tables s old new
+goes_lost tables s b old new loss same tells all is = (
+  Loses b ∷ [],
+  (state new.shared (with_machine all s new.machine), (loss, ap (with_machine all s) same ∙ with_self all s old.machine is), refl),
+  tells ∙ ap (added old.journal) (sym (append-nil (told_lost b))),
 )
 
-goes_event : (tables : List TableDef) (s : SessionId) (event : SessionEvent) (old new : Stand) → Moves old.gate old.machine event new.gate new.machine
-    → Tells tables s event old.journal new.journal → Goes tables s old new
-goes_event tables s (events.Ordered order) old new moves tells = goes_told tables s (events.Ordered order) old new moves tells
-goes_event tables s (events.Called call answer) old new moves tells = goes_told tables s (events.Called call answer) old new moves tells
-goes_event tables s (events.Posted b request) old new moves tells = goes_told tables s (events.Posted b request) old new moves tells
-goes_event tables s (events.Taken b answer) old new moves tells = goes_told tables s (events.Taken b answer) old new moves tells
-goes_event tables s (events.Faulted b before later) old new moves (inl tells) = goes_told tables s (events.Faulted b before later) old new moves tells
-goes_event tables s (events.Faulted b before later) old new moves (inr tells) = goes_lost tables s (events.Faulted b before later) b old new moves tells
-goes_event tables s (events.Detached b cause answer) old new moves tells = goes_told tables s (events.Detached b cause answer) old new moves tells
-goes_event tables s (events.Swapped b) old new moves tells = goes_told tables s (events.Swapped b) old new moves tells
-goes_event tables s (events.Replied outcome status) old new moves tells = goes_told tables s (events.Replied outcome status) old new moves tells
-goes_event tables s events.Ended old new moves tells = goes_told tables s events.Ended old new moves tells
+goes_at : (tables : List TableDef) (s : SessionId) (event : SessionEvent) (old mid new : Stand) → mid ≡ old → Moves tables s mid.shared mid.machine event new.shared new.machine
+    → new.journal ≡ added mid.journal (told_of tables s event) → Goes tables s old new
+goes_at tables s event old mid new same moves tells = subst (λ (z : Stand). Goes tables s z new) same (goes_told tables s event mid new moves tells)
+
+-- the event, and the loss of a backend that may come before it
+goes_event : (tables : List TableDef) (s : SessionId) (event : SessionEvent) (old mid new : Stand) → IsBefore event old mid → Moves tables s mid.shared mid.machine event new.shared new.machine
+    → new.journal ≡ added mid.journal (told_of tables s event) → Goes tables s old new
+goes_event tables s (events.Ordered order) old mid new first moves tells = goes_at tables s (events.Ordered order) old mid new first moves tells
+goes_event tables s (events.Called call answer) old mid new first moves tells = goes_at tables s (events.Called call answer) old mid new first moves tells
+goes_event tables s (events.Posted b request) old mid new first moves tells = goes_at tables s (events.Posted b request) old mid new first moves tells
+goes_event tables s (events.Taken b answer) old mid new first moves tells = goes_at tables s (events.Taken b answer) old mid new first moves tells
+goes_event tables s (events.Faulted b before later) old mid new (inl same) moves tells = goes_at tables s (events.Faulted b before later) old mid new same moves tells
+goes_event tables s (events.Faulted b before later) old mid new (inr (loss, (same, lost))) moves tells =
+    goes_on tables s old mid new (goes_lost tables s b old mid loss same lost) (goes_told tables s (events.Faulted b before later) mid new moves tells)
+goes_event tables s (events.Detached b cause answer) old mid new first moves tells = goes_at tables s (events.Detached b cause answer) old mid new first moves tells
+goes_event tables s (events.Swapped b) old mid new first moves tells = goes_at tables s (events.Swapped b) old mid new first moves tells
+goes_event tables s (events.Replied outcome status) old mid new first moves tells = goes_at tables s (events.Replied outcome status) old mid new first moves tells
+goes_event tables s events.Ended old mid new first moves tells = goes_at tables s events.Ended old mid new first moves tells
 
 pub goes_none : (tables : List TableDef) (s : SessionId) (stand : Stand) → Goes tables s stand stand
-goes_none tables s stand = goes_stays tables s stand stand (record { gate = refl; machine = refl; journal = refl })
+goes_none tables s stand = goes_stays tables s stand stand (record { shared = refl; machine = refl; journal = refl })
 
 pub goes_step : (tables : List TableDef) (policy : ReadPolicy) (s : SessionId) (old new : Stand) (step : Step) → IsStep tables policy s old step new → Goes tables s old new
-goes_step tables policy s old new (steps.Did mark) is = goes_event tables s is.event old new is.moves is.tells
+goes_step tables policy s old new (steps.Did mark) is = goes_event tables s is.event old is.between new is.first is.moves is.tells
 goes_step tables policy s old new steps.Waits is = goes_stays tables s old new is
 goes_step tables policy s old new steps.Idle is = goes_stays tables s old new is
 goes_step tables policy s old new steps.Closed is = goes_stays tables s old new is.0
-
-pub goes_on : (tables : List TableDef) (s : SessionId) (a b c : Stand) → Goes tables s a b → Goes tables s b c → Goes tables s a c
-goes_on tables s a b c one two all is =
-    let mid : SessionId → Machine = with_machine all s b.machine in
-    let last : Went tables (state b.gate mid) b.journal (state c.gate (with_machine mid s c.machine)) c.journal = two mid (with_here all s b.machine) in
-    went_on tables (state a.gate all) (state b.gate mid) (state c.gate (with_machine all s c.machine)) a.journal b.journal c.journal (one all is)
-    (subst (λ (z : SessionId → Machine). Went tables (state b.gate mid) b.journal (state c.gate z) c.journal) (with_twice all s b.machine c.machine) last)
 
 -- a step behind others, of the same session
 pub goes_more : (tables : List TableDef) (policy : ReadPolicy) (s t : SessionId) (a b c : Stand) (step : Step) → t ≡ s → Goes tables s a b → IsStep tables policy t b step c → Goes tables s a c
@@ -196,7 +203,7 @@ set_at policy slots i slot s t is below = elim (eqb_tells t.number s.number) [
       ∙ ap (λ (b : Bool). if b then machine_in_slot policy s slot else machines_of policy slots t) (sym p.0)
 ]
 
-pub went_slot : (tables : List TableDef) (policy : ReadPolicy) (slots : List Slot) (i : ℕ) (old new : Slot) (s : SessionId) (g h : GateState) (j k : Journal)
+pub went_slot : (tables : List TableDef) (policy : ReadPolicy) (slots : List Slot) (i : ℕ) (old new : Slot) (s : SessionId) (g h : Shared) (j k : Journal)
     → s.number ≡ suc i → i < length slots → old ≡ get_or slots i old → Goes tables s (at g (machine_in_slot policy s old) j) (at h (machine_in_slot policy s new) k)
     → Went tables (state_of policy g slots) j (state_of policy h (set slots i new)) k
 went_slot tables policy slots i old new s g h j k is below read goes =
@@ -206,7 +213,7 @@ went_slot tables policy slots i old new s g h j k is below read goes =
     subst (λ (z : SessionId → Machine). Went tables (state_of policy g slots) j (state h z) k) (sym all) (goes (machines_of policy slots) here)
 
 -- what the client of a slot did, its slot did
-pub goes_in : (tables : List TableDef) (policy : ReadPolicy) (s : SessionId) (before : ℕ) (slot new : Slot) (client : Client) (g h : GateState) (j k : Journal) (m : Machine)
+pub goes_in : (tables : List TableDef) (policy : ReadPolicy) (s : SessionId) (before : ℕ) (slot new : Slot) (client : Client) (g h : Shared) (j k : Journal) (m : Machine)
     → s.number ≡ suc before → IsPlaced before slot → slot ≡ Taken client → Goes tables client.seat.s (at g (machine_in client.seat.core) j) (at h m k) → (client.seat.s ≡ s → machine_in_slot policy s new ≡ m)
     → Goes tables s (at g (machine_in_slot policy s slot) j) (at h (machine_in_slot policy s new) k)
 goes_in tables policy s before slot new client g h j k m is placed taken goes left =
@@ -252,19 +259,18 @@ whole_again n new rest is = take-append-le n new rest (omega (arith, is)) ∙ ta
 
 -- One part of a play behind another.
 
-pub went_round : (tables : List TableDef) (policy : ReadPolicy) (a : State) (g h : GateState) (j k l : Journal) (xs ys zs ws : List Slot) → ys ≡ xs → ws ≡ zs → Went tables a j (state_of policy g xs) k
+pub went_round : (tables : List TableDef) (policy : ReadPolicy) (a : State) (g h : Shared) (j k l : Journal) (xs ys zs ws : List Slot) → ys ≡ xs → ws ≡ zs → Went tables a j (state_of policy g xs) k
     → Went tables (state_of policy g ys) k (state_of policy h zs) l → Went tables a j (state_of policy h ws) l
 went_round tables policy a g h j k l xs ys zs ws read written first last =
     went_on tables a (state_of policy g xs) (state_of policy h ws) j k l first
     (subst (λ (z : List Slot). Went tables (state_of policy g xs) k (state_of policy h z) l) (sym written)
     (subst (λ (z : List Slot). Went tables (state_of policy g z) k (state_of policy h zs) l) read last))
 
--- a backend is lost, or was so before
-pub went_lost : (tables : List TableDef) (b : BackendId) (g h : GateState) (all : SessionId → Machine) (j k : Journal) → h ≡ g → (k ≡ j) ⊎ (k ≡ added j (told_lost b)) → Went tables (state g all) j (state h all) k
-went_lost tables b g h all j k same (inl none) = subst (λ (z : GateState). Went tables (state g all) j (state z all) k) (sym same) (went_none tables (state g all) j k none)
-went_lost tables b g h all j k same (inr lost) =
-    subst (λ (z : GateState). Went tables (state g all) j (state z all) k) (sym same)
-    (Loses b ∷ [], (state g all, refl, refl), lost ∙ ap (added j) (sym (append-nil (told_lost b))))
+-- a backend is lost, where it was not so before
+pub went_lost : (tables : List TableDef) (b : BackendId) (g h : Shared) (all : SessionId → Machine) (j k : Journal) (is_new : Bool) → (is_new ≡ true → IsLoss g b h) → (is_new ≡ false → h ≡ g)
+    → k ≡ (if is_new then added j (told_lost b) else j) → Went tables (state g all) j (state h all) k
+went_lost tables b g h all j k true lost same tells = (Loses b ∷ [], (state h all, (lost refl, refl), refl), tells ∙ ap (added j) (sym (append-nil (told_lost b))))
+went_lost tables b g h all j k false lost same tells = subst (λ (z : Shared). Went tables (state g all) j (state z all) k) (sym (same refl)) (went_none tables (state g all) j k tells)
 
 -- the journal is written behind its header
 pub put_on : (config : Config) (tables : List TableDef) (journal : Journal) (kept header : List ℕ) (a b c : Option (List ℕ)) → journal ≡ On kept → IsHeader config tables header → Appends a b header → Appends b c kept
@@ -277,13 +283,13 @@ on_ok_always (Ok x) holds = holds
 on_ok_always (Err e) holds = tt
 
 -- all machines and the journal are as before
-pub went_kept : (tables : List TableDef) (policy : ReadPolicy) (g : GateState) (xs ys : List Slot) (j k : Journal) → machines_of policy ys ≡ machines_of policy xs → k ≡ j
+pub went_kept : (tables : List TableDef) (policy : ReadPolicy) (g : Shared) (xs ys : List Slot) (j k : Journal) → machines_of policy ys ≡ machines_of policy xs → k ≡ j
     → Went tables (state_of policy g xs) j (state_of policy g ys) k
 went_kept tables policy g xs ys j k same told_same =
     subst (λ (z : SessionId → Machine). Went tables (state_of policy g xs) j (state g z) k) (sym same) (went_none tables (state_of policy g xs) j k told_same)
 
 -- what is played behind something reads the same tables and configuration
-pub went_behind : (tables used : List TableDef) (config read : Config) (a : State) (g h : GateState) (xs ys : List Slot) (j k l : Journal)
+pub went_behind : (tables used : List TableDef) (config read : Config) (a : State) (g h : Shared) (xs ys : List Slot) (j k l : Journal)
     → used ≡ tables → read ≡ config → Went tables a j (state_of (policy_in config) g xs) k
     → Went used (state_of (policy_in read) g xs) k (state_of (policy_in read) h ys) l → Went tables a j (state_of (policy_in config) h ys) l
 went_behind tables used config read a g h xs ys j k l same own first last =
@@ -292,21 +298,21 @@ went_behind tables used config read a g h xs ys j k l same own first last =
 
 -- Before a play every slot is free, and behind it stands the journal.
 
-journaled_by : (config : Config) (tables : List TableDef) (script : List Line) (journal k : Journal) (g h : GateState) (free ys : List Slot) (a b c : Option (List ℕ))
+journaled_by : (config : Config) (tables : List TableDef) (script : List Line) (journal k : Journal) (g h : Shared) (free ys : List Slot) (a b c : Option (List ℕ))
     → ((n : ℕ) → get_or free n Free ≡ Free) → AreParts script a b → Went tables (state_of (policy_in config) g free) journal (state_of (policy_in config) h ys) k
     → (told : Option (List ℕ)) × Grew b told × IsPut config tables k told c → IsJournaled config tables script journal g h a c
 journaled_by config tables script journal k g h free ys a b c none parts (entries, is, tells) (told, grew, put) =
-    let first : state_of (policy_in config) g free ≡ first_state (policy_in config) g = λ x. record { gate = g; machines = λ s. ap (machine_in_slot (policy_in config) s) (none (s.number - 1)) x } in
+    let first : state_of (policy_in config) g free ≡ first_state (policy_in config) g = λ x. record { shared = g; machines = λ s. ap (machine_in_slot (policy_in config) s) (none (s.number - 1)) x } in
     record {
       entries = entries;
       machines = machines_of (policy_in config) ys;
-      schedule = subst (λ (z : State). IsSchedule z entries (state_of (policy_in config) h ys)) first is;
+      schedule = subst (λ (z : State). IsSchedule tables z entries (state_of (policy_in config) h ys)) first is;
       transcript = told;
       played = (b, parts, grew);
       put = subst (λ (z : Journal). IsPut config tables z told c) tells put;
     }
 
-pub journaled : (config : Config) (tables : List TableDef) (script : List Line) (journal i j k : Journal) (g mid h : GateState) (free xs ys : List Slot) (a b c : Option (List ℕ))
+pub journaled : (config : Config) (tables : List TableDef) (script : List Line) (journal i j k : Journal) (g mid h : Shared) (free xs ys : List Slot) (a b c : Option (List ℕ))
     → ((n : ℕ) → get_or free n Free ≡ Free) → i ≡ journal → AreParts script a b → Went tables (state_of (policy_in config) g free) i (state_of (policy_in config) mid xs) j
     → Went tables (state_of (policy_in config) mid xs) j (state_of (policy_in config) h ys) k
     → (told : Option (List ℕ)) × Grew b told × IsPut config tables k told c → IsJournaled config tables script journal g h a c

@@ -5,7 +5,6 @@ use Rattle.pool_base.specs.declared.session_id.SessionId.{SessionId}
 use Rattle.pool_config.specs.declared.config.Config.{Config}
 use Rattle.schema.specs.declared.catalogue.TableDef.{TableDef}
 use Rattle.journal.specs.Header.{IsHeader}
-use Rattle.snapshot_gate.specs.declared.state.GateState.{GateState}
 use Rattle.session_machine.specs.declared.machine.Machine.{Machine}
 use Rattle.session_machine.specs.declared.machine.ReadPolicy.{ReadPolicy}
 use Rattle.session_machine.specs.Rules.{new_machine}
@@ -14,7 +13,8 @@ use Rattle.session_seat.specs.declared.book.Journal.{Journal}
 use Rattle.session_seat.specs.declared.book.Journal.TheVariants.{Off, On}
 use Rattle.session_seat.specs.Policy.{policy_in}
 use Rattle.session_seat.specs.Told.{Entry, added, lines}
-use Rattle.session_seat.specs.Schedule.{State, state, with_machine, IsSchedule}
+use Rattle.session_seat.specs.Shared.{Shared}
+use Rattle.session_seat.specs.Schedule.{State, state, first_state, with_machine, IsSchedule}
 use Rattle.session_seat.specs.Steps.{Stand}
 use Rattle.pgproto.specs.Line.{Line}
 use Rattle.session_player.specs.declared.slots.Slot.{Slot}
@@ -29,32 +29,28 @@ machine_in_slot policy s (Taken client) = machine_in client.seat.core
 abbrev pub machines_of : ReadPolicy → List Slot → SessionId → Machine
 machines_of policy slots s = machine_in_slot policy s (slice_index_or slots (s.number - 1) Free)
 
-abbrev pub state_of : ReadPolicy → GateState → List Slot → State
-state_of policy gate slots = state gate (machines_of policy slots)
-
--- before a play no client is connected
-abbrev pub first_state : ReadPolicy → GateState → State
-first_state policy gate = state gate (λ s. new_machine s policy)
+abbrev pub state_of : ReadPolicy → Shared → List Slot → State
+state_of policy shared slots = state shared (machines_of policy slots)
 
 -- a schedule leads from one state to the other, and the journal tells of it, line by line
 abbrev pub Went : List TableDef → State → Journal → State → Journal → Type 0
-Went tables old journal new journal_then = (entries : List Entry) × IsSchedule old entries new × (journal_then ≡ added journal (lines tables entries))
+Went tables old journal new journal_then = (entries : List Entry) × IsSchedule tables old entries new × (journal_then ≡ added journal (lines tables entries))
 
 -- so does one of session s alone, wherever the others stand
 abbrev pub Goes : List TableDef → SessionId → Stand → Stand → Type 0
 Goes tables s old new =
-    (all : SessionId → Machine) → all s ≡ old.machine → Went tables (state old.gate all) old.journal (state new.gate (with_machine all s new.machine)) new.journal
+    (all : SessionId → Machine) → all s ≡ old.machine → Went tables (state old.shared all) old.journal (state new.shared (with_machine all s new.machine)) new.journal
 
 -- a journal that is kept was written behind its header
 abbrev pub IsPut : Config → List TableDef → Journal → Option (List ℕ) → Option (List ℕ) → Type 0
 IsPut config tables Off old new = new ≡ old
 IsPut config tables (On kept) old new = (header : List ℕ) × IsHeader config tables header × Appends old new (header ++ kept)
 
--- behind the transcript of a script stands the journal of a schedule, which leads from the start, with this gate, to that gate
-pub record IsJournaled (config : Config) (tables : List TableDef) (script : List Line) (journal : Journal) (first last : GateState) (old new : Option (List ℕ)) : Type 0 where
+-- behind the transcript of a script stands the journal of a schedule, which leads from the start, where this is shared, to where that is
+pub record IsJournaled (config : Config) (tables : List TableDef) (script : List Line) (journal : Journal) (first last : Shared) (old new : Option (List ℕ)) : Type 0 where
   pub entries : List Entry
   pub machines : SessionId → Machine
-  pub schedule : IsSchedule (first_state (policy_in config) first) entries (state last machines)
+  pub schedule : IsSchedule tables (first_state (policy_in config) first) entries (state last machines)
   pub transcript : Option (List ℕ)
   pub played : ArePlayed script old transcript
   pub put : IsPut config tables (added journal (lines tables entries)) transcript new

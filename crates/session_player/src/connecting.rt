@@ -8,6 +8,7 @@ ghost use Rattle.session_machine.specs.declared.machine.ReadPolicy.{ReadPolicy};
 ghost use Rattle.session_machine.specs.Rules.{new_machine};
 ghost use Rattle.session_engine.specs.Cores.{machine_in};
 ghost use Rattle.session_seat.specs.Policy.{policy_in};
+ghost use Rattle.session_seat.specs.Shared.{shared_of};
 ghost use Rattle.session_seat.specs.Schedule.{state};
 ghost use Rattle.session_player.specs.Deeds.{CanBeSent};
 ghost use Rattle.session_player.specs.Journals.{Went, machine_in_slot, machines_of};
@@ -165,16 +166,18 @@ pub(crate) fn lose<B: Backend>(
     book: &mut Book,
 ) -> Result<Then, StepFault>
     ensures went { (machines : SessionId → Machine) → OnOk result (Went setting.entry.tables.now
-        (state world.old.gate.state machines) book.old.journal
-        (state world.new.gate.state machines) book.new.journal) }
+        (state (shared_of B.meaning world.old.gate.state world.old.tables world.old.count
+        world.old.shelf.items) machines) book.old.journal
+        (state (shared_of B.meaning world.new.gate.state world.new.tables world.new.count
+        world.new.shelf.items) machines) book.new.journal) }
     ensures boxes { length world.new.shelf.items ≡ length world.old.shelf.items }
 {
     if !world.is_configured(b) {
         tell_none(setting.alloc, b, book)?;
         return Ok(Then::Rounds);
     }
-    world.lose(b);
-    note_loss(setting, b, world, book)?;
+    let is_new = world.lose(b);
+    note_loss(setting, b, is_new, book)?;
     Ok(Then::Rounds)
 }
 

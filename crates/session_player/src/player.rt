@@ -10,6 +10,7 @@ ghost use Rattle.schema_print.specs.Printed.{AreInRange};
 ghost use Rattle.pool_base.specs.declared.session_id.SessionId.{SessionId};
 ghost use Rattle.session_machine.specs.declared.machine.ReadPolicy.{ReadPolicy};
 ghost use Rattle.session_seat.specs.Policy.{policy_in};
+ghost use Rattle.session_seat.specs.Shared.{shared_of};
 ghost use Rattle.session_player.specs.declared.fault.PlayFault.TheVariants as faults;
 ghost use Rattle.session_player.specs.Journals.{IsJournaled, IsPut, Went, machine_in_slot, machines_of, state_of};
 ghost use Rattle.session_player.specs.Slots.{ArePlaced, IsPlaced};
@@ -56,11 +57,14 @@ pub fn play<B: Backend, O: Sink>(
     // For each line its echo was written, and behind it what is told.
     ensures all { OnOk result (ArePlayed (map line_of script.now) (O.taken out.old)
         (O.taken out.new)) }
-    // The journal behind it tells of a schedule: from the gate as it stood, and no client
-    // connected, to the gate as it stands.
+    // The journal behind it tells of a schedule: from the gate and the stores as they stood, and
+    // no client connected, to the gate and the stores as they stand.
     ensures journal { OnOk result (IsJournaled setting.entry.config.now setting.entry.tables.now
-        (map line_of script.now) journal world.old.gate.state world.new.gate.state
-        (O.taken out.old) (O.taken out.new)) }
+        (map line_of script.now) journal
+        (shared_of B.meaning world.old.gate.state world.old.tables world.old.count
+        world.old.shelf.items)
+        (shared_of B.meaning world.new.gate.state world.new.tables world.new.count
+        world.new.shelf.items) (O.taken out.old) (O.taken out.new)) }
     // What was taken begins with what had been taken, whatever the answer.
     ensures grows { Grew (O.taken out.old) (O.taken out.new) }
     ensures boxes { length world.new.shelf.items ≡ length world.old.shelf.items }
@@ -92,11 +96,11 @@ fn play_lines<B: Backend, O: Sink>(
     requires grammar { AllByRecursion IsOfGrammar (map line_of script.now) }
     requires within { IsWithin setting.tables.now }
     ensures went { OnOk result (Went setting.entry.tables.now
-        (state_of (policy_in setting.entry.config.now) world.old.gate.state
-        scene.old.seats.slots.items)
+        (state_of (policy_in setting.entry.config.now) (shared_of B.meaning world.old.gate.state
+        world.old.tables world.old.count world.old.shelf.items) scene.old.seats.slots.items)
         scene.old.book.journal
-        (state_of (policy_in setting.entry.config.now) world.new.gate.state
-        scene.new.seats.slots.items)
+        (state_of (policy_in setting.entry.config.now) (shared_of B.meaning world.new.gate.state
+        world.new.tables world.new.count world.new.shelf.items) scene.new.seats.slots.items)
         scene.new.book.journal) }
     ensures parts { OnOk result (AreParts (map line_of script.now) (O.taken out.old)
         (O.taken out.new)) }
@@ -123,11 +127,11 @@ fn play_part<B: Backend, O: Sink>(
     requires grammar { IsOfGrammar (line_of line.now) }
     requires within { IsWithin setting.tables.now }
     ensures went { OnOk result (Went setting.entry.tables.now
-        (state_of (policy_in setting.entry.config.now) world.old.gate.state
-        scene.old.seats.slots.items)
+        (state_of (policy_in setting.entry.config.now) (shared_of B.meaning world.old.gate.state
+        world.old.tables world.old.count world.old.shelf.items) scene.old.seats.slots.items)
         scene.old.book.journal
-        (state_of (policy_in setting.entry.config.now) world.new.gate.state
-        scene.new.seats.slots.items)
+        (state_of (policy_in setting.entry.config.now) (shared_of B.meaning world.new.gate.state
+        world.new.tables world.new.count world.new.shelf.items) scene.new.seats.slots.items)
         scene.new.book.journal) }
     ensures part { OnOk result (IsPart (line_of line.now) (O.taken out.old) (O.taken out.new)) }
     ensures grows { Grew (O.taken out.old) (O.taken out.new) }
@@ -164,11 +168,11 @@ fn play_line<B: Backend>(
     requires grammar { IsOfGrammar (line_of line.now) }
     requires within { IsWithin setting.tables.now }
     ensures went { OnOk result (Went setting.entry.tables.now
-        (state_of (policy_in setting.entry.config.now) world.old.gate.state
-        scene.old.seats.slots.items)
+        (state_of (policy_in setting.entry.config.now) (shared_of B.meaning world.old.gate.state
+        world.old.tables world.old.count world.old.shelf.items) scene.old.seats.slots.items)
         scene.old.book.journal
-        (state_of (policy_in setting.entry.config.now) world.new.gate.state
-        scene.new.seats.slots.items)
+        (state_of (policy_in setting.entry.config.now) (shared_of B.meaning world.new.gate.state
+        world.new.tables world.new.count world.new.shelf.items) scene.new.seats.slots.items)
         scene.new.book.journal) }
     ensures boxes { length world.new.shelf.items ≡ length world.old.shelf.items }
 {
@@ -192,11 +196,11 @@ fn do_line<B: Backend>(
 ) -> Result<Then, StepFault>
     requires { IsOfGrammar (line_of line.now) }
     ensures went { OnOk result (Went setting.entry.tables.now
-        (state_of (policy_in setting.entry.config.now) world.old.gate.state
-        scene.old.seats.slots.items)
+        (state_of (policy_in setting.entry.config.now) (shared_of B.meaning world.old.gate.state
+        world.old.tables world.old.count world.old.shelf.items) scene.old.seats.slots.items)
         scene.old.book.journal
-        (state_of (policy_in setting.entry.config.now) world.new.gate.state
-        scene.new.seats.slots.items)
+        (state_of (policy_in setting.entry.config.now) (shared_of B.meaning world.new.gate.state
+        world.new.tables world.new.count world.new.shelf.items) scene.new.seats.slots.items)
         scene.new.book.journal) }
     ensures boxes { length world.new.shelf.items ≡ length world.old.shelf.items }
 {
@@ -251,11 +255,11 @@ fn play_end<B: Backend, O: Sink>(
     requires in_range { AreInRange setting.tables.now }
     requires config { IsAllowed setting.config.now }
     ensures went { OnOk result (Went setting.entry.tables.now
-        (state_of (policy_in setting.entry.config.now) world.old.gate.state
-        scene.old.seats.slots.items)
+        (state_of (policy_in setting.entry.config.now) (shared_of B.meaning world.old.gate.state
+        world.old.tables world.old.count world.old.shelf.items) scene.old.seats.slots.items)
         scene.old.book.journal
-        (state_of (policy_in setting.entry.config.now) world.new.gate.state
-        scene.new.seats.slots.items)
+        (state_of (policy_in setting.entry.config.now) (shared_of B.meaning world.new.gate.state
+        world.new.tables world.new.count world.new.shelf.items) scene.new.seats.slots.items)
         scene.new.book.journal) }
     ensures put { OnOk result ((told : Maybe (Sequence ℕ)) × Grew (O.taken out.old) told
         × IsPut setting.entry.config.now setting.entry.tables.now scene.new.book.journal told

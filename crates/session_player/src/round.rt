@@ -15,6 +15,7 @@ ghost use Rattle.session_machine.specs.Rules.{new_machine};
 ghost use Rattle.session_engine.specs.Cores.{machine_in};
 ghost use Rattle.session_seat.specs.declared.seat.Turn.TheVariants.{Held};
 ghost use Rattle.session_seat.specs.Policy.{policy_in};
+ghost use Rattle.session_seat.specs.Shared.{shared_of};
 ghost use Rattle.session_seat.specs.Steps.{at};
 ghost use Rattle.session_player.specs.declared.round.TurnEnd.TheVariants.{Rests, Closed};
 ghost use Rattle.session_player.specs.Journals.{Goes, Went, machine_in_slot, state_of};
@@ -69,8 +70,10 @@ fn take_steps<B: Backend>(
 ) -> Result<TurnEnd, StepFault>
     requires within { IsWithin setting.tables.now }
     ensures goes { OnOk result (Goes setting.entry.tables.now seat.old.s
-        (at world.old.gate.state (machine_in seat.old.core) book.old.journal)
-        (at world.new.gate.state (machine_in seat.new.core) book.new.journal)) }
+        (at (shared_of B.meaning world.old.gate.state world.old.tables world.old.count
+        world.old.shelf.items) (machine_in seat.old.core) book.old.journal)
+        (at (shared_of B.meaning world.new.gate.state world.new.tables world.new.count
+        world.new.shelf.items) (machine_in seat.new.core) book.new.journal)) }
     ensures closed { IfOk result (λ end. end ≡ Closed → machine_in seat.new.core ≡
         new_machine seat.old.s (policy_in setting.entry.config.now)) }
     ensures same { seat.new.s ≡ seat.old.s }
@@ -109,8 +112,10 @@ fn turn_of<B: Backend>(
 ) -> Result<TurnEnd, StepFault>
     requires within { IsWithin setting.tables.now }
     ensures goes { OnOk result (Goes setting.entry.tables.now client.old.seat.s
-        (at world.old.gate.state (machine_in client.old.seat.core) book.old.journal)
-        (at world.new.gate.state (machine_in client.new.seat.core) book.new.journal)) }
+        (at (shared_of B.meaning world.old.gate.state world.old.tables world.old.count
+        world.old.shelf.items) (machine_in client.old.seat.core) book.old.journal)
+        (at (shared_of B.meaning world.new.gate.state world.new.tables world.new.count
+        world.new.shelf.items) (machine_in client.new.seat.core) book.new.journal)) }
     ensures closed { IfOk result (λ end. end ≡ Closed → machine_in client.new.seat.core ≡
         new_machine client.old.seat.s (policy_in setting.entry.config.now)) }
     ensures held { client.old.seat.turn ≡ Held → client.new ≡ client.old }
@@ -137,9 +142,11 @@ fn turn<B: Backend>(
     requires within { IsWithin setting.tables.now }
     ensures goes { (before : ℕ) → (s : SessionId) → s.number ≡ suc before
         → IsPlaced before slot.old → OnOk result (Goes setting.entry.tables.now s
-        (at world.old.gate.state (machine_in_slot (policy_in setting.entry.config.now) s slot.old)
+        (at (shared_of B.meaning world.old.gate.state world.old.tables world.old.count
+        world.old.shelf.items) (machine_in_slot (policy_in setting.entry.config.now) s slot.old)
         book.old.journal)
-        (at world.new.gate.state (machine_in_slot (policy_in setting.entry.config.now) s slot.new)
+        (at (shared_of B.meaning world.new.gate.state world.new.tables world.new.count
+        world.new.shelf.items) (machine_in_slot (policy_in setting.entry.config.now) s slot.new)
         book.new.journal)) }
     ensures held { IsHeld slot.old → slot.new ≡ slot.old }
     ensures quiet { IsHeld slot.old → book.new ≡ book.old }
@@ -167,9 +174,11 @@ fn round<B: Backend>(
     requires placed { ArePlaced 0 slots.old }
     requires few { length slots.old ≤ 64 }
     ensures went { OnOk result (Went setting.entry.tables.now
-        (state_of (policy_in setting.entry.config.now) world.old.gate.state slots.old)
+        (state_of (policy_in setting.entry.config.now) (shared_of B.meaning world.old.gate.state
+        world.old.tables world.old.count world.old.shelf.items) slots.old)
         book.old.journal
-        (state_of (policy_in setting.entry.config.now) world.new.gate.state slots.new)
+        (state_of (policy_in setting.entry.config.now) (shared_of B.meaning world.new.gate.state
+        world.new.tables world.new.count world.new.shelf.items) slots.new)
         book.new.journal) }
     ensures placed { ArePlaced 0 slots.new }
     ensures boxes { length world.new.shelf.items ≡ length world.old.shelf.items }
@@ -189,9 +198,11 @@ pub(crate) fn rounds<B: Backend>(
 ) -> Result<(), StepFault>
     requires within { IsWithin setting.tables.now }
     ensures went { OnOk result (Went setting.entry.tables.now
-        (state_of (policy_in setting.entry.config.now) world.old.gate.state seats.old.slots.items)
+        (state_of (policy_in setting.entry.config.now) (shared_of B.meaning world.old.gate.state
+        world.old.tables world.old.count world.old.shelf.items) seats.old.slots.items)
         book.old.journal
-        (state_of (policy_in setting.entry.config.now) world.new.gate.state seats.new.slots.items)
+        (state_of (policy_in setting.entry.config.now) (shared_of B.meaning world.new.gate.state
+        world.new.tables world.new.count world.new.shelf.items) seats.new.slots.items)
         book.new.journal) }
     ensures boxes { length world.new.shelf.items ≡ length world.old.shelf.items }
 {
@@ -215,9 +226,11 @@ fn turn_until<B: Backend>(
     requires within { IsWithin setting.tables.now }
     ensures goes { (before : ℕ) → (s : SessionId) → s.number ≡ suc before
         → IsPlaced before slot.old → OnOk result (Goes setting.entry.tables.now s
-        (at world.old.gate.state (machine_in_slot (policy_in setting.entry.config.now) s slot.old)
+        (at (shared_of B.meaning world.old.gate.state world.old.tables world.old.count
+        world.old.shelf.items) (machine_in_slot (policy_in setting.entry.config.now) s slot.old)
         book.old.journal)
-        (at world.new.gate.state (machine_in_slot (policy_in setting.entry.config.now) s slot.new)
+        (at (shared_of B.meaning world.new.gate.state world.new.tables world.new.count
+        world.new.shelf.items) (machine_in_slot (policy_in setting.entry.config.now) s slot.new)
         book.new.journal)) }
     ensures held { OnOk result (IsHeldOrFree slot.new) }
     ensures placed { (before : ℕ) → IsPlaced before slot.old → IsPlaced before slot.new }
@@ -247,9 +260,11 @@ pub(crate) fn go_until<B: Backend>(
 ) -> Result<(), StepFault>
     requires within { IsWithin setting.tables.now }
     ensures went { OnOk result (Went setting.entry.tables.now
-        (state_of (policy_in setting.entry.config.now) world.old.gate.state seats.old.slots.items)
+        (state_of (policy_in setting.entry.config.now) (shared_of B.meaning world.old.gate.state
+        world.old.tables world.old.count world.old.shelf.items) seats.old.slots.items)
         book.old.journal
-        (state_of (policy_in setting.entry.config.now) world.new.gate.state seats.new.slots.items)
+        (state_of (policy_in setting.entry.config.now) (shared_of B.meaning world.new.gate.state
+        world.new.tables world.new.count world.new.shelf.items) seats.new.slots.items)
         book.new.journal) }
     ensures boxes { length world.new.shelf.items ≡ length world.old.shelf.items }
 {

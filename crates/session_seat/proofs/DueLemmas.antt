@@ -58,6 +58,7 @@ use Rattle.session_seat.specs.declared.seat.Seat.{Seat}
 use Rattle.session_seat.specs.declared.step.Step.{Step}
 use Rattle.session_seat.specs.declared.step.Step.TheVariants as steps
 use Rattle.session_seat.specs.Told.{added, told_of}
+use Rattle.session_seat.specs.Shared.{Shared}
 use Rattle.session_seat.specs.Steps.{at, TookPlace}
 use Rattle.session_seat.specs.Dues.{called, mark_of, Hears, LooksAt, WaitsFor, Follows, Rests, IsAsked, IsOfTurn, IsDue}
 use Rattle.session_seat.specs.Stops.{IsFull, IsGarbled, IsNoMessage, IsTold, IsUnfit, MayPostAt, StopsAtPost, StopsTelling, StopsAtReply, StopsBehind, StopsAtRest, WorldView, StopsAsked, StopsTurn, Stops}
@@ -207,14 +208,17 @@ pub called_may : (m : Machine) (g h : GateState) (call : GateCall) (answer : Gat
 called_may m g h call answer asked is free =
     subst (λ (a : Action). MayHappen m (gate_event a answer)) (sym (called_due (next_action m) call asked)) (called_as m g h call answer asked is free)
 
-pub called_place : (tables : List TableDef) (s : SessionId) (m n : Machine) (g h : GateState) (j k : Journal) (call : GateCall) (answer : GateAnswer) → asked_of (next_action m) ≡ asks.Gate call
-    → gates.MayCall g call → (h, answer) ≡ gates.step g call → is_held answer ≡ false → n ≡ after m (gate_event (next_action m) answer) → k ≡ added j (told_of tables s (events.Called call answer))
-    → TookPlace tables s (at g m j) (at h n k)
-called_place tables s m n g h j k call answer asked may is free leads tells = record {
+pub called_place : (tables : List TableDef) (s : SessionId) (m n : Machine) (old new : Shared) (j k : Journal) (call : GateCall) (answer : GateAnswer) → asked_of (next_action m) ≡ asks.Gate call
+    → gates.MayCall old.gate call → (new.gate, answer) ≡ gates.step old.gate call → new.stores ≡ old.stores → is_held answer ≡ false → n ≡ after m (gate_event (next_action m) answer)
+    → k ≡ added j (told_of tables s (events.Called call answer)) → TookPlace tables s (at old m j) (at new n k)
+called_place tables s m n old new j k call answer asked may is stores free leads tells = record {
   event = events.Called call answer;
+  between = at old m j;
+  first = refl;
   moves = record {
-    may = called_as m g h call answer asked is free;
+    may = called_as m old.gate new.gate call answer asked is free;
     answered = (may, is);
+    serves = stores;
     leads = leads ∙ ap (λ (a : Action). after m (gate_event a answer)) (called_due (next_action m) call asked);
   };
   tells = tells;
@@ -258,17 +262,20 @@ pub detached_may : (m : Machine) (g h : GateState) (b : BackendId) (answer : Gat
     → MayHappen m (gate_event (next_action m) answer)
 detached_may m g h b answer due is = detached_at m (next_action m) answer refl due (detached_answer g h b answer is)
 
-pub detached_place : (tables : List TableDef) (s : SessionId) (m n : Machine) (g h : GateState) (j k : Journal) (b : BackendId) (answer : GateAnswer) → asked_of (next_action m) ≡ asks.Detach b
-    → (h, answer) ≡ gates.step g (calls.Detach b) → n ≡ after m (gate_event (next_action m) answer)
+pub detached_place : (tables : List TableDef) (s : SessionId) (m n : Machine) (old new : Shared) (j k : Journal) (b : BackendId) (answer : GateAnswer) → asked_of (next_action m) ≡ asks.Detach b
+    → (new.gate, answer) ≡ gates.step old.gate (calls.Detach b) → new.stores ≡ old.stores → n ≡ after m (gate_event (next_action m) answer)
     → (cause : Cause) × Detaches (next_action m) cause × (k ≡ added j (told_of tables s (events.Detached b cause answer)))
-    → TookPlace tables s (at g m j) (at h n k)
-detached_place tables s m n g h j k b answer asked is leads (cause, of, tells) =
+    → TookPlace tables s (at old m j) (at new n k)
+detached_place tables s m n old new j k b answer asked is stores leads (cause, of, tells) =
     let due : next_action m ≡ actions.Detach b cause = detached_due (next_action m) b cause asked of in
     record {
       event = events.Detached b cause answer;
+      between = at old m j;
+      first = refl;
       moves = record {
-        may = (due, detached_answer g h b answer is);
+        may = (due, detached_answer old.gate new.gate b answer is);
         answered = is;
+        serves = stores;
         leads = leads ∙ ap (λ (a : Action). after m (gate_event a answer)) due;
       };
       tells = tells;
@@ -361,7 +368,7 @@ rests_by {E} tables moment used view after_it found next r same is here =
     where_ok r (λ did follows. (next, after_it, subst (λ (t : ℤ). IsNext tables t view next after_it) same (subst (λ (w : WireStep). IsNext tables used view w after_it) here is), follows))
 
 pub rest_stop : {T : Type 0} (tables : List TableDef) (moment used : ℤ) (policy : ReadPolicy) (s : SessionId) (m : Machine) (view after_it : View) (found next : WireStep) (count : ℕ) (r : Result T StepFault) → used ≡ moment
-    → IsNext tables used view found after_it → found ≡ next → IfErr r (λ e. e ≡ Stopped → IsFull count ⊎ StopsBehind policy s m next after_it)
+    → IsNext tables used view found after_it → found ≡ next → IfErr r (λ e. e ≡ Stopped → IsFull count ⊎ StopsBehind tables policy s m next after_it)
     → IfErr r (λ e. e ≡ Stopped → IsFull count ⊎ StopsAtRest tables moment policy s m view)
 unfolding StopsAtRest
 rest_stop {T} tables moment used policy s m view after_it found next count r same is here =
@@ -400,10 +407,9 @@ pub form_as : (old new : Store) (s : ℕ) (polled : Polled) (a b c d : ℕ) → 
 form_as old new s polled a b c d first second form =
     subst (λ (n : ℕ). InForm old s polled n b new) (sym first) (subst (λ (n : ℕ). InForm old s polled c n new) (sym second) form)
 
-pub looks : {X E : Type 0} (meaning : X → Store) (is_prompt : X → Bool) (shelf : List X) (at s b : ℕ) (x y : X) (r : Result Looked E) → at ≡ b → at < length shelf → x ≡ get_or shelf at x
-    → IfOk r (λ looked. InForm (meaning x) s looked.polled looked.before looked.after (meaning y)) → IfOk r (λ looked. is_prompt x ≡ true → IsPromptly (meaning x) s looked.polled)
-    → IfOk r (λ looked. LooksAt meaning is_prompt shelf s b looked.polled)
-looks {X} {E} meaning is_prompt shelf at s b x y (Ok looked) same below read form promptly = record {
+pub looks : {X : Type 0} (meaning : X → Store) (is_prompt : X → Bool) (shelf : List X) (at s b : ℕ) (x y : X) (looked : Looked) → at ≡ b → at < length shelf → x ≡ get_or shelf at x
+    → InForm (meaning x) s looked.polled looked.before looked.after (meaning y) → (is_prompt x ≡ true → IsPromptly (meaning x) s looked.polled) → LooksAt meaning is_prompt shelf s b looked.polled
+looks {X} meaning is_prompt shelf at s b x y looked same below read form promptly = record {
   backend = x;
   there = subst (λ (n : ℕ). slice_get shelf n ≡ Some x) same (slice_get_read shelf (length shelf) at x refl below read);
   before = looked.before;
@@ -412,7 +418,6 @@ looks {X} {E} meaning is_prompt shelf at s b x y (Ok looked) same below read for
   form = form;
   promptly = promptly;
 }
-looks {X} {E} meaning is_prompt shelf at s b x y (Err e) same below read form promptly = tt
 
 pub heard_now : {X : Type 0} (meaning : X → Store) (is_prompt : X → Bool) (shelf : List X) (s : SessionId) (b : BackendId) (found polled : Polled) (did : Step)
     → LooksAt meaning is_prompt shelf s.number b.number found → found ≡ polled → Hears b polled did → WaitsFor meaning is_prompt shelf s b did

@@ -1,6 +1,6 @@
 -- What a post and an answer leave for each session.
 use Rattle.std.proofs.Common.{◌≡◌, ℕ, ◌==◌, Bool, true, false, ◌||◌, List, refl, sym, ap, ◌∙◌, subst, inl, inr}
-use Rattle.std.specs.Prelude.{Option, Some, None, if◌then◌else◌}
+use Rattle.std.specs.Prelude.{Option, Some, None, is_some, if◌then◌else◌}
 use Rattle.std.proofs.lemmas.Bool.Decides.{eqb_tells}
 use Rattle.schema.specs.declared.catalogue.TableDef.{TableDef}
 use Rattle.classifier.specs.Classes.{lock_of}
@@ -166,3 +166,18 @@ asks_at requests.Commit is = let never : awaiting.Nothing ≡ awaiting.End = is 
 asks_at requests.Rollback is = let never : awaiting.Nothing ≡ awaiting.End = is in absurd (cc)
 asks_at (requests.ReadSerial table) is = let never : awaiting.Nothing ≡ awaiting.Work = is in absurd (cc)
 asks_at (requests.SetSerial table n) is = let never : awaiting.Nothing ≡ awaiting.Work = is in absurd (cc)
+
+-- who waits for nothing has no request there, and who waits has one
+pub idle_known : (st : Store) (k : Known) (s : ℕ) → Tells k (line_of st s) → k.awaits ≡ awaiting.Nothing → st.pending s ≡ None
+idle_known st k s tells idle = by_pending (st.pending s) (sym idle ∙ tells.1.0)
+  where
+    by_pending : (waits : Option Pending) → awaiting.Nothing ≡ awaits_as (request_in waits) → waits ≡ None
+    by_pending None is = refl
+    by_pending (Some p) is = absurd (asks_at p.request is)
+
+pub waits_known : (st : Store) (k : Known) (s : ℕ) → Tells k (line_of st s) → (k.awaits ≡ awaiting.Nothing → ⊥) → is_some (st.pending s) ≡ true
+waits_known st k s tells waits = by_pending (st.pending s) tells.1.0
+  where
+    by_pending : (pending : Option Pending) → k.awaits ≡ awaits_as (request_in pending) → is_some pending ≡ true
+    by_pending None is = absurd (waits is)
+    by_pending (Some p) is = refl

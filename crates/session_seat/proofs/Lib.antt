@@ -1,4 +1,6 @@
 mod DueLemmas
 mod KnownLemmas
 mod RollLemmas
+mod ServedLemmas
+mod SharedLemmas
 mod StepLemmas

@@ -1,15 +1,21 @@
--- The rolls of the backends: one is read, and one is changed with its backend.
-use Rattle.std.proofs.Common.{◌≡◌, ◌≢◌, ℕ, ◌<◌, ◌≤◌, List, length, get_or, set, take, replicate, zero, suc, refl, sym, ap, ◌∙◌, subst, arith, inl, inr}
-use Rattle.std.specs.Prelude.{All, Some, slice_get}
+-- The rolls of the backends: one is read, and one is changed with its backend. And which backends are honest, and which are lost.
+use Rattle.std.proofs.Common.{◌≡◌, ◌≢◌, ℕ, ◌<◌, ◌≤◌, Bool, true, false, List, length, get_or, set, take, replicate, zero, suc, refl, sym, ap, ◌∙◌, subst, arith, inl, inr}
+use Rattle.std.specs.Prelude.{All, Some, ◌==◌, ◌%◌, ◌^◌, slice_get, if◌then◌else◌}
+use Rattle.std.proofs.Math.Nat.{zero-div}
 use Rattle.std.proofs.lemmas.Bool.Decides.{eqb_tells}
 use Rattle.std.proofs.lemmas.List.{get_or-set_same, get_or-set_other, length-set, length-take-le, get_or-take}
 use Rattle.std.proofs.lemmas.Option.{slice_get-get_or, slice_get_read, slice_get_within, get_or_from_slice_get}
+use Rattle.pool_base.specs.Sets.{has, Gains}
+use Rattle.pool_base.specs.declared.backend_set.BackendSet.{BackendSet}
 use Rattle.schema.specs.declared.catalogue.TableDef.{TableDef}
 use Rattle.backend_trait.specs.Store.{Store, prepared, lost_by}
+use Rattle.backend_trait.specs.Acts.{InForm}
+use Rattle.backend_trait.specs.declared.answer.Polled.{Polled}
+use Rattle.backend_trait.specs.declared.answer.Polled.TheVariants as polls
 use Rattle.session_seat.specs.declared.known.Known.{Known}
 use Rattle.session_seat.specs.declared.roll.Roll.{Roll}
 use Rattle.session_seat.specs.Known.{Knows, nothing_known}
-use Rattle.session_seat.specs.Rolls.{known_in, roll_at, no_roll, IsTrueOf, AreTrue}
+use Rattle.session_seat.specs.Rolls.{known_in, roll_at, no_roll, IsTrueOf, AreTrue, AreHonest, AreTold}
 use Rattle.session_seat.proofs.KnownLemmas.{prepared_known, lost_known}
 
 -- a roll of the same entry for all
@@ -81,3 +87,75 @@ known_lost meaning tables count shelf rolls at x y known below enough read lost 
     let was : IsTrueOf tables (roll_at rolls at) (meaning x) = known at x below there in
     known_set_alone meaning tables count shelf rolls at y known (omega (arith, below, enough))
     (subst (IsTrueOf tables (roll_at rolls at)) (sym lost) (was.0, lost_known (meaning x) (known_in (roll_at rolls at)) was.1))
+
+-- The honest ones.
+
+pub honest_first : {X : Type 0} (is_honest : X → Bool) (count : ℕ) (shelf : List X) → count ≤ length shelf → All (λ b. is_honest b ≡ true) (take count shelf) → AreHonest is_honest count shelf
+honest_first is_honest count shelf enough each b x below there =
+    let first : get_or (take count shelf) b x ≡ x = get_or-take count shelf b x below ∙ get_or_from_slice_get shelf b x x there in
+    ap is_honest (sym first) ∙ each b x (omega (arith, length-take-le count shelf enough, below))
+
+pub honest_at : {X : Type 0} (is_honest : X → Bool) (count : ℕ) (shelf : List X) (at : ℕ) (x : X) → AreHonest is_honest count shelf → at < count → count ≤ length shelf → x ≡ get_or shelf at x
+    → is_honest x ≡ true
+honest_at is_honest count shelf at x honest below enough read = honest at x below (slice_get_read shelf (length shelf) at x refl (omega (arith, below, enough)) read)
+
+-- no call changes whether one is honest
+pub honest_next : {X : Type 0} (is_honest : X → Bool) (count : ℕ) (shelf : List X) (at : ℕ) (x y : X)
+    → AreHonest is_honest count shelf → at < count → count ≤ length shelf → x ≡ get_or shelf at x → is_honest y ≡ is_honest x → AreHonest is_honest count (set shelf at y)
+honest_next is_honest count shelf at x y honest below enough read same b z under there = elim (eqb_tells b at) [
+  | inl p ↦
+      let here : z ≡ y = set_same shelf at y z (omega (arith, below, enough)) (subst (λ j. slice_get (set shelf at y) j ≡ Some z) p.1 there) in
+      ap is_honest here ∙ same ∙ honest_at is_honest count shelf at x honest below enough read
+  | inr p ↦ honest b z under (set_other shelf at b y z p.1 there)
+]
+
+-- The lost ones.
+
+pub none_in : (b : ℕ) → has 0 b ≡ false
+none_in b = ap (λ (n : ℕ). (n % 2) == 1) (zero-div (2 ^ b))
+
+pub told_first : {X : Type 0} (meaning : X → Store) (tables : List TableDef) (count : ℕ) (shelf : List X) → count ≤ length shelf → All (λ b. meaning b ≡ prepared tables) (take count shelf)
+    → AreTold meaning 0 count shelf
+told_first meaning tables count shelf enough each b x few below there =
+    let first : get_or (take count shelf) b x ≡ x = get_or-take count shelf b x below ∙ get_or_from_slice_get shelf b x x there in
+    let is : meaning x ≡ prepared tables = ap meaning (sym first) ∙ each b x (omega (arith, length-take-le count shelf enough, below)) in
+    none_in b ∙ sym (ap (λ (st : Store). st.lost) is)
+
+-- one is new, and is lost where the old one is
+pub told_next : {X : Type 0} (meaning : X → Store) (lost count : ℕ) (shelf : List X) (at : ℕ) (x y : X)
+    → AreTold meaning lost count shelf → at < count → count ≤ length shelf → x ≡ get_or shelf at x → (meaning y).lost ≡ (meaning x).lost → AreTold meaning lost count (set shelf at y)
+told_next meaning lost count shelf at x y told below enough read same b z few under there = elim (eqb_tells b at) [
+  | inl p ↦
+      let here : z ≡ y = set_same shelf at y z (omega (arith, below, enough)) (subst (λ j. slice_get (set shelf at y) j ≡ Some z) p.1 there) in
+      let was : slice_get shelf b ≡ Some x = ap (slice_get shelf) p.1 ∙ slice_get_read shelf (length shelf) at x refl (omega (arith, below, enough)) read in
+      told b x few under was ∙ sym same ∙ ap (λ w. (meaning w).lost) (sym here)
+  | inr p ↦ told b z few under (set_other shelf at b y z p.1 there)
+]
+
+-- one is lost, and the set has it
+pub told_lost : {X : Type 0} (meaning : X → Store) (lost next count : ℕ) (shelf : List X) (at own : ℕ) (y : X)
+    → AreTold meaning lost count shelf → at ≡ own → at < length shelf → Gains lost next own → (meaning y).lost ≡ true → AreTold meaning next count (set shelf at y)
+told_lost meaning lost next count shelf at own y told same inside gains is b z few under there = elim (eqb_tells b own) [
+  | inl p ↦
+      let here : z ≡ y = set_same shelf at y z inside (subst (λ j. slice_get (set shelf at y) j ≡ Some z) (p.1 ∙ sym same) there) in
+      gains b few ∙ ap (λ (c : Bool). if c then true else has lost b) p.0 ∙ sym is ∙ ap (λ w. (meaning w).lost) (sym here)
+  | inr p ↦
+      gains b few ∙ ap (λ (c : Bool). if c then true else has lost b) p.0
+      ∙ told b z few under (set_other shelf at b y z (λ e. p.1 (e ∙ same)) there)
+]
+
+-- behind a poll, where the set has one more if it was a loss
+pub told_polled : {X : Type 0} (meaning : X → Store) (lost next : BackendSet) (count : ℕ) (shelf : List X) (at own s : ℕ) (x y : X) (polled : Polled) (before after : ℕ)
+    → AreTold meaning lost.bits count shelf → at ≡ own → at < count → count ≤ length shelf → x ≡ get_or shelf at x → InForm (meaning x) s polled before after (meaning y)
+    → (polled ≡ polls.Lost → Gains lost.bits next.bits own) → ((polled ≡ polls.Lost → ⊥) → next ≡ lost) → AreTold meaning next.bits count (set shelf at y)
+told_polled {X} meaning lost next count shelf at own s x y polled before after told same below enough read form gains stays = by_polled polled form gains stays
+  where
+    kept : next ≡ lost → (meaning y).lost ≡ (meaning x).lost → AreTold meaning next.bits count (set shelf at y)
+    kept is alike = subst (λ (l : BackendSet). AreTold meaning l.bits count (set shelf at y)) (sym is) (told_next meaning lost.bits count shelf at x y told below enough read alike)
+
+    by_polled : (p : Polled) → InForm (meaning x) s p before after (meaning y) → (p ≡ polls.Lost → Gains lost.bits next.bits own) → ((p ≡ polls.Lost → ⊥) → next ≡ lost)
+        → AreTold meaning next.bits count (set shelf at y)
+    by_polled (polls.Answered answer) found more none = kept (none (λ e. absurd (cc))) (found.stays ∙ sym found.not_lost)
+    by_polled polls.NotYet found more none = kept (none (λ e. absurd (cc))) found.1
+    by_polled polls.Lost found more none = told_lost meaning lost.bits next.bits count shelf at own y told same (omega (arith, below, enough)) (more refl) found.1
+    by_polled polls.NoMemory found more none = kept (none (λ e. absurd (cc))) found.1

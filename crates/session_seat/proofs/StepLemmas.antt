@@ -1,8 +1,8 @@
 -- What is due of a session and what comes of it, and where a step leads.
 use mathlib.Core.HLevel.{is_prop→PathP}
 use native.Mathlib.Bridge.{le_prop}
-use Rattle.std.proofs.Common.{◌≡◌, ◌≤◌, ℕ, List, Result, Ok, Err, refl, sym, ap, ◌∙◌, inl, inr}
-use Rattle.std.specs.Prelude.{IfOk, OnOk, ◌⊎◌}
+use Rattle.std.proofs.Common.{◌≡◌, ◌≤◌, ℕ, Bool, true, false, List, Result, Ok, Err, refl, sym, ap, ◌∙◌, inl, inr}
+use Rattle.std.specs.Prelude.{IfOk, OnOk, if◌then◌else◌}
 use Rattle.pool_base.specs.declared.backend_id.BackendId.{BackendId}
 use Rattle.pool_base.specs.declared.session_id.SessionId.{SessionId}
 use Rattle.schema.specs.declared.catalogue.TableDef.{TableDef}
@@ -25,8 +25,10 @@ use Rattle.session_seat.specs.declared.book.Journal.{Journal}
 use Rattle.session_seat.specs.declared.step.Step.{Step}
 use Rattle.session_seat.specs.declared.step.Step.TheVariants as steps
 use Rattle.session_seat.specs.Told.{added, told_of, told_lost}
+use Rattle.session_seat.specs.Shared.{Serves}
 use Rattle.session_seat.specs.Schedule.{led}
-use Rattle.session_seat.specs.Steps.{IsDid, Stand, TookPlace, IsStep}
+use Rattle.session_seat.specs.Steps.{IsDid, Stand, at, TookPlace, IsStep}
+use Rattle.session_seat.proofs.ServedLemmas.{IsLostAt, not_lost, lost_before, stores_lost, lost_now, still_waits, lost_again}
 
 -- What is asked for is the post of a request.
 pub post_due : (action : Action) (b : BackendId) (request : Request) → asked_of action ≡ asks.Post b → Posts action request → action ≡ actions.Post b request
@@ -96,24 +98,41 @@ took tables policy s old new steps.Closed is place = absurd is
 -- a request was posted
 pub posted_step : {E : Type 0} (tables : List TableDef) (policy : ReadPolicy) (s : SessionId) (old new : Stand) (b : BackendId) (request : Request) (text : List ℕ) (result : Result Step E)
     → IfOk result IsDid → OnOk result (new.machine ≡ led old.machine (events.Posted b request)) → OnOk result (new.journal ≡ added old.journal text)
-    → new.gate ≡ old.gate → MayHappen old.machine (events.Posted b request) → added old.journal text ≡ added old.journal (told_of tables s (events.Posted b request))
-    → IfOk result (λ step. IsStep tables policy s old step new)
-posted_step tables policy s old new b request text (Ok step) is leads line gate may same =
-    took tables policy s old new step is (record { event = events.Posted b request; moves = record { may = may; answered = gate; leads = leads }; tells = line ∙ same })
-posted_step tables policy s old new b request text (Err fault) is leads line gate may same = tt
+    → new.shared.gate ≡ old.shared.gate → OnOk result (Serves tables old.shared.stores s.number (events.Posted b request) new.shared.stores) → MayHappen old.machine (events.Posted b request)
+    → added old.journal text ≡ added old.journal (told_of tables s (events.Posted b request)) → IfOk result (λ step. IsStep tables policy s old step new)
+posted_step tables policy s old new b request text (Ok step) is leads line gate serves may same =
+    took tables policy s old new step is
+    (record { event = events.Posted b request; between = old; first = refl; moves = record { may = may; answered = gate; serves = serves; leads = leads }; tells = line ∙ same })
+posted_step tables policy s old new b request text (Err fault) is leads line gate serves may same = tt
 
--- a backend was found lost; the journal tells of the loss before, where no session has seen it
-pub missed_step : {E : Type 0} (tables : List TableDef) (policy : ReadPolicy) (s : SessionId) (old new : Stand) (mid : Journal) (b : BackendId) (before later : ℕ) (result : Result Step E)
-    → (mid ≡ old.journal) ⊎ (mid ≡ added old.journal (told_lost b)) → IfOk result IsDid → MayHappen old.machine (events.Faulted b before later)
+-- a backend was found lost; where no session has seen it before, it is lost first, and the journal tells of that
+pub missed_step : {E : Type 0} (tables : List TableDef) (policy : ReadPolicy) (s : SessionId) (old new : Stand) (mid : Journal) (b : BackendId) (before later : ℕ) (is_new : Bool) (result : Result Step E)
+    → mid ≡ (if is_new then added old.journal (told_lost b) else old.journal) → IfOk result IsDid → MayHappen old.machine (events.Faulted b before later)
     → OnOk result (new.machine ≡ led old.machine (events.Faulted b before later)) → OnOk result (new.journal ≡ added mid (told_of tables s (events.Faulted b before later)))
-    → new.gate ≡ old.gate → IfOk result (λ step. IsStep tables policy s old step new)
-missed_step tables policy s old new mid b before later (Ok step) (inl none) is may leads line gate =
+    → new.shared.gate ≡ old.shared.gate → IsLostAt old.shared.stores b.number s.number is_new new.shared.stores → IfOk result (λ step. IsStep tables policy s old step new)
+missed_step tables policy s old new mid b before later true (Ok step) seen is may leads line gate lost =
+    let was = old.shared.stores in
+    let now = new.shared.stores in
     took tables policy s old new step is
-    (record { event = events.Faulted b before later; moves = record { may = may; answered = gate; leads = leads }; tells = inl (line ∙ ap (λ (j : Journal). added j (told_of tables s (events.Faulted b before later))) none) })
-missed_step tables policy s old new mid b before later (Ok step) (inr lost) is may leads line gate =
+    (record {
+      event = events.Faulted b before later;
+      between = at new.shared old.machine mid;
+      first = inr (record { not_lost = not_lost was now b.number s.number lost; gate = gate; stores = stores_lost was now b.number s.number true lost }, (refl, seen));
+      moves = record { may = may; answered = refl; serves = (lost_now was now b.number s.number true lost, (still_waits was now b.number s.number true lost, refl)); leads = leads };
+      tells = line;
+    })
+missed_step tables policy s old new mid b before later false (Ok step) seen is may leads line gate lost =
+    let was = old.shared.stores in
+    let now = new.shared.stores in
     took tables policy s old new step is
-    (record { event = events.Faulted b before later; moves = record { may = may; answered = gate; leads = leads }; tells = inr (line ∙ ap (λ (j : Journal). added j (told_of tables s (events.Faulted b before later))) lost) })
-missed_step tables policy s old new mid b before later (Err fault) seen is may leads line gate = tt
+    (record {
+      event = events.Faulted b before later;
+      between = old;
+      first = inl refl;
+      moves = record { may = may; answered = gate; serves = (lost_before was now b.number s.number lost, (lost.waits, lost_again was now b.number s.number lost)); leads = leads };
+      tells = line ∙ ap (λ (j : Journal). added j (told_of tables s (events.Faulted b before later))) seen;
+    })
+missed_step tables policy s old new mid b before later is_new (Err fault) seen is may leads line gate lost = tt
 
 -- A session is its number.
 

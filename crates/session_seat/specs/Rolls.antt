@@ -1,7 +1,8 @@
--- The rolls of the backends: each says of its backend what is so.
-use Rattle.std.specs.Prelude.{◌≡◌, ℕ, ◌<◌, List, [], Some, slice_get, slice_index_or}
+-- The rolls of the backends: each says of its backend what is so. And which of the backends are honest, and which are lost.
+use Rattle.std.specs.Prelude.{◌≡◌, ℕ, ◌<◌, Bool, true, List, [], Some, slice_get, slice_index_or}
 use Rattle.std.specs.Coded.{×_prop, Π_prop}
 use Rattle.std.proofs.Props.{props}
+use Rattle.pool_base.specs.Sets.{has}
 use Rattle.schema.specs.declared.catalogue.TableDef.{TableDef}
 use Rattle.backend_trait.specs.Store.{Store}
 use Rattle.session_seat.specs.declared.known.Known.{Known}
@@ -30,3 +31,17 @@ IsTrueOf-prop tables roll st = ×_prop (Prim.hlevel props) (Π_prop (λ s. ×_pr
 
 pub prop : {X : Type 0} (meaning : X → Store) (tables : List TableDef) (count : ℕ) (shelf : List X) (rolls : List Roll) → IsProp (AreTrue meaning tables count shelf rolls)
 prop meaning tables count shelf rolls = Π_prop (λ b. Π_prop (λ x. Π_prop (λ below. Π_prop (λ there. IsTrueOf-prop tables (roll_at rolls b) (meaning x)))))
+
+-- each of the first, so many, is honest
+abbrev pub AreHonest : {X : Type 0} → (X → Bool) → ℕ → List X → Type 0
+AreHonest {X} is_honest count shelf = (b : ℕ) (x : X) → b < count → slice_get shelf b ≡ Some x → is_honest x ≡ true
+
+pub honest_prop : {X : Type 0} (is_honest : X → Bool) (count : ℕ) (shelf : List X) → IsProp (AreHonest is_honest count shelf)
+honest_prop is_honest count shelf = Π_prop (λ b. Π_prop (λ x. Π_prop (λ below. Π_prop (λ there. Prim.hlevel props))))
+
+-- those of them are lost that a set has
+abbrev pub AreTold : {X : Type 0} → (X → Store) → ℕ → ℕ → List X → Type 0
+AreTold {X} meaning lost count shelf = (b : ℕ) (x : X) → b < 8 → b < count → slice_get shelf b ≡ Some x → has lost b ≡ (meaning x).lost
+
+pub told_prop : {X : Type 0} (meaning : X → Store) (lost count : ℕ) (shelf : List X) → IsProp (AreTold meaning lost count shelf)
+told_prop meaning lost count shelf = Π_prop (λ b. Π_prop (λ x. Π_prop (λ few. Π_prop (λ below. Π_prop (λ there. Prim.hlevel props)))))

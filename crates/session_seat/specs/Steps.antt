@@ -2,7 +2,6 @@
 use Rattle.std.specs.Prelude.{◌≡◌, ◌⊎◌, List}
 use Rattle.pool_base.specs.declared.session_id.SessionId.{SessionId}
 use Rattle.schema.specs.declared.catalogue.TableDef.{TableDef}
-use Rattle.snapshot_gate.specs.declared.state.GateState.{GateState}
 use Rattle.session_machine.specs.declared.action.SessionEvent.{SessionEvent}
 use Rattle.session_machine.specs.declared.action.SessionEvent.TheVariants as events
 use Rattle.session_machine.specs.declared.machine.Machine.{Machine}
@@ -12,6 +11,7 @@ use Rattle.session_seat.specs.declared.book.Journal.{Journal}
 use Rattle.session_seat.specs.declared.step.Step.{Step}
 use Rattle.session_seat.specs.declared.step.Step.TheVariants as step
 use Rattle.session_seat.specs.Told.{added, told_of, told_lost}
+use Rattle.session_seat.specs.Shared.{Shared, IsLoss}
 use Rattle.session_seat.specs.Schedule.{Moves}
 
 -- an event took place
@@ -21,31 +21,32 @@ IsDid step.Waits = ⊥
 IsDid step.Idle = ⊥
 IsDid step.Closed = ⊥
 
--- where the gate and the machine of a session stand, and what the journal has
+-- where what is shared and the machine of a session stand, and what the journal has
 pub record Stand : Type 0 where
-  pub gate : GateState
+  pub shared : Shared
   pub machine : Machine
   pub journal : Journal
 
-abbrev pub at : GateState → Machine → Journal → Stand
-at gate machine journal = record { gate = gate; machine = machine; journal = journal }
+abbrev pub at : Shared → Machine → Journal → Stand
+at shared machine journal = record { shared = shared; machine = machine; journal = journal }
 
--- the journal tells of an event of session s; before a fault it may tell of the loss, where no session has seen it before
-abbrev pub Tells : List TableDef → SessionId → SessionEvent → Journal → Journal → Type 0
-Tells tables s (events.Faulted b before later) old new =
-    (new ≡ added old (told_of tables s (events.Faulted b before later)))
-    ⊎ (new ≡ added (added old (told_lost b)) (told_of tables s (events.Faulted b before later)))
-Tells tables s event old new = new ≡ added old (told_of tables s event)
+-- before a session sees a fault, the backend may be lost, where no session has seen it before: the journal tells of that first
+abbrev pub IsBefore : SessionEvent → Stand → Stand → Type 0
+IsBefore (events.Faulted b before later) old mid =
+    (mid ≡ old) ⊎ (IsLoss old.shared b mid.shared × ((mid.machine ≡ old.machine) × (mid.journal ≡ added old.journal (told_lost b))))
+IsBefore event old mid = mid ≡ old
 
 -- one event of session s took place, where it may, and the journal tells of it
 pub record TookPlace (tables : List TableDef) (s : SessionId) (old new : Stand) : Type 0 where
   pub event : SessionEvent
-  pub moves : Moves old.gate old.machine event new.gate new.machine
-  pub tells : Tells tables s event old.journal new.journal
+  pub between : Stand
+  pub first : IsBefore event old between
+  pub moves : Moves tables s between.shared between.machine event new.shared new.machine
+  pub tells : new.journal ≡ added between.journal (told_of tables s event)
 
 -- nothing took place
 pub record Stays (old new : Stand) : Type 0 where
-  pub gate : new.gate ≡ old.gate
+  pub shared : new.shared ≡ old.shared
   pub machine : new.machine ≡ old.machine
   pub journal : new.journal ≡ old.journal
 

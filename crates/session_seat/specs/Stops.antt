@@ -37,6 +37,7 @@ use Rattle.session_seat.specs.declared.roll.Roll.{Roll}
 use Rattle.session_seat.specs.declared.seat.Seat.{Seat}
 use Rattle.session_seat.specs.Known.{Admits}
 use Rattle.session_seat.specs.Rolls.{known_in, roll_at}
+use Rattle.session_seat.specs.Shared.{IsReady}
 use Rattle.session_seat.specs.Dues.{LooksAt}
 
 -- so many events were counted that the next two can not all be
@@ -82,16 +83,16 @@ pub record IsUnfit {X : Type 0} (meaning : X → Store) (is_prompt : X → Bool)
 
 -- The client.
 
--- by what comes next of it: what is to be written is garbled, its order may not come, or it awaits an outcome though its session rests;
--- a session that is to be closed is not as at its start
-abbrev pub StopsBehind : ReadPolicy → SessionId → Machine → WireStep → View → Type 0
-StopsBehind policy s m (wires.Order order) after = IsGarbled after.output ⊎ (TakesOrder m order.body → ⊥)
-StopsBehind policy s m wires.NeedInput after = IsGarbled after.output
-StopsBehind policy s m wires.NeedOutcome after = Unit {0}
-StopsBehind policy s m (wires.Close refused) after = IsGarbled after.output ⊎ (m ≢ new_machine s policy)
+-- by what comes next of it: what is to be written is garbled, its order may not come or can not be run, or it awaits an outcome though
+-- its session rests; a session that is to be closed is not as at its start
+abbrev pub StopsBehind : List TableDef → ReadPolicy → SessionId → Machine → WireStep → View → Type 0
+StopsBehind tables policy s m (wires.Order order) after = IsGarbled after.output ⊎ ((TakesOrder m order.body → ⊥) ⊎ (IsReady tables order.body → ⊥))
+StopsBehind tables policy s m wires.NeedInput after = IsGarbled after.output
+StopsBehind tables policy s m wires.NeedOutcome after = Unit {0}
+StopsBehind tables policy s m (wires.Close refused) after = IsGarbled after.output ⊎ (m ≢ new_machine s policy)
 
 unfoldable pub StopsAtRest : List TableDef → ℤ → ReadPolicy → SessionId → Machine → View → Type 0
-StopsAtRest tables moment policy s m view = (next : WireStep) × (after : View) × IsNext tables moment view next after × StopsBehind policy s m next after
+StopsAtRest tables moment policy s m view = (next : WireStep) × (after : View) × IsNext tables moment view next after × StopsBehind tables policy s m next after
 
 -- what a wire has once an outcome is told, before these backends of the configuration
 abbrev pub IsTold : List Node → Option Due → Outcome → ℕ → View → View → Type 0

@@ -7,6 +7,7 @@ mod fault;
 mod known;
 mod policy;
 mod posting;
+mod ready;
 mod replies;
 mod roll;
 mod seat;

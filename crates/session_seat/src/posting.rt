@@ -1,6 +1,9 @@
 //! One post and one poll at a backend, by its roll.
-ghost use Rattle.std.specs.Prelude.{◌≡◌, true, IfOk, IfErr, OnErr};
-ghost use Rattle.backend_trait.specs.Acts.{InForm, IsPromptly};
+ghost use Rattle.std.specs.Prelude.{◌≡◌, true, IfOk, IfErr, None, OnErr, OnOk, is_some};
+ghost use Rattle.pool_base.specs.Sets.{Gains};
+ghost use Rattle.backend_trait.specs.Acts.{Acts, InForm, IsPromptly};
+ghost use Rattle.backend_trait.specs.Store.{posted};
+ghost use Rattle.backend_trait.specs.declared.answer.Polled.TheVariants.{Lost};
 ghost use Rattle.session_seat.specs.Known.{Knows};
 ghost use Rattle.session_seat.specs.Rolls.{known_in};
 ghost use Rattle.session_seat.specs.Stops.{MayPostBy};
@@ -10,14 +13,16 @@ ghost use Rattle.session_seat.specs.declared.known.Awaits.TheVariants as awaitin
 use crate::fault::StepFault;
 use crate::roll::Roll;
 use backend_trait::{Backend, Catalogue, Polled, Posted, Request};
-use pool_base::SessionId;
+use pool_base::{BackendId, BackendSet, SessionId};
 
-/// What a poll finds, with the backend's counts of faults before and behind it.
+/// What a poll finds, with the backend's counts of faults before and behind it, and whether no
+/// loss of the backend was found or made before.
 #[derive(Drop)]
 pub struct Looked {
     pub before: u64,
     pub after: u64,
     pub polled: Polled,
+    pub is_new: bool,
 }
 
 /// Posts a request of a session, where the roll says that it may.
@@ -32,6 +37,11 @@ pub(crate) fn post_at<B: Backend>(
     requires known { Knows (known_in roll.old) (B.meaning store.old) }
     ensures tables { (B.meaning store.new).tables ≡ (B.meaning store.old).tables }
     ensures known { Knows (known_in roll.new) (B.meaning store.new) }
+    ensures honest { B.is_honest store.new ≡ B.is_honest store.old }
+    ensures lost { (B.meaning store.new).lost ≡ (B.meaning store.old).lost }
+    ensures idle { OnOk result ((B.meaning store.old).pending s.number ≡ None) }
+    ensures posted { OnOk result (B.meaning store.new ≡
+        posted (B.meaning store.old) s.number request) }
     ensures stopped { IfErr result (λ e. e ≡ Stopped
         → MayPostBy tables.now (known_in roll.old s.number) request → ⊥) }
 {
@@ -58,15 +68,23 @@ pub(crate) fn poll_at<B: Backend>(
     roll: &mut Roll,
     store: &mut B,
     s: SessionId,
+    is_new: bool,
 ) -> Result<Looked, StepFault>
     requires known { Knows (known_in roll.old) (B.meaning store.old) }
     ensures tables { (B.meaning store.new).tables ≡ (B.meaning store.old).tables }
     ensures known { Knows (known_in roll.new) (B.meaning store.new) }
+    ensures honest { B.is_honest store.new ≡ B.is_honest store.old }
+    ensures pending { IfOk result (λ looked.
+        is_some ((B.meaning store.old).pending s.number) ≡ true) }
     ensures form { IfOk result (λ looked. InForm (B.meaning store.old) s.number looked.polled
         looked.before looked.after (B.meaning store.new)) }
+    ensures acts { IfOk result (λ looked. B.is_honest store.old ≡ true
+        → Acts (B.meaning store.old) s.number looked.polled (B.meaning store.new)) }
     ensures promptly { IfOk result (λ looked. B.is_prompt store.old ≡ true
         → IsPromptly (B.meaning store.old) s.number looked.polled) }
+    ensures is_new { IfOk result (λ looked. looked.is_new ≡ is_new) }
     ensures stopped { OnErr result ((known_in roll.old s.number).awaits ≡ awaiting.Nothing) }
+    ensures stays { OnErr result (B.meaning store.new ≡ B.meaning store.old) }
 {
     let known = roll.at(s);
     if known.is_idle() {
@@ -80,5 +98,18 @@ pub(crate) fn poll_at<B: Backend>(
         before,
         after,
         polled,
+        is_new,
     })
+}
+
+/// The backends that are lost behind a poll of one.
+pub(crate) fn lost_behind(lost: BackendSet, b: BackendId, polled: &Polled) -> BackendSet
+    ensures gains { polled.now ≡ Lost → Gains lost.bits result.bits b.number }
+    ensures same { (polled.now ≡ Lost → ⊥) → result ≡ lost }
+{
+    if let Polled::Lost = polled {
+        lost.with(b)
+    } else {
+        lost
+    }
 }

@@ -12,14 +12,14 @@
 //! ```
 //!
 //! An event is noted before it takes place, but for a post, which is noted behind it.
-ghost use Rattle.std.specs.Prelude.{◌≡◌, ◌≢◌, ◌<◌, ◌≤◌, ◌⊎◌, length, Some, None, IfOk, IfErr, OnOk};
+ghost use Rattle.std.specs.Prelude.{◌≡◌, ◌≢◌, ◌<◌, ◌≤◌, ◌⊎◌, length, Some, None, IfOk, IfErr, OnOk, List};
 ghost use Rattle.schema.specs.Grammar.{IsWithin};
+ghost use Rattle.schema.specs.declared.catalogue.TableDef.{TableDef};
 ghost use Rattle.pgproto.specs.declared.line.Mark.TheVariants as marks;
 ghost use Rattle.session_machine.specs.Allowed.{MayHappen, TakesOrder};
 ghost use Rattle.session_machine.specs.Rules.{new_machine, next_action};
 ghost use Rattle.session_machine.specs.declared.action.Action.TheVariants as actions;
 ghost use Rattle.session_machine.specs.declared.action.SessionEvent.TheVariants as events;
-ghost use Rattle.snapshot_gate.specs.declared.state.GateState.{GateState};
 ghost use Rattle.snapshot_gate.specs.Function as gates;
 ghost use Rattle.session_engine.specs.declared.ask.Ask.TheVariants as asks;
 ghost use Rattle.session_engine.specs.Cores.{machine_in};
@@ -28,6 +28,7 @@ ghost use Rattle.session_wire.specs.Answers.{MayAnswer};
 ghost use Rattle.session_wire.specs.Shown.{shown};
 ghost use Rattle.session_seat.specs.Policy.{policy_in};
 ghost use Rattle.session_seat.specs.Told.{added, told_of};
+ghost use Rattle.session_seat.specs.Shared.{IsReady, Serves, Shared, shared_of, stores_of};
 ghost use Rattle.session_seat.specs.Schedule.{led};
 ghost use Rattle.session_seat.specs.Steps.{IsDid, IsStep, at};
 ghost use Rattle.session_seat.specs.Dues.{IsDue, Rests, called, entry_mark, mark_of};
@@ -38,6 +39,7 @@ ghost use Rattle.session_seat.specs.declared.step.Step.TheVariants as steps;
 use crate::book::Book;
 use crate::fault::StepFault;
 use crate::policy::policy_of;
+use crate::ready::is_ready;
 use crate::replies::put_output;
 use crate::seat::Seat;
 use crate::setting::Setting;
@@ -77,8 +79,10 @@ pub fn take_step<B: Backend>(
     // An event takes place where it may, and the journal tells of it; or nothing does.
     ensures noted { IfOk result (λ step. IsStep setting.entry.tables.now
         (policy_in setting.entry.config.now) seat.old.s
-        (at world.old.gate.state (machine_in seat.old.core) book.old.journal) step
-        (at world.new.gate.state (machine_in seat.new.core) book.new.journal)) }
+        (at (shared_of B.meaning world.old.gate.state world.old.tables world.old.count
+        world.old.shelf.items) (machine_in seat.old.core) book.old.journal) step
+        (at (shared_of B.meaning world.new.gate.state world.new.tables world.new.count
+        world.new.shelf.items) (machine_in seat.new.core) book.new.journal)) }
     // Which step it is, by what is asked for: it waits, has nothing to do or is closed there alone.
     ensures due { IfOk result (λ step. IsDue B.meaning B.is_prompt setting.entry.tables.now
         setting.entry.moment seat.old world.old.gate.state world.old.shelf.items step) }
@@ -111,10 +115,10 @@ pub fn take_step<B: Backend>(
 
 /// Closes a session that has ended, or has taken no order. Its number has the machine of a start.
 fn close(setting: Setting, seat: &Seat, book: &mut Book) -> Result<Step, StepFault>
-    ensures noted { (gate : GateState) → IfOk result (λ step. IsStep setting.entry.tables.now
+    ensures noted { (shared : Shared) → IfOk result (λ step. IsStep setting.entry.tables.now
         (policy_in setting.entry.config.now) seat.now.s
-        (at gate (machine_in seat.now.core) book.old.journal) step
-        (at gate (machine_in seat.now.core) book.new.journal)) }
+        (at shared (machine_in seat.now.core) book.old.journal) step
+        (at shared (machine_in seat.now.core) book.new.journal)) }
     ensures events { book.new.events ≡ book.old.events }
     ensures none { IfOk result (λ step. IsDid step → ⊥) }
     ensures closed { IfOk result (λ step. step ≡ steps.Closed) }
@@ -133,10 +137,10 @@ fn close(setting: Setting, seat: &Seat, book: &mut Book) -> Result<Step, StepFau
 fn take_order(setting: Setting, seat: &mut Seat, book: &mut Book) -> Result<Step, StepFault>
     requires within { IsWithin setting.tables.now }
     ensures did { IfOk result (λ step. IsDid step → book.old.events < book.new.events) }
-    ensures noted { (gate : GateState) → IfOk result (λ step. IsStep setting.entry.tables.now
+    ensures noted { (shared : Shared) → IfOk result (λ step. IsStep setting.entry.tables.now
         (policy_in setting.entry.config.now) seat.old.s
-        (at gate (machine_in seat.old.core) book.old.journal) step
-        (at gate (machine_in seat.new.core) book.new.journal)) }
+        (at shared (machine_in seat.old.core) book.old.journal) step
+        (at shared (machine_in seat.new.core) book.new.journal)) }
     ensures events { book.old.events ≤ book.new.events }
     ensures s { seat.new.s ≡ seat.old.s }
     ensures turn { seat.new.turn ≡ seat.old.turn }
@@ -164,17 +168,18 @@ fn take_order(setting: Setting, seat: &mut Seat, book: &mut Book) -> Result<Step
 /// Takes an order.
 fn obey(setting: Setting, seat: &mut Seat, order: Order, book: &mut Book) -> Result<Step, StepFault>
     ensures did { IfOk result (λ step. IsDid step → book.old.events < book.new.events) }
-    ensures noted { (gate : GateState) → IfOk result (λ step. IsStep setting.entry.tables.now
+    ensures noted { (shared : Shared) → IfOk result (λ step. IsStep setting.entry.tables.now
         (policy_in setting.entry.config.now) seat.old.s
-        (at gate (machine_in seat.old.core) book.old.journal) step
-        (at gate (machine_in seat.new.core) book.new.journal)) }
+        (at shared (machine_in seat.old.core) book.old.journal) step
+        (at shared (machine_in seat.new.core) book.new.journal)) }
     ensures events { book.old.events ≤ book.new.events }
     ensures s { seat.new.s ≡ seat.old.s }
     ensures turn { seat.new.turn ≡ seat.old.turn }
     ensures due { IfOk result (λ step. step ≡ steps.Did (Some marks.Order)) }
     ensures stopped { IfErr result (λ e. e ≡ Stopped → IsFull book.old.events
         ⊎ (IsGarbled (shown seat.old.wire).output
-        ⊎ (TakesOrder (machine_in seat.old.core) order.body → ⊥))) }
+        ⊎ ((TakesOrder (machine_in seat.old.core) order.body → ⊥)
+        ⊎ (IsReady setting.entry.tables.now order.body → ⊥)))) }
 {
     if let Err(fault) = note_order(setting, seat, &order, book) {
         drop(order);
@@ -184,7 +189,7 @@ fn obey(setting: Setting, seat: &mut Seat, order: Order, book: &mut Book) -> Res
     Ok(Step::Did(Some(Mark::Order)))
 }
 
-/// Notes an order that the core takes, behind what the wire has put out before it.
+/// Notes an order that the core takes and that can be run, behind what the wire has put out before.
 fn note_order(
     setting: Setting,
     seat: &mut Seat,
@@ -192,6 +197,7 @@ fn note_order(
     book: &mut Book,
 ) -> Result<(), StepFault>
     ensures may { OnOk result (MayHappen (machine_in seat.new.core) (events.Ordered order.now)) }
+    ensures ready { OnOk result (IsReady setting.entry.tables.now order.now.body) }
     ensures line { OnOk result (book.new.journal ≡ added book.old.journal (told_of
         setting.entry.tables.now seat.old.s (events.Ordered order.now))) }
     ensures did { OnOk result (book.old.events < book.new.events) }
@@ -201,11 +207,15 @@ fn note_order(
     ensures turn { seat.new.turn ≡ seat.old.turn }
     ensures stopped { IfErr result (λ e. e ≡ Stopped → IsFull book.old.events
         ⊎ (IsGarbled (shown seat.old.wire).output
-        ⊎ (TakesOrder (machine_in seat.old.core) order.now.body → ⊥))) }
+        ⊎ ((TakesOrder (machine_in seat.old.core) order.now.body → ⊥)
+        ⊎ (IsReady setting.entry.tables.now order.now.body → ⊥)))) }
 {
     let s = seat.s;
     put_output(setting.alloc, s, &mut seat.wire, book)?;
     if !seat.core.may_order(&order.body) {
+        return Err(StepFault::Stopped);
+    }
+    if !is_ready(setting.tables, &order.body) {
         return Err(StepFault::Stopped);
     }
     book.note(setting, Event::Order { s, order })
@@ -223,8 +233,10 @@ fn call_gate<B: Backend>(
     ensures did { IfOk result (λ step. IsDid step → book.old.events < book.new.events) }
     ensures noted { IfOk result (λ step. IsStep setting.entry.tables.now
         (policy_in setting.entry.config.now) seat.old.s
-        (at world.old.gate.state (machine_in seat.old.core) book.old.journal) step
-        (at world.new.gate.state (machine_in seat.new.core) book.new.journal)) }
+        (at (shared_of B.meaning world.old.gate.state world.old.tables world.old.count
+        world.old.shelf.items) (machine_in seat.old.core) book.old.journal) step
+        (at (shared_of B.meaning world.new.gate.state world.new.tables world.new.count
+        world.new.shelf.items) (machine_in seat.new.core) book.new.journal)) }
     ensures events { book.old.events ≤ book.new.events }
     ensures s { seat.new.s ≡ seat.old.s }
     ensures turn { seat.new.turn ≡ seat.old.turn }
@@ -287,8 +299,10 @@ fn post<B: Backend>(
     ensures did { IfOk result (λ step. IsDid step → book.old.events < book.new.events) }
     ensures noted { IfOk result (λ step. IsStep setting.entry.tables.now
         (policy_in setting.entry.config.now) seat.old.s
-        (at world.old.gate.state (machine_in seat.old.core) book.old.journal) step
-        (at world.new.gate.state (machine_in seat.new.core) book.new.journal)) }
+        (at (shared_of B.meaning world.old.gate.state world.old.tables world.old.count
+        world.old.shelf.items) (machine_in seat.old.core) book.old.journal) step
+        (at (shared_of B.meaning world.new.gate.state world.new.tables world.new.count
+        world.new.shelf.items) (machine_in seat.new.core) book.new.journal)) }
     ensures events { book.old.events ≤ book.new.events }
     ensures s { seat.new.s ≡ seat.old.s }
     ensures turn { seat.new.turn ≡ seat.old.turn }
@@ -331,6 +345,10 @@ fn send<B: Backend>(
     ensures line { OnOk result (book.new.journal ≡ added book.old.journal line.now) }
     ensures did { OnOk result (book.old.events < book.new.events) }
     ensures gate { world.new.gate ≡ world.old.gate }
+    ensures serves { (tables : List TableDef) → OnOk result (Serves tables
+        (stores_of B.meaning world.old.tables world.old.count world.old.shelf.items)
+        seat.old.s.number (events.Posted b request)
+        (stores_of B.meaning world.new.tables world.new.count world.new.shelf.items)) }
     ensures events { book.old.events ≤ book.new.events }
     ensures s { seat.new.s ≡ seat.old.s }
     ensures turn { seat.new.turn ≡ seat.old.turn }
@@ -351,10 +369,10 @@ fn send<B: Backend>(
 fn reply(setting: Setting, seat: &mut Seat, book: &mut Book) -> Result<Step, StepFault>
     requires due { IsReply (next_action (machine_in seat.old.core)) }
     ensures did { IfOk result (λ step. IsDid step → book.old.events < book.new.events) }
-    ensures noted { (gate : GateState) → IfOk result (λ step. IsStep setting.entry.tables.now
+    ensures noted { (shared : Shared) → IfOk result (λ step. IsStep setting.entry.tables.now
         (policy_in setting.entry.config.now) seat.old.s
-        (at gate (machine_in seat.old.core) book.old.journal) step
-        (at gate (machine_in seat.new.core) book.new.journal)) }
+        (at shared (machine_in seat.old.core) book.old.journal) step
+        (at shared (machine_in seat.new.core) book.new.journal)) }
     ensures events { book.old.events ≤ book.new.events }
     ensures s { seat.new.s ≡ seat.old.s }
     ensures turn { seat.new.turn ≡ seat.old.turn }
@@ -428,10 +446,10 @@ fn note_reply(
 fn end(setting: Setting, seat: &mut Seat, book: &mut Book) -> Result<Step, StepFault>
     requires due { next_action (machine_in seat.old.core) ≡ actions.End }
     ensures did { IfOk result (λ step. IsDid step → book.old.events < book.new.events) }
-    ensures noted { (gate : GateState) → IfOk result (λ step. IsStep setting.entry.tables.now
+    ensures noted { (shared : Shared) → IfOk result (λ step. IsStep setting.entry.tables.now
         (policy_in setting.entry.config.now) seat.old.s
-        (at gate (machine_in seat.old.core) book.old.journal) step
-        (at gate (machine_in seat.new.core) book.new.journal)) }
+        (at shared (machine_in seat.old.core) book.old.journal) step
+        (at shared (machine_in seat.new.core) book.new.journal)) }
     ensures events { book.old.events ≤ book.new.events }
     ensures s { seat.new.s ≡ seat.old.s }
     ensures turn { seat.new.turn ≡ seat.old.turn }

@@ -1,7 +1,6 @@
 //! What a session hears of a backend, and its detachment.
-ghost use Rattle.std.specs.Prelude.{◌≡◌, ◌+◌, ◌<◌, ◌≤◌, ◌⊎◌, length, Some, None, IfOk, IfErr, OnOk};
+ghost use Rattle.std.specs.Prelude.{◌≡◌, ◌+◌, ◌<◌, ◌≤◌, ◌⊎◌, length, Some, None, IfOk, IfErr, OnOk, if◌then◌else◌};
 ghost use Rattle.pgproto.specs.declared.line.Mark.TheVariants as marks;
-ghost use Rattle.snapshot_gate.specs.declared.state.GateState.{GateState};
 ghost use Rattle.session_machine.specs.Allowed.{MayHappen};
 ghost use Rattle.session_machine.specs.Rules.{next_action};
 ghost use Rattle.session_machine.specs.declared.action.SessionEvent.TheVariants as events;
@@ -11,6 +10,7 @@ ghost use Rattle.session_engine.specs.Cores.{machine_in};
 ghost use Rattle.session_engine.specs.Handing.{Detaches, IsDetach, asked_of};
 ghost use Rattle.session_seat.specs.Policy.{policy_in};
 ghost use Rattle.session_seat.specs.Told.{added, told_lost, told_of};
+ghost use Rattle.session_seat.specs.Shared.{Serves, Shared, shared_of};
 ghost use Rattle.session_seat.specs.Schedule.{led};
 ghost use Rattle.session_seat.specs.Steps.{IsDid, IsStep, at};
 ghost use Rattle.session_seat.specs.Dues.{WaitsFor};
@@ -44,8 +44,10 @@ pub(crate) fn hear<B: Backend>(
     ensures did { IfOk result (λ step. IsDid step → book.old.events < book.new.events) }
     ensures noted { IfOk result (λ step. IsStep setting.entry.tables.now
         (policy_in setting.entry.config.now) seat.old.s
-        (at world.old.gate.state (machine_in seat.old.core) book.old.journal) step
-        (at world.new.gate.state (machine_in seat.new.core) book.new.journal)) }
+        (at (shared_of B.meaning world.old.gate.state world.old.tables world.old.count
+        world.old.shelf.items) (machine_in seat.old.core) book.old.journal) step
+        (at (shared_of B.meaning world.new.gate.state world.new.tables world.new.count
+        world.new.shelf.items) (machine_in seat.new.core) book.new.journal)) }
     ensures events { book.old.events ≤ book.new.events }
     ensures s { seat.new.s ≡ seat.old.s }
     ensures turn { seat.new.turn ≡ seat.old.turn }
@@ -62,13 +64,14 @@ pub(crate) fn hear<B: Backend>(
         before,
         after,
         polled,
+        is_new,
     } = world.poll(seat.s, b)?;
     match polled {
         Polled::NotYet => Ok(Step::Waits),
         Polled::NoMemory => Err(StepFault::NoMemory),
         Polled::Answered(answer) => take(setting, seat, b, answer, book),
         Polled::Lost => {
-            note_loss(setting, b, world, book)?;
+            note_loss(setting, b, is_new, book)?;
             miss(setting, seat, b, before, after, book)
         }
     }
@@ -83,10 +86,12 @@ fn take(
     book: &mut Book,
 ) -> Result<Step, StepFault>
     ensures did { IfOk result (λ step. IsDid step → book.old.events < book.new.events) }
-    ensures noted { (gate : GateState) → IfOk result (λ step. IsStep setting.entry.tables.now
+    ensures noted { (old new : Shared) → new.gate ≡ old.gate
+        → Serves setting.entry.tables.now old.stores seat.old.s.number (events.Taken b answer)
+        new.stores → IfOk result (λ step. IsStep setting.entry.tables.now
         (policy_in setting.entry.config.now) seat.old.s
-        (at gate (machine_in seat.old.core) book.old.journal) step
-        (at gate (machine_in seat.new.core) book.new.journal)) }
+        (at old (machine_in seat.old.core) book.old.journal) step
+        (at new (machine_in seat.new.core) book.new.journal)) }
     ensures events { book.old.events ≤ book.new.events }
     ensures s { seat.new.s ≡ seat.old.s }
     ensures turn { seat.new.turn ≡ seat.old.turn }
@@ -126,26 +131,23 @@ fn note_answer(
     book.note(setting, Event::Take { s, b, answer })
 }
 
-/// A backend is lost: that takes place once, by a line or where the first session sees it.
-pub fn note_loss<B: Backend>(
+/// Notes the loss of a backend, where it is new: a line has lost it, or the first session sees it.
+pub fn note_loss(
     setting: Setting,
     b: BackendId,
-    world: &mut World<B>,
+    is_new: bool,
     book: &mut Book,
 ) -> Result<(), StepFault>
-    ensures line { OnOk result ((book.new.journal ≡ book.old.journal)
-        ⊎ (book.new.journal ≡ added book.old.journal (told_lost b))) }
+    ensures line { OnOk result (book.new.journal
+        ≡ (if is_new then added book.old.journal (told_lost b) else book.old.journal)) }
     ensures events { book.old.events ≤ book.new.events }
     ensures one { OnOk result (book.new.events ≤ book.old.events + 1) }
-    ensures gate { world.new.gate ≡ world.old.gate }
-    ensures count { world.new.count ≡ world.old.count }
-    ensures boxes { length world.new.shelf.items ≡ length world.old.shelf.items }
     ensures stopped { IfErr result (λ e. e ≡ Stopped → IsFull book.old.events) }
 {
-    if world.take_for_lost(b) {
-        book.note(setting, Event::Lost { b })?;
+    if !is_new {
+        return Ok(());
     }
-    Ok(())
+    book.note(setting, Event::Lost { b })
 }
 
 /// The session sees that the backend is lost.
@@ -196,8 +198,10 @@ pub(crate) fn detach<B: Backend>(
     ensures did { IfOk result (λ step. IsDid step → book.old.events < book.new.events) }
     ensures noted { IfOk result (λ step. IsStep setting.entry.tables.now
         (policy_in setting.entry.config.now) seat.old.s
-        (at world.old.gate.state (machine_in seat.old.core) book.old.journal) step
-        (at world.new.gate.state (machine_in seat.new.core) book.new.journal)) }
+        (at (shared_of B.meaning world.old.gate.state world.old.tables world.old.count
+        world.old.shelf.items) (machine_in seat.old.core) book.old.journal) step
+        (at (shared_of B.meaning world.new.gate.state world.new.tables world.new.count
+        world.new.shelf.items) (machine_in seat.new.core) book.new.journal)) }
     ensures events { book.old.events ≤ book.new.events }
     ensures s { seat.new.s ≡ seat.old.s }
     ensures turn { seat.new.turn ≡ seat.old.turn }

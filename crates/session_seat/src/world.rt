@@ -1,17 +1,23 @@
 //! The gate and the backends, which all sessions share.
-ghost use Rattle.std.specs.Prelude.{◌≡◌, ◌↔◌, ◌<◌, ◌≤◌, All, IfOk, IfErr, OnErr, IsTrue, length, take};
+ghost use Rattle.std.specs.Prelude.{◌≡◌, ◌==◌, ◌||◌, ◌↔◌, ◌<◌, ◌≤◌, IfOk, IfErr, IsTrue, OnErr, OnOk, None};
+ghost use Rattle.std.specs.Prelude.{All, ℕ, false, is_some, length, not, take, true};
 ghost use Rattle.pool_base.specs.Outside.{Rose};
-ghost use Rattle.backend_trait.specs.Store.{prepared};
+ghost use Rattle.pool_base.specs.Sets.{has};
+ghost use Rattle.backend_trait.specs.Acts.{Acts};
+ghost use Rattle.backend_trait.specs.Rows.{with_at};
+ghost use Rattle.backend_trait.specs.Store.{posted, prepared};
 ghost use Rattle.backend_trait.specs.declared.answer.Polled.TheVariants.{Lost};
 ghost use Rattle.snapshot_gate.specs.Function.{step, MayCall};
-ghost use Rattle.session_seat.specs.Rolls.{AreTrue, prop};
+ghost use Rattle.session_seat.specs.Rolls.{AreHonest, AreTold, AreTrue};
+ghost use Rattle.session_seat.specs.Rolls.{honest_prop, prop, told_prop};
+ghost use Rattle.session_seat.specs.Shared.{AreFirst, IsFirst, IsLoss, shared_of, stores_of};
 ghost use Rattle.session_seat.specs.Dues.{LooksAt};
 ghost use Rattle.session_seat.specs.Stops.{MayLookAt, MayPostAt};
 ghost use Rattle.session_seat.specs.declared.fault.StepFault.TheVariants.{Stopped};
 
 use crate::calls::may_call;
 use crate::fault::StepFault;
-use crate::posting::{Looked, poll_at, post_at};
+use crate::posting::{Looked, lost_behind, poll_at, post_at};
 use crate::roll::Roll;
 use backend_trait::{Backend, Catalogue, Request};
 use pool_base::{BackendId, BackendSet, GateAnswer, GateCall, SessionId};
@@ -22,25 +28,31 @@ use snapshot_gate::Gate;
 pub struct World<B: Backend> {
     pub gate: Gate,
     /// The tables of each backend.
-    pub(crate) tables: Catalogue,
+    pub tables: Catalogue,
     pub shelf: Vec<B>,
     pub count: usize,
-    /// The backends whose loss has taken place.
+    /// The backends that are lost.
     lost: BackendSet,
     /// The roll of each backend.
     pub(crate) rolls: [Roll; 8],
     ghost enough: { count ≤ length shelf.items },
     // The rolls are true, and each backend has the tables.
     ghost known: { AreTrue B.meaning tables count shelf.items rolls } by { prop B.meaning _ _ _ _ },
+    ghost honest: { AreHonest B.is_honest count shelf.items } by { honest_prop B.is_honest _ _ },
+    ghost told: { AreTold B.meaning lost.bits count shelf.items } by { told_prop B.meaning _ _ _ },
 }
 
 impl<B: Backend> World<B> {
-    /// The first `count` boxes of a shelf, all attached. They have these tables.
+    /// The first `count` boxes of a shelf, all attached. They have these tables, and no rows.
     pub fn new(tables: Catalogue, shelf: Vec<B>, count: usize) -> World<B>
         requires enough { count ≤ length shelf.items }
         requires prepared { All (λ b. B.meaning b ≡ prepared tables) (take count shelf.items) }
+        requires honest { All (λ b. B.is_honest b ≡ true) (take count shelf.items) }
+        ensures tables { result.tables ≡ tables }
         ensures count { result.count ≡ count }
         ensures boxes { result.shelf.items ≡ shelf.items }
+        ensures first { IsFirst tables count (shared_of B.meaning result.gate.state result.tables
+            result.count result.shelf.items) }
     {
         let gate = Gate::new(first_of(count));
         let roll = Roll::new();
@@ -66,8 +78,11 @@ impl<B: Backend> World<B> {
         ensures may { IfOk result (λ answer. MayCall self.old.gate.state call) }
         ensures answered { IfOk result (λ answer. (self.new.gate.state, answer) ≡ step
             self.old.gate.state call) }
+        ensures tables { self.new.tables ≡ self.old.tables }
         ensures count { self.new.count ≡ self.old.count }
         ensures boxes { self.new.shelf.items ≡ self.old.shelf.items }
+        ensures stores { stores_of B.meaning self.new.tables self.new.count self.new.shelf.items
+            ≡ stores_of B.meaning self.old.tables self.old.count self.old.shelf.items }
         ensures stopped { OnErr result (MayCall self.old.gate.state call → ⊥) }
     {
         if !may_call(&self.gate.state, call) {
@@ -79,8 +94,15 @@ impl<B: Backend> World<B> {
     /// Posts a request of a session.
     pub fn post(&mut self, s: SessionId, b: BackendId, request: Request) -> Result<(), StepFault>
         ensures gate { self.new.gate ≡ self.old.gate }
+        ensures tables { self.new.tables ≡ self.old.tables }
         ensures count { self.new.count ≡ self.old.count }
         ensures boxes { length self.new.shelf.items ≡ length self.old.shelf.items }
+        ensures idle { OnOk result ((stores_of B.meaning self.old.tables self.old.count
+            self.old.shelf.items b.number).pending s.number ≡ None) }
+        ensures posted { OnOk result (stores_of B.meaning self.new.tables self.new.count
+            self.new.shelf.items ≡ with_at (stores_of B.meaning self.old.tables self.old.count
+            self.old.shelf.items) b.number (posted (stores_of B.meaning self.old.tables
+            self.old.count self.old.shelf.items b.number) s.number request)) }
         ensures stopped { IfErr result (λ e. e ≡ Stopped → MayPostAt self.old.tables self.old.count
             self.old.rolls s.number b.number request → ⊥) }
     {
@@ -96,8 +118,21 @@ impl<B: Backend> World<B> {
     /// Looks for the answer to a session's request.
     pub fn poll(&mut self, s: SessionId, b: BackendId) -> Result<Looked, StepFault>
         ensures gate { self.new.gate ≡ self.old.gate }
+        ensures tables { self.new.tables ≡ self.old.tables }
         ensures count { self.new.count ≡ self.old.count }
         ensures boxes { length self.new.shelf.items ≡ length self.old.shelf.items }
+        ensures pending { IfOk result (λ looked. is_some ((stores_of B.meaning self.old.tables
+            self.old.count self.old.shelf.items b.number).pending s.number) ≡ true) }
+        ensures acts { IfOk result (λ looked. Acts (stores_of B.meaning self.old.tables
+            self.old.count self.old.shelf.items b.number) s.number looked.polled (stores_of
+            B.meaning self.new.tables self.new.count self.new.shelf.items b.number)) }
+        ensures alone { OnOk result (stores_of B.meaning self.new.tables self.new.count
+            self.new.shelf.items ≡ with_at (stores_of B.meaning self.old.tables self.old.count
+            self.old.shelf.items) b.number (stores_of B.meaning self.new.tables self.new.count
+            self.new.shelf.items b.number)) }
+        ensures new_loss { IfOk result (λ looked. looked.polled ≡ Lost → looked.is_new ≡
+            not (stores_of B.meaning self.old.tables self.old.count self.old.shelf.items
+            b.number).lost) }
         ensures looks { IfOk result (λ looked. LooksAt B.meaning B.is_prompt self.old.shelf.items
             s.number b.number looked.polled) }
         ensures rose { IfOk result (λ looked. looked.polled ≡ Lost
@@ -109,8 +144,11 @@ impl<B: Backend> World<B> {
         if at >= self.count {
             return Err(StepFault::Stopped);
         }
+        let is_new = !self.lost.has(b);
         let roll = &mut self.rolls[at];
-        poll_at(roll, &mut self.shelf[at], s)
+        let looked = poll_at(roll, &mut self.shelf[at], s, is_new)?;
+        self.lost = lost_behind(self.lost, b, &looked.polled);
+        Ok(looked)
     }
 
     /// Whether it is one of the backends.
@@ -120,27 +158,26 @@ impl<B: Backend> World<B> {
         usize::from(b.number) < self.count
     }
 
-    /// Loses a backend, where it is one.
-    pub fn lose(&mut self, b: BackendId)
+    /// Loses a backend, where it is one; whether it was not lost before.
+    pub fn lose(&mut self, b: BackendId) -> bool
         ensures gate { self.new.gate ≡ self.old.gate }
+        ensures tables { self.new.tables ≡ self.old.tables }
         ensures count { self.new.count ≡ self.old.count }
         ensures boxes { length self.new.shelf.items ≡ length self.old.shelf.items }
+        ensures lost { result ≡ true → IsLoss (shared_of B.meaning self.old.gate.state
+            self.old.tables self.old.count self.old.shelf.items) b (shared_of B.meaning
+            self.new.gate.state self.new.tables self.new.count self.new.shelf.items) }
+        ensures same { result ≡ false → shared_of B.meaning self.new.gate.state self.new.tables
+            self.new.count self.new.shelf.items ≡ shared_of B.meaning self.old.gate.state
+            self.old.tables self.old.count self.old.shelf.items }
     {
         let at = usize::from(b.number);
-        if at < self.count {
-            self.shelf[at].lose();
+        if at >= self.count || self.lost.has(b) {
+            return false;
         }
-    }
-
-    /// Takes a backend for lost; whether it was not so before.
-    pub fn take_for_lost(&mut self, b: BackendId) -> bool
-        ensures gate { self.new.gate ≡ self.old.gate }
-        ensures count { self.new.count ≡ self.old.count }
-        ensures boxes { self.new.shelf.items ≡ self.old.shelf.items }
-    {
-        let is_new = !self.lost.has(b);
+        self.shelf[at].lose();
         self.lost = self.lost.with(b);
-        is_new
+        true
     }
 
     /// The backends that are attached.
@@ -151,14 +188,21 @@ impl<B: Backend> World<B> {
     }
 }
 
+/// The set with that backend in it.
+fn joined(set: BackendSet, b: BackendId) -> BackendSet
+    ensures { (k : ℕ) → k < 8 → has result.bits k ≡ (k == b.number || has set.bits k) }
+{
+    set.with(b)
+}
+
 /// The backends from 0 on, so many.
-fn first_of(count: usize) -> BackendSet {
+fn first_of(count: usize) -> BackendSet
+    ensures { AreFirst result.bits count }
+{
     let mut set = BackendSet::EMPTY;
     for number in 0..8 {
-        if let Some(b) = BackendId::from_number(number)
-            && usize::from(number) < count
-        {
-            set = set.with(b);
+        if usize::from(number) < count {
+            set = joined(set, BackendId { number });
         }
     }
     set

@@ -6,7 +6,7 @@ use Rattle.pool_run.specs.declared.plan.Stop.{Stop}
 use Rattle.pool_run.proofs.asking.with_tables.Goals as goal
 
 pub returns-in-Ok-clause-ends : goal.returns-in-Ok-clause-ends
-returns-in-Ok-clause-ends c = λ s o e. subst (λ (r : Result Lines Stop). LinesEnd (length c.args.config.nodes) c.args.catalogue r s o) (sym c.in-Ok.is) e
+returns-in-Ok-clause-ends c = λ s o e. subst (λ (r : Result Lines Stop). LinesEnd c.args.config c.args.catalogue r s o) (sym c.in-Ok.is) e
 
 pub returns-in-Ok-clause-sound : goal.returns-in-Ok-clause-sound
 returns-in-Ok-clause-sound c = record {
@@ -18,4 +18,4 @@ returns-in-Ok-clause-sound c = record {
 }
 
 pub returns-in-Err-clause-ends : goal.returns-in-Err-clause-ends
-returns-in-Err-clause-ends c = λ s o e. subst (λ (r : Result Lines Stop). LinesEnd (length c.args.config.nodes) c.args.catalogue r s o) (sym c.in-Err.is) e
+returns-in-Err-clause-ends c = λ s o e. subst (λ (r : Result Lines Stop). LinesEnd c.args.config c.args.catalogue r s o) (sym c.in-Err.is) e

@@ -1,14 +1,16 @@
 use Rattle.std.proofs.Common.{refl}
 use Rattle.session_seat.specs.Policy.{policy_in}
+use Rattle.session_seat.specs.Shared.{shared_of}
 use Rattle.session_player.specs.Journals.{machines_of}
 use Rattle.session_player.proofs.Going.{on_ok_always, went_kept}
 use Rattle.session_player.proofs.player.do_line.Goals as goal
 
 pub returns-in-Connect-clause-went : goal.returns-in-Connect-clause-went
 returns-in-Connect-clause-went g c =
+    let shared = shared_of g.B.Backend.meaning c.args.world.now.gate.state c.args.world.now.tables c.args.world.now.count c.args.world.now.shelf.items in
     let scene = c.args.scene.now in
     on_ok_always c.connect.result
-    (went_kept c.args.setting.tables.now (policy_in c.args.setting.config.now) c.args.world.now.gate.state scene.seats.slots.items c.connect.new.seats.slots.items scene.book.journal c.connect.new.book.journal
+    (went_kept c.args.setting.tables.now (policy_in c.args.setting.config.now) shared scene.seats.slots.items c.connect.new.seats.slots.items scene.book.journal c.connect.new.book.journal
     c.connect.ensures.machines c.connect.ensures.journal)
 
 pub returns-in-Lose-clause-went : goal.returns-in-Lose-clause-went
@@ -16,13 +18,15 @@ returns-in-Lose-clause-went g c = c.lose.ensures.went (machines_of (policy_in c.
 
 pub returns-in-Cut-clause-went : goal.returns-in-Cut-clause-went
 returns-in-Cut-clause-went g c =
+    let shared = shared_of g.B.Backend.meaning c.args.world.now.gate.state c.args.world.now.tables c.args.world.now.count c.args.world.now.shelf.items in
     let scene = c.args.scene.now in
-    went_kept c.args.setting.tables.now (policy_in c.args.setting.config.now) c.args.world.now.gate.state scene.seats.slots.items scene.seats.slots.items scene.book.journal scene.book.journal refl refl
+    went_kept c.args.setting.tables.now (policy_in c.args.setting.config.now) shared scene.seats.slots.items scene.seats.slots.items scene.book.journal scene.book.journal refl refl
 
 pub returns-in-Of-clause-went : goal.returns-in-Of-clause-went
 returns-in-Of-clause-went g c =
+    let shared = shared_of g.B.Backend.meaning c.args.world.now.gate.state c.args.world.now.tables c.args.world.now.count c.args.world.now.shelf.items in
     let scene = c.args.scene.now in
     let policy = policy_in c.args.setting.config.now in
     on_ok_always c.address.result
-    (went_kept c.args.setting.tables.now policy c.args.world.now.gate.state scene.seats.slots.items c.address.new.seats.slots.items scene.book.journal c.address.new.book.journal (c.address.ensures.machines policy)
+    (went_kept c.args.setting.tables.now policy shared scene.seats.slots.items c.address.new.seats.slots.items scene.book.journal c.address.new.book.journal (c.address.ensures.machines policy)
     c.address.ensures.journal)

@@ -2,6 +2,7 @@ use Rattle.std.proofs.Common.{refl, sym, subst}
 use Rattle.std.proofs.lemmas.Result.{on_ok_weaker}
 use Rattle.session_seat.specs.declared.book.Journal.{Journal}
 use Rattle.session_seat.specs.Policy.{policy_in}
+use Rattle.session_seat.specs.Shared.{shared_of}
 use Rattle.session_player.specs.Journals.{Went, state_of}
 use Rattle.session_player.proofs.Going.{on_ok_always, went_behind, went_kept}
 use Rattle.session_player.proofs.Telling.{grew_on}
@@ -17,15 +18,16 @@ returns-clause-went g c =
     let tables = c.args.setting.tables.now in
     let config = c.args.setting.config.now in
     let policy = policy_in config in
-    let gate = c.args.world.now.gate.state in
+    let old = shared_of g.B.Backend.meaning c.args.world.now.gate.state c.args.world.now.tables c.args.world.now.count c.args.world.now.shelf.items in
+    let new = shared_of g.B.Backend.meaning c.rounds.new.world.gate.state c.rounds.new.world.tables c.rounds.new.world.count c.rounds.new.world.shelf.items in
     let scene = c.args.scene.now in
     let freed = c.end_all.new.seats in
-    let first = went_kept tables policy gate scene.seats.slots.items freed.slots.items scene.book.journal scene.book.journal (c.end_all.ensures policy) refl in
+    let first = went_kept tables policy old scene.seats.slots.items freed.slots.items scene.book.journal scene.book.journal (c.end_all.ensures policy) refl in
     let whole =
-    went_behind tables c.at_moment-last.result.tables.now config c.at_moment-last.result.config.now (state_of policy gate scene.seats.slots.items) gate c.rounds.new.world.gate.state freed.slots.items
+    went_behind tables c.at_moment-last.result.tables.now config c.at_moment-last.result.config.now (state_of policy old scene.seats.slots.items) old new freed.slots.items
     c.rounds.new.seats.slots.items scene.book.journal scene.book.journal c.rounds.new.book.journal c.at_moment-last.ensures.tables c.at_moment-last.ensures.config first c.in_ok-rounds.ensures.went in
     on_ok_always c.put_journal.result
-    (subst (λ (j : Journal). Went tables (state_of policy gate scene.seats.slots.items) scene.book.journal (state_of policy c.rounds.new.world.gate.state c.rounds.new.seats.slots.items) j) (sym c.put_told.ensures.journal) whole)
+    (subst (λ (j : Journal). Went tables (state_of policy old scene.seats.slots.items) scene.book.journal (state_of policy new c.rounds.new.seats.slots.items) j) (sym c.put_told.ensures.journal) whole)
 
 pub returns-clause-put : goal.returns-clause-put
 returns-clause-put g c =

@@ -3,6 +3,7 @@ use Rattle.pgproto.specs.Line.{Line, line_of}
 use Rattle.pgproto.specs.Spelling.{IsOfGrammar}
 use Rattle.session_player.specs.Written.{AreParts}
 use Rattle.session_seat.specs.Policy.{policy_in}
+use Rattle.session_seat.specs.Shared.{shared_of}
 use Rattle.session_player.specs.Journals.{state_of}
 use Rattle.session_player.proofs.Going.{went_none, went_on}
 use Rattle.session_player.proofs.Walking.{taken, here_of}
@@ -16,15 +17,17 @@ returns-in_err-play_part-clause-grows g c =
     (grew_parts (map line_of (take c.loop-line.line-index c.args.script.now)) (had c.args.out.now) (had c.loop-line.out) c.loop-line.invariant.parts) c.play_part.ensures.grows
 
 pub loop-line-init : goal.loop-line-init
-loop-line-init g c = record {
-  grammar = c.requires.grammar;
-  went =
-      went_none c.args.setting.tables.now (state_of (policy_in c.args.setting.config.now) c.args.world.now.gate.state c.args.scene.now.seats.slots.items) c.args.scene.now.book.journal
-      c.args.scene.now.book.journal refl;
-  parts = refl;
-  boxes = refl;
-  later = omega arith;
-}
+loop-line-init g c =
+    let old = shared_of g.B.Backend.meaning c.args.world.now.gate.state c.args.world.now.tables c.args.world.now.count c.args.world.now.shelf.items in
+    record {
+      grammar = c.requires.grammar;
+      went =
+          went_none c.args.setting.tables.now (state_of (policy_in c.args.setting.config.now) old c.args.scene.now.seats.slots.items) c.args.scene.now.book.journal
+          c.args.scene.now.book.journal refl;
+      parts = refl;
+      boxes = refl;
+      later = omega arith;
+    }
 
 pub loop-line-preserved : goal.loop-line-preserved
 loop-line-preserved g c =
@@ -34,10 +37,13 @@ loop-line-preserved g c =
     let line = c.line-item.result in
     let After : List Line → Type 0 = λ lines. AreParts lines (had c.args.out.now) (had c.play_part.new.out) in
     let policy = policy_in c.args.setting.config.now in
+    let old = shared_of g.B.Backend.meaning c.args.world.now.gate.state c.args.world.now.tables c.args.world.now.count c.args.world.now.shelf.items in
+    let mid = shared_of g.B.Backend.meaning c.loop-line.world.gate.state c.loop-line.world.tables c.loop-line.world.count c.loop-line.world.shelf.items in
+    let new = shared_of g.B.Backend.meaning c.play_part.new.world.gate.state c.play_part.new.world.tables c.play_part.new.world.count c.play_part.new.world.shelf.items in
     record {
       went =
-          went_on c.args.setting.tables.now (state_of policy c.args.world.now.gate.state c.args.scene.now.seats.slots.items)
-          (state_of policy c.loop-line.world.gate.state c.loop-line.scene.seats.slots.items) (state_of policy c.play_part.new.world.gate.state c.play_part.new.scene.seats.slots.items)
+          went_on c.args.setting.tables.now (state_of policy old c.args.scene.now.seats.slots.items)
+          (state_of policy mid c.loop-line.scene.seats.slots.items) (state_of policy new c.play_part.new.scene.seats.slots.items)
           c.args.scene.now.book.journal c.loop-line.scene.book.journal c.play_part.new.scene.book.journal c.loop-line.invariant.went c.in_ok-play_part.ensures.went;
       grammar = (here_of line_of IsOfGrammar script i line c.loop-line-test.true c.line-item.is c.loop-line.invariant.grammar).1;
       parts = subst After (sym (taken line_of script i line c.loop-line-test.true c.line-item.is)) (parts_on (map line_of (take i script)) (line_of line) (had c.args.out.now) (had c.loop-line.out) (had c.play_part.new.out) c.loop-line.invariant.parts c.in_ok-play_part.ensures.part);

@@ -1,6 +1,7 @@
 use Rattle.std.proofs.Common.{sym, subst}
 use Rattle.session_seat.specs.declared.book.Journal.{Journal}
 use Rattle.session_seat.specs.Policy.{policy_in}
+use Rattle.session_seat.specs.Shared.{shared_of}
 use Rattle.session_player.specs.Journals.{Went, state_of}
 use Rattle.session_player.proofs.Going.{on_ok_always}
 use Rattle.pgproto.specs.Line.{line_of}
@@ -22,8 +23,10 @@ returns-clause-grows g c =
 pub returns-clause-went : goal.returns-clause-went
 returns-clause-went g c =
     let policy = policy_in c.args.setting.config.now in
+    let old = shared_of g.B.Backend.meaning c.args.world.now.gate.state c.args.world.now.tables c.args.world.now.count c.args.world.now.shelf.items in
+    let new = shared_of g.B.Backend.meaning c.play_line.new.world.gate.state c.play_line.new.world.tables c.play_line.new.world.count c.play_line.new.world.shelf.items in
     let scene = c.args.scene.now in
     let played = c.play_line.new.scene in
     on_ok_always c.put_told.result
-    (subst (λ (j : Journal). Went c.args.setting.tables.now (state_of policy c.args.world.now.gate.state scene.seats.slots.items) scene.book.journal (state_of policy c.play_line.new.world.gate.state played.seats.slots.items) j)
+    (subst (λ (j : Journal). Went c.args.setting.tables.now (state_of policy old scene.seats.slots.items) scene.book.journal (state_of policy new played.seats.slots.items) j)
     (sym c.put_told.ensures.journal) c.in_ok-play_line.ensures.went)

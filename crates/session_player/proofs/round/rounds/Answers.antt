@@ -1,29 +1,39 @@
 use Rattle.std.proofs.Common.{◌∙◌, drop, length, take, ◌++◌, refl, arith}
 use Rattle.session_seat.specs.Policy.{policy_in}
+use Rattle.session_seat.specs.Shared.{shared_of}
 use Rattle.session_player.specs.Journals.{state_of}
 use Rattle.session_player.proofs.Going.{went_none, went_round, whole_again}
 use Rattle.session_player.proofs.round.rounds.Goals as goal
 
 pub rounds-init : goal.rounds-init
-rounds-init g c = record {
-  went = went_none c.args.setting.tables.now (state_of (policy_in c.args.setting.config.now) c.args.world.now.gate.state c.args.seats.now.slots.items) c.args.book.now.journal c.args.book.now.journal refl;
-  boxes = refl;
-}
+rounds-init g c =
+    let old = shared_of g.B.Backend.meaning c.args.world.now.gate.state c.args.world.now.tables c.args.world.now.count c.args.world.now.shelf.items in
+    record {
+      went = went_none c.args.setting.tables.now (state_of (policy_in c.args.setting.config.now) old c.args.seats.now.slots.items) c.args.book.now.journal c.args.book.now.journal refl;
+      boxes = refl;
+    }
 
 pub returns-then-book-before-clause-went : goal.returns-then-book-before-clause-went
 returns-then-book-before-clause-went g c =
-    went_round c.args.setting.tables.now (policy_in c.args.setting.config.now) (state_of (policy_in c.args.setting.config.now) c.args.world.now.gate.state c.args.seats.now.slots.items) c.rounds.world.gate.state c.round.new.world.gate.state
+    let old = shared_of g.B.Backend.meaning c.args.world.now.gate.state c.args.world.now.tables c.args.world.now.count c.args.world.now.shelf.items in
+    let mid = shared_of g.B.Backend.meaning c.rounds.world.gate.state c.rounds.world.tables c.rounds.world.count c.rounds.world.shelf.items in
+    let new = shared_of g.B.Backend.meaning c.round.new.world.gate.state c.round.new.world.tables c.round.new.world.count c.round.new.world.shelf.items in
+    went_round c.args.setting.tables.now (policy_in c.args.setting.config.now) (state_of (policy_in c.args.setting.config.now) old c.args.seats.now.slots.items) mid new
     c.args.book.now.journal c.rounds.book.journal c.round.new.book.journal c.rounds.seats.slots.items c.as_mut_slice.result.now c.round.new.slots
     (take c.rounds.seats.slots.len (c.round.new.slots ++ drop (length c.round.new.slots) c.rounds.seats.slots.items)) c.as_mut_slice.ensures.value
     (whole_again c.rounds.seats.slots.len c.round.new.slots (drop (length c.round.new.slots) c.rounds.seats.slots.items) (omega (arith, c.as_mut_slice.ensures.len, c.round.auto.slots))) c.rounds.invariant.went
     c.in_ok-round.ensures.went
 
 pub rounds-preserved : goal.rounds-preserved
-rounds-preserved g c = record {
-  went = went_round c.args.setting.tables.now (policy_in c.args.setting.config.now) (state_of (policy_in c.args.setting.config.now) c.args.world.now.gate.state c.args.seats.now.slots.items) c.rounds.world.gate.state c.round.new.world.gate.state
-      c.args.book.now.journal c.rounds.book.journal c.round.new.book.journal c.rounds.seats.slots.items c.as_mut_slice.result.now c.round.new.slots
-      (take c.rounds.seats.slots.len (c.round.new.slots ++ drop (length c.round.new.slots) c.rounds.seats.slots.items)) c.as_mut_slice.ensures.value
-      (whole_again c.rounds.seats.slots.len c.round.new.slots (drop (length c.round.new.slots) c.rounds.seats.slots.items) (omega (arith, c.as_mut_slice.ensures.len, c.round.auto.slots))) c.rounds.invariant.went
-      c.in_ok-round.ensures.went;
-  boxes = c.round.ensures.boxes ∙ c.rounds.invariant.boxes;
-}
+rounds-preserved g c =
+    let old = shared_of g.B.Backend.meaning c.args.world.now.gate.state c.args.world.now.tables c.args.world.now.count c.args.world.now.shelf.items in
+    let mid = shared_of g.B.Backend.meaning c.rounds.world.gate.state c.rounds.world.tables c.rounds.world.count c.rounds.world.shelf.items in
+    let new = shared_of g.B.Backend.meaning c.round.new.world.gate.state c.round.new.world.tables c.round.new.world.count c.round.new.world.shelf.items in
+    record {
+      went = went_round c.args.setting.tables.now (policy_in c.args.setting.config.now) (state_of (policy_in c.args.setting.config.now) old c.args.seats.now.slots.items) mid new
+          c.args.book.now.journal c.rounds.book.journal c.round.new.book.journal c.rounds.seats.slots.items c.as_mut_slice.result.now c.round.new.slots
+          (take c.rounds.seats.slots.len (c.round.new.slots ++ drop (length c.round.new.slots) c.rounds.seats.slots.items)) c.as_mut_slice.ensures.value
+          (whole_again c.rounds.seats.slots.len c.round.new.slots (drop (length c.round.new.slots) c.rounds.seats.slots.items) (omega (arith, c.as_mut_slice.ensures.len, c.round.auto.slots))) c.rounds.invariant.went
+          c.in_ok-round.ensures.went;
+      boxes = c.round.ensures.boxes ∙ c.rounds.invariant.boxes;
+    }

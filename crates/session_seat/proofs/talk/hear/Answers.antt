@@ -1,25 +1,54 @@
-use Rattle.std.proofs.Common.{◌∙◌, ap, refl}
+use Rattle.std.proofs.Common.{ap, refl}
 use Rattle.std.specs.Prelude.{◌⊎◌}
 use Rattle.snapshot_gate.specs.declared.gate.Gate.{Gate}
 use Rattle.session_engine.specs.Cores.{machine_in}
 use Rattle.session_seat.specs.declared.step.Step.TheVariants as steps
 use Rattle.session_seat.specs.Policy.{policy_in}
+use Rattle.session_seat.specs.Shared.{shared_of, stores_of}
 use Rattle.session_seat.specs.Steps.{at}
 use Rattle.backend_trait.specs.declared.answer.Polled.TheVariants as polls
 use Rattle.session_seat.specs.Stops.{MayLookAt, IsUnfit}
 use Rattle.session_seat.proofs.DueLemmas.{heard_now, heard_step, lost_may, lost_stop, unfit_stop}
+use Rattle.session_seat.proofs.ServedLemmas.{lost_at, served, shared_same, unanswered}
 use Rattle.session_seat.proofs.StepLemmas.{missed_step}
 use Rattle.session_seat.proofs.talk.hear.Goals as goal
 
+pub returns-in-NotYet-clause-noted : goal.returns-in-NotYet-clause-noted
+returns-in-NotYet-clause-noted g c =
+    let world = c.args.world.now in
+    let new = c.poll.new.self in
+    record {
+      shared = shared_same (shared_of g.B.Backend.meaning world.gate.state world.tables world.count world.shelf.items) (shared_of g.B.Backend.meaning new.gate.state new.tables new.count new.shelf.items)
+          (ap (λ (gate : Gate). gate.state) c.poll.ensures.gate)
+          (unanswered (stores_of g.B.Backend.meaning world.tables world.count world.shelf.items) (stores_of g.B.Backend.meaning new.tables new.count new.shelf.items) c.args.b.number c.args.seat.now.s.number
+          c.in_ok-before.field-0.polled c.in-NotYet.is c.in_ok-before.ensures.acts c.in_ok-before.ensures.alone);
+      machine = refl;
+      journal = refl;
+    }
+
+pub returns-in-Answered-clause-noted : goal.returns-in-Answered-clause-noted
+returns-in-Answered-clause-noted g c =
+    let world = c.args.world.now in
+    let new = c.poll.new.self in
+    c.take.ensures.noted (shared_of g.B.Backend.meaning world.gate.state world.tables world.count world.shelf.items) (shared_of g.B.Backend.meaning new.gate.state new.tables new.count new.shelf.items)
+    (ap (λ (gate : Gate). gate.state) c.poll.ensures.gate)
+    (served c.args.setting.tables.now (stores_of g.B.Backend.meaning world.tables world.count world.shelf.items) (stores_of g.B.Backend.meaning new.tables new.count new.shelf.items) c.args.b c.args.seat.now.s.number
+    c.in_ok-before.field-0.polled c.in-Answered.answer c.in-Answered.is c.in_ok-before.ensures.acts c.in_ok-before.ensures.alone)
+
 pub returns-in_ok-note_loss-in-Lost-clause-noted : goal.returns-in_ok-note_loss-in-Lost-clause-noted
 returns-in_ok-note_loss-in-Lost-clause-noted g c =
+    let world = c.args.world.now in
+    let new = c.poll.new.self in
+    let looked = c.in_ok-before.field-0 in
     missed_step c.args.setting.tables.now (policy_in c.args.setting.config.now) c.args.seat.now.s
-    (at c.args.world.now.gate.state (machine_in c.args.seat.now.core) c.args.book.now.journal)
-    (at c.note_loss.new.world.gate.state (machine_in c.miss.new.seat.core) c.miss.new.book.journal)
-    c.note_loss.new.book.journal c.args.b c.in_ok-before.field-0.before c.in_ok-before.field-0.after c.miss.result
+    (at (shared_of g.B.Backend.meaning world.gate.state world.tables world.count world.shelf.items) (machine_in c.args.seat.now.core) c.args.book.now.journal)
+    (at (shared_of g.B.Backend.meaning new.gate.state new.tables new.count new.shelf.items) (machine_in c.miss.new.seat.core) c.miss.new.book.journal)
+    c.note_loss.new.book.journal c.args.b looked.before looked.after looked.is_new c.miss.result
     c.in_ok-note_loss-in-Lost.ensures.line c.miss.ensures.is
-    (lost_may (machine_in c.args.seat.now.core) c.args.b c.in_ok-before.field-0.before c.in_ok-before.field-0.after c.requires.asked (c.in_ok-before.ensures.rose c.in-Lost.is)) c.miss.ensures.leads c.miss.ensures.line
-    (ap (λ (gate : Gate). gate.state) (c.note_loss.ensures.gate ∙ c.poll.ensures.gate))
+    (lost_may (machine_in c.args.seat.now.core) c.args.b looked.before looked.after c.requires.asked (c.in_ok-before.ensures.rose c.in-Lost.is)) c.miss.ensures.leads c.miss.ensures.line
+    (ap (λ (gate : Gate). gate.state) c.poll.ensures.gate)
+    (lost_at (stores_of g.B.Backend.meaning world.tables world.count world.shelf.items) (stores_of g.B.Backend.meaning new.tables new.count new.shelf.items) c.args.b.number c.args.seat.now.s.number looked.polled looked.is_new
+    c.in-Lost.is c.in_ok-before.ensures.acts c.in_ok-before.ensures.alone c.in_ok-before.ensures.pending c.in_ok-before.ensures.new_loss)
 
 pub returns-in-Answered-clause-due : goal.returns-in-Answered-clause-due
 returns-in-Answered-clause-due g c =

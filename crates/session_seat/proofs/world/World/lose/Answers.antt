@@ -1,6 +1,8 @@
-use Rattle.std.proofs.Common.{arith}
+use Rattle.std.proofs.Common.{ap, arith}
 use Rattle.std.proofs.lemmas.List.{length-set}
-use Rattle.session_seat.proofs.RollLemmas.{known_lost}
+use Rattle.backend_trait.specs.Store.{Store}
+use Rattle.session_seat.proofs.RollLemmas.{honest_next, known_lost, told_lost}
+use Rattle.session_seat.proofs.SharedLemmas.{loss_at}
 use Rattle.session_seat.proofs.world.World.lose.Goals as goal
 
 pub invariant_of-self : goal.invariant_of-self
@@ -10,4 +12,7 @@ invariant_of-self g c =
       enough = omega (arith, length-set world.shelf.items c.from-at.result c.lose.new.self, world.enough);
       known = known_lost g.B.Backend.meaning world.tables world.count world.shelf.items world.rolls c.from-at.result c.index_mut.result.now c.lose.new.self world.known (omega arith) world.enough c.index_mut.ensures.value
           c.lose.ensures.lost;
+      honest = honest_next g.B.Backend.is_honest world.count world.shelf.items c.from-at.result c.index_mut.result.now c.lose.new.self world.honest (omega arith) world.enough c.index_mut.ensures.value c.lose.ensures.honest;
+      told = told_lost g.B.Backend.meaning world.lost.bits c.with-self.result.bits world.count world.shelf.items c.from-at.result c.args.b.number c.lose.new.self world.told (omega arith) (omega (arith, world.enough))
+          c.with-self.ensures.members (ap (λ (st : Store). st.lost) c.lose.ensures.lost);
     }

@@ -1,8 +1,17 @@
-use Rattle.session_seat.proofs.RollLemmas.{known_first}
+use Rattle.std.proofs.Common.{◌<◌, rules}
+use Rattle.session_seat.proofs.RollLemmas.{honest_first, known_first, told_first}
+use Rattle.session_seat.proofs.SharedLemmas.{first_at}
 use Rattle.session_seat.proofs.world.World.new.Goals as goal
 
 pub invariant_of-result : goal.invariant_of-result
 invariant_of-result g c = record {
   enough = c.requires.enough;
   known = known_first g.B.Backend.meaning c.args.tables c.args.count c.args.shelf.items 8 c.new-roll.result c.new-roll.ensures c.requires.enough c.requires.prepared;
+  honest = honest_first g.B.Backend.is_honest c.args.count c.args.shelf.items c.requires.enough c.requires.honest;
+  told = told_first g.B.Backend.meaning c.args.tables c.args.count c.args.shelf.items c.requires.enough c.requires.prepared;
 }
+
+pub returns-clause-first : goal.returns-clause-first
+returns-clause-first g c =
+    let few : c.first_of.result.bits < 256 = search rules in
+    first_at g.B.Backend.meaning c.new-gate.result.state c.args.tables c.args.count c.args.shelf.items c.first_of.result few c.first_of.ensures c.new-gate.ensures c.requires.prepared

@@ -1,0 +1,5 @@
+pub mod Marks
+pub mod Answers
+pub mod Orders
+pub mod Entries
+pub mod Plays
