@@ -1,0 +1,4 @@
+pub mod Attaching
+pub mod Leaving
+pub mod Quieting
+pub mod Sparing

@@ -1,0 +1,4 @@
+pub mod Pool
+pub mod Counting
+pub mod Phases
+pub mod Sample
