@@ -7,20 +7,18 @@ use Rattle.pool_base.specs.Sets.{has, with_one}
 use Rattle.pool_base.specs.declared.backend_id.BackendId.{BackendId}
 use Rattle.pool_base.specs.declared.gate_call.GateCall.TheVariants.{Attach}
 use Rattle.pool_base.proofs.Finite.{with_fits, with_members}
-use Rattle.backend_trait.specs.declared.answer.Answer.{Answer}
-use Rattle.backend_trait.specs.Rows.{with_at, no_changes}
-use Rattle.backend_trait.specs.Effect.{Conflicts, nothing}
-use Rattle.backend_trait.specs.Store.{Live, Transaction, Absent, Alive, Dead, Store, held_by}
+use Rattle.backend_trait.specs.Rows.{with_at}
+use Rattle.backend_trait.specs.Effect.{Conflicts}
+use Rattle.backend_trait.specs.Store.{Transaction, Absent, Alive, Dead, Store, held_by}
 use Rattle.snapshot_gate.specs.Function.{granted}
 use Rattle.session_orders.specs.declared.outcome.Outcome.{Outcome}
 use Rattle.session_machine.specs.declared.machine.GatePhase.{GatePhase}
 use Rattle.session_machine.specs.declared.machine.GatePhase.TheVariants as phases
 use Rattle.session_machine.specs.declared.work.Work.{Work}
-use Rattle.session_machine.specs.declared.machine.Machine.{Machine}
 use Rattle.session_machine.specs.declared.machine.Stage.{Stage}
 use Rattle.session_machine.specs.declared.machine.Stage.TheVariants.{Opening, Reading, Running, Locking, Inserting, Committing, Closing, RollingBack}
 use Rattle.session_machine.specs.declared.machine.Point.{Point}
-use Rattle.session_machine.specs.declared.machine.Point.TheVariants.{Resting, EnterDue, LookDue, PostDue, Waiting, LostDue, SplitDue, ChooseDue, ShowDue, LeaveSnapshotDue, UnwindDue, EnterCommitDue, LeaveCommitDue, FinishDue, ReplyDue, EndDue}
+use Rattle.session_machine.specs.declared.machine.Point.TheVariants.{LeaveSnapshotDue}
 use Rattle.one_copy_model.specs.declared.deed.Entry.{Entry}
 use Rattle.one_copy_model.specs.Numbers.{some_below}
 use Rattle.one_copy_model.specs.World.{World}
@@ -28,7 +26,7 @@ use Rattle.one_copy_model.specs.Deaths.{is_live, is_alive_at, is_alive, stage_at
 use Rattle.one_copy_model.specs.Tracking.{Told, Tracked, in_commit, joined, single}
 use Rattle.one_copy_model.specs.Orders.{is_of_commit}
 use Rattle.one_copy_model.specs.Standing.{Standing, Nowhere, Leaving, standing_at, standing_by, standing_of, Stands, leaving_of}
-use Rattle.one_copy_model.specs.Invariant.{Invariant, FitsPoint, fits_stage, in_snapshot, in_transaction, IsSound, IsStranger, is_dead}
+use Rattle.one_copy_model.specs.Invariant.{Invariant, FitsPoint, fits_stage, in_snapshot, in_transaction, IsSound, is_dead}
 use Rattle.one_copy_model.proofs.LossLaws.{none_fall}
 use Rattle.world_frames.specs.Own.{IsIn, IsPools, pools_moment, pools_counts, pools_backends, pools_refusal, pools_nodes, IsRightBy, stand, told_by}
 use Rattle.world_frames.specs.Facts.{Going, Inserted}

@@ -1,4 +1,12 @@
+pub mod Always
 pub mod Attaching
+pub mod Basing
+pub mod Copying
+pub mod Freeing
 pub mod Leaving
+pub mod Lining
 pub mod Quieting
 pub mod Sparing
+pub mod Stepping
+pub mod Stillness
+pub mod Targets

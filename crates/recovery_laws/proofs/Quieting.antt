@@ -6,7 +6,6 @@ use Rattle.pool_base.specs.declared.backend_set.BackendSet.{BackendSet}
 use Rattle.backend_trait.specs.Rows.{with_at}
 use Rattle.snapshot_gate.specs.declared.state.GateState.{GateState}
 use Rattle.session_machine.specs.declared.machine.ReadPolicy.{ReadPolicy}
-use Rattle.session_machine.specs.declared.machine.GatePhase.{GatePhase}
 use Rattle.session_machine.specs.declared.machine.GatePhase.TheVariants as phases
 use Rattle.session_machine.specs.declared.machine.Machine.{Machine}
 use Rattle.session_machine.specs.declared.machine.Point.{Point}

@@ -1,16 +1,15 @@
 -- A backend that is not attached gets another store: the facts hold on.
-use Rattle.std.proofs.Common.{◌≡◌, ◌≢◌, ◌<◌, ℕ, zero, suc, arith, Bool, true, false, ◌||◌, List, refl, sym, ap, ◌∙◌, subst}
-use Rattle.std.specs.Prelude.{◌&&◌, ◌⊎◌, Option, Some, None}
+use Rattle.std.proofs.Common.{◌≡◌, ◌<◌, ℕ, zero, suc, arith, Bool, true, false, ◌||◌, List, refl, sym, ap, ◌∙◌, subst}
+use Rattle.std.specs.Prelude.{◌&&◌, ◌⊎◌, Some, None}
 use Rattle.std.specs.FinMap as fin
 use Rattle.pool_base.specs.Sets.{has}
 use Rattle.backend_trait.specs.Rows.{with_at, no_changes}
-use Rattle.backend_trait.specs.Store.{Live, Absent, Alive, Pending, Store, prepared}
-use Rattle.backend_trait.specs.Keys.{Place}
+use Rattle.backend_trait.specs.Store.{Absent, Alive, Pending, Store, prepared}
 use Rattle.session_machine.specs.declared.work.Work.{Work}
 use Rattle.one_copy_model.specs.declared.deed.Entry.{Entry}
 use Rattle.one_copy_model.specs.Numbers.{some_below}
 use Rattle.one_copy_model.specs.World.{World}
-use Rattle.one_copy_model.specs.Deaths.{is_live, is_alive_at, is_alive, stage_at, fallen}
+use Rattle.one_copy_model.specs.Deaths.{is_live, is_alive_at, is_alive, fallen}
 use Rattle.one_copy_model.specs.Tracking.{Tracked, single}
 use Rattle.one_copy_model.specs.Chains.{AreShaped}
 use Rattle.one_copy_model.specs.Standing.{Stands, leaving_of}
