@@ -58,7 +58,7 @@ pub fn bases_are_right()
         ≡ (single (pool_all (first_pool layout policy attached) steps).tracked).next table }
 {}
 
-/// There never step adds to the single run while a recovery has entered its quiet: its rows and its
+/// There no step adds to the single run while a recovery has entered its quiet: its rows and its
 /// next serial numbers stay.
 pub fn quiet_adds_nothing()
     ensures { (layout : Layout) (policy : ReadPolicy) (attached : BackendSet) (steps : List Step)
