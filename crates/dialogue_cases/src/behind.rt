@@ -100,8 +100,34 @@ fn given_of<'a>(behind: &mut Behind, given: &'a str, word: &str) -> Option<&'a s
     Some(rest)
 }
 
-/// The outcome of an order that ends or begins a block, or settles: the one that is given of it, or
-/// what becomes of it where nothing goes wrong.
+/// A recovery's error: its code, and behind it the name where it has one.
+fn not_recovered(alloc: Global, behind: &mut Behind, given: &str) -> Outcome
+    ensures { MayAnswer result }
+{
+    let Some((code, name)) = given.split_once(' ') else {
+        return error_of(alloc, given);
+    };
+    match (code_of(code), Text::from_str(alloc, name)) {
+        (Some(code), Ok(name)) => refused(alloc, behind, code, name),
+        _ => error_of(alloc, "XX000"),
+    }
+}
+
+/// The outcome of a recovery: the error that is given of it, or that the backend is back.
+fn recovered(alloc: Global, behind: &mut Behind, given: &str) -> Outcome
+    ensures { MayAnswer result }
+{
+    match given_of(behind, given, "recover error ") {
+        Some(error) => not_recovered(alloc, behind, error),
+        None => Outcome::Done {
+            tag: Tag::Recover,
+            warning: None,
+        },
+    }
+}
+
+/// The outcome of an order that is none of a statement: the one that is given of it, or what
+/// becomes of it where nothing goes wrong.
 fn other(alloc: Global, behind: &mut Behind, given: &str, body: OrderBody) -> Outcome
     ensures { MayAnswer result }
 {
@@ -127,6 +153,7 @@ fn other(alloc: Global, behind: &mut Behind, given: &str, body: OrderBody) -> Ou
         },
         OrderBody::Refuse { code, name } => refused(alloc, behind, code, name),
         OrderBody::Rollback => ended(behind, Tag::Rollback),
+        OrderBody::Recover(_) => recovered(alloc, behind, given),
         rest => {
             drop(rest);
             Outcome::Settled

@@ -32,6 +32,11 @@ fn put_refuse(code: Code, name: &str, told: &mut Told) {
     told.put("\"");
 }
 
+fn put_recover(backend: u8, told: &mut Told) {
+    told.put("recover ");
+    told.put_number(u64::from(backend));
+}
+
 /// An order as a journal has it.
 pub(crate) fn put_order(alloc: Global, tables: &Catalogue, body: &OrderBody, told: &mut Told) {
     put_next(told);
@@ -42,7 +47,7 @@ pub(crate) fn put_order(alloc: Global, tables: &Catalogue, body: &OrderBody, tol
         OrderBody::Rollback => told.put("rollback"),
         OrderBody::Settle => told.put("settle"),
         OrderBody::ShowNodes => told.put("show-nodes"),
-        OrderBody::Recover(_) => told.put("recover"),
+        OrderBody::Recover(backend) => put_recover(*backend, told),
         OrderBody::Refuse { code, name } => put_refuse(*code, name.as_str(), told),
         OrderBody::Leave => told.put("leave"),
     }

@@ -7,8 +7,8 @@ use Rattle.session_orders.specs.declared.order.OrderBody.{OrderBody}
 use Rattle.session_orders.specs.declared.order.OrderBody.TheVariants.{Settle}
 use Rattle.wire_query.specs.declared.asking.Asked.{Asked}
 use Rattle.wire_session.specs.declared.refusal.Refusal.{Refusal}
-use Rattle.session_wire.specs.declared.due.Due.TheVariants as due
-use Rattle.session_wire.specs.Asking.{AsksFirst, OrdersFirst, OrdersNext, behind, has_failed, is_over, settling}
+use Rattle.session_wire.specs.declared.due.Due.{Due}
+use Rattle.session_wire.specs.Asking.{AsksFirst, OrdersFirst, OrdersNext, behind, due_of, is_over, settling}
 use Rattle.session_wire.specs.Hears.{refusing}
 use Rattle.session_wire.specs.Shown.{View}
 
@@ -31,24 +31,25 @@ pub last_so : (ss : List Statement) (at : ℕ) → at < length ss → eqb (at + 
 last_so ss at below = last_by (drop (at + 1) ss) (at + 1) (length ss) (omega (arith, below, length-drop (at + 1) ss))
 
 -- an order leaves the statements behind the first
-pub taken_so : (v : View) (left : List Statement) (last : Bool) (description : List ℕ) → behind v.left ≡ left → last ≡ is_over left
-    → ◌≡◌ {A = View} (record v { left = left; due = Some (due.Statement description last) }) (record v { left = behind v.left; due = Some (due.Statement description (is_over (behind v.left))) })
-taken_so v left last description e l =
-    ap (λ (b : Bool). record v { left = left; due = Some (due.Statement description b) }) l
-    ∙ ap (λ (ss : List Statement). record v { left = ss; due = Some (due.Statement description (is_over ss)) }) (sym e)
+pub taken_so : (v : View) (left : List Statement) (last : Bool) (body : OrderBody) (description : List ℕ) (d : Due) → behind v.left ≡ left → last ≡ is_over left → d ≡ due_of body description last
+    → ◌≡◌ {A = View} (record v { left = left; due = Some d }) (record v { left = behind v.left; due = Some (due_of body description (is_over (behind v.left))) })
+taken_so v left last body description d e l is =
+    ap (λ (one : Due). record v { left = left; due = Some one }) is
+    ∙ ap (λ (b : Bool). record v { left = left; due = Some (due_of body description b) }) l
+    ∙ ap (λ (ss : List Statement). record v { left = ss; due = Some (due_of body description (is_over ss)) }) (sym e)
 
 pub refused_so : (v : View) (r : Refusal) (left : List Statement) (last : Bool) (new : View) → behind v.left ≡ left → last ≡ is_over left → new ≡ refusing r last v
     → new ≡ refusing r (is_over (behind v.left)) v
 refused_so v r left last new e l is = is ∙ ap (λ (b : Bool). refusing r b v) (l ∙ ap is_over (sym e))
 
-pub asks_so : (tables : List TableDef) (failed implicit : Bool) (left more : List Statement) (s : Statement) (what : Asked) → left ≡ s ∷ more
-    → AsksFirst tables failed implicit (s ∷ more) what → AsksFirst tables failed implicit left what
-asks_so tables failed implicit left more s what e h = subst (λ ss. AsksFirst tables failed implicit ss what) (sym e) h
+pub asks_so : (tables : List TableDef) (status : ℕ) (implicit : Bool) (left more : List Statement) (s : Statement) (what : Asked) → left ≡ s ∷ more
+    → AsksFirst tables status implicit (s ∷ more) what → AsksFirst tables status implicit left what
+asks_so tables status implicit left more s what e h = subst (λ ss. AsksFirst tables status implicit ss what) (sym e) h
 
 pub first_next : (tables : List TableDef) (left : List Statement) (settles : Bool) (body : OrderBody) (old new : View) → old.left ≡ left
     → OrdersFirst tables body old new → OrdersNext tables left settles (Some body) old new
 first_next tables [] settles body old new e h =
-    let none : AsksFirst tables (has_failed old) old.session.implicit [] h.what = subst (λ ss. AsksFirst tables (has_failed old) old.session.implicit ss h.what) e h.asks in
+    let none : AsksFirst tables old.session.status old.session.implicit [] h.what = subst (λ ss. AsksFirst tables old.session.status old.session.implicit ss h.what) e h.asks in
     absurd none
 first_next tables (s ∷ more) settles body old new e h = h
 

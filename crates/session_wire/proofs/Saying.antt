@@ -20,6 +20,11 @@ says_on nodes (due.Statement description last) (outcome.Done tag warning) status
 says_on nodes (due.Statement description last) (outcome.Error code name) status old mid s stays says = says
 says_on nodes (due.Statement description last) (outcome.Nodes attached) status old mid s stays says = says
 says_on nodes (due.Statement description last) outcome.Settled status old mid s stays says = says
+says_on nodes (due.Recovery last) (outcome.Rows rows tag) status old mid s stays says = says
+says_on nodes (due.Recovery last) (outcome.Done tag warning) status old mid s stays says = says
+says_on nodes (due.Recovery last) (outcome.Error code name) status old mid s stays says = says
+says_on nodes (due.Recovery last) (outcome.Nodes attached) status old mid s stays says = says
+says_on nodes (due.Recovery last) outcome.Settled status old mid s stays says = says
 says_on nodes (due.Refused code saying last) (outcome.Rows rows tag) status old mid s stays says = says
 says_on nodes (due.Refused code saying last) (outcome.Done tag warning) status old mid s stays says = says
 says_on nodes (due.Refused code saying last) (outcome.Error found name) status old mid s stays says = says

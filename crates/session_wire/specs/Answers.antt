@@ -1,5 +1,5 @@
 -- Which outcomes may answer an order, and what a wire does at the outcome of its last order.
-use Rattle.std.specs.Prelude.{◌≡◌, ◌≤◌, ℕ, ℤ, Bool, true, false, List, [], ◌++◌, Option, Some, None, length, codes, bytes_eq, nat_eq, if◌then◌else◌}
+use Rattle.std.specs.Prelude.{◌≡◌, ◌≤◌, ℕ, ℤ, Bool, true, false, List, [], ◌∷◌, ◌++◌, ◌&&◌, Option, Some, None, length, codes, bytes_eq, nat_eq, if◌then◌else◌}
 use Rattle.pool_base.specs.declared.code.Code.{Code}
 use Rattle.pool_config.specs.declared.config.Node.{Node}
 use Rattle.session_orders.specs.declared.outcome.Outcome.{Outcome}
@@ -7,6 +7,7 @@ use Rattle.session_orders.specs.declared.outcome.Outcome.TheVariants as outcome
 use Rattle.session_orders.specs.declared.outcome.Tag.TheVariants as tag
 use Rattle.wire_reply.specs.declared.report.Severity.TheVariants.{Error}
 use Rattle.wire_reply.specs.declared.saying.Saying.{Saying}
+use Rattle.wire_reply.specs.declared.saying.Saying.TheVariants.{NotInProfile, NotRecoverable}
 use Rattle.wire_reply.specs.Codes.{of_backend}
 use Rattle.wire_reply.specs.Replies.{report_bytes, text_with, complete_bytes, ready_bytes}
 use Rattle.wire_reply.specs.Rows.{AreInRange, AreRows}
@@ -36,6 +37,10 @@ code_of (outcome.Nodes attached) = None
 abbrev pub Gives : Bool → List ℕ → View → View → Type 0
 Gives last bytes old new = Puts last bytes old.output old.held new.output new.held
 
+abbrev pub is_name : List ℕ → Bool
+is_name [] = false
+is_name (letter ∷ letters) = true
+
 -- what is said of the code of an outcome of a refusal: the code that was refused has the text of its cause
 abbrev pub saying_of : List ℕ → Saying → List ℕ → Saying
 saying_of asked saying code = if bytes_eq code asked then saying else of_backend code
@@ -49,6 +54,23 @@ SaysStatement nodes description last (outcome.Nodes attached) old new =
     (bytes : List ℕ) × TellsNodes attached.bits nodes bytes × Gives last (bytes ++ complete_bytes (codes "SHOW")) old new
 SaysStatement nodes description last (outcome.Error code name) old new = Gives last (error_bytes code.bytes) old new
 SaysStatement nodes description last outcome.Settled old new = Gives last [] old new
+
+-- what is said of the code of an error in answer to a recovery: 55000 has a text of its own, and what a name says is not taken stands in
+-- the text, as where an order is refused
+abbrev pub of_recovery : List ℕ → List ℕ → Saying
+of_recovery code name =
+    if bytes_eq code (codes "55000") then NotRecoverable
+    else if bytes_eq code (codes "0A000") && is_name name then NotInProfile
+    else of_backend code
+
+-- of a recovery: its tag, or an error
+abbrev pub SaysRecovery : Bool → Outcome → View → View → Type 0
+SaysRecovery last (outcome.Done tag warning) old new = Gives last (done_bytes tag warning) old new
+SaysRecovery last (outcome.Error code name) old new =
+    Gives last (report_bytes Error code.bytes (text_with (of_recovery code.bytes name) name)) old new
+SaysRecovery last (outcome.Rows rows tag) old new = Gives last [] old new
+SaysRecovery last (outcome.Nodes attached) old new = Gives last [] old new
+SaysRecovery last outcome.Settled old new = Gives last [] old new
 
 -- of a refusal: the code that was refused has the text of its cause, another that of a backend's
 abbrev pub SaysRefused : Code → Saying → Bool → Outcome → View → View → Type 0
@@ -71,6 +93,7 @@ SaysExecute portal limit outcome.Settled old new = Gives false [] old new
 -- what is told of an outcome with these nodes configured, by what its order was for
 abbrev pub Says : List Node → Due → Outcome → ℕ → View → View → Type 0
 Says nodes (due.Statement description last) outcome status old new = SaysStatement nodes description last outcome old new
+Says nodes (due.Recovery last) outcome status old new = SaysRecovery last outcome old new
 Says nodes (due.Refused code saying last) outcome status old new = SaysRefused code saying last outcome old new
 Says nodes (due.Declined code saying) outcome status old new = SaysRefused code saying false outcome old new
 Says nodes (due.Execute portal limit) outcome status old new = SaysExecute portal limit outcome old new

@@ -1,7 +1,7 @@
 //! What becomes of an order, as bytes for the client.
 ghost use Rattle.std.specs.Prelude.{◌≡◌, ◌≤◌, length, false, true, None, Some, IfOk, IsTrue, IsOk, OnOk};
 ghost use Rattle.wire_reply.specs.Rows.{AreInRange};
-ghost use Rattle.session_wire.specs.Answers.{MayAnswer, Says, SaysExecute, SaysRefused, SaysStatement, code_of, ends_block, ends_now, implicit_after, saying_of, skips};
+ghost use Rattle.session_wire.specs.Answers.{MayAnswer, Says, SaysExecute, SaysRecovery, SaysRefused, SaysStatement, code_of, ends_block, ends_now, implicit_after, of_recovery, saying_of, skips};
 ghost use Rattle.wire_session.specs.Kept.{HasNone};
 ghost use Rattle.session_wire.specs.Hears.{with_session};
 ghost use Rattle.session_wire.specs.Sayings.{HasRoom};
@@ -130,6 +130,10 @@ impl Wire {
                 self.statement(config, description, last, outcome)?;
                 Ok(())
             }
+            Due::Recovery { last } => {
+                self.recovered(last, outcome)?;
+                Ok(())
+            }
             Due::Refused { code, saying, last } => {
                 self.refused(code, saying, last, outcome)?;
                 Ok(())
@@ -223,6 +227,44 @@ impl Wire {
         let bytes = nodes_bytes(self.alloc, config.nodes.as_slice(), attached)?;
         self.output.put(last, bytes.as_slice())?;
         self.output.put_done(self.alloc, last, Tag::Show, None)?;
+        Ok(())
+    }
+
+    /// The outcome of a recovery, whose reply waits for Settle or not. An error ends the text.
+    fn recovered(&mut self, waits: bool, outcome: Outcome) -> Result<(), NoMemory>
+        requires range { MayAnswer outcome }
+        ensures says { OnOk result (SaysRecovery waits outcome (shown self.old)
+            (shown self.new)) }
+        ensures session { self.new.session ≡ self.old.session }
+        ensures due { self.new.due ≡ self.old.due }
+    {
+        match outcome {
+            Outcome::Done { tag, warning } => {
+                self.output.put_done(self.alloc, waits, tag, warning)?;
+                Ok(())
+            }
+            Outcome::Error { code, name } => {
+                self.report_recovered(waits, code, name)?;
+                Ok(())
+            }
+            other => {
+                drop(other);
+                self.output.put(waits, &[])?;
+                Ok(())
+            }
+        }
+    }
+
+    fn report_recovered(&mut self, waits: bool, code: Code, name: Text) -> Result<(), NoMemory>
+        requires short { length name ≤ 1000 }
+        ensures says { OnOk result (SaysRecovery waits (Failed code name) (shown self.old)
+            (shown self.new)) }
+        ensures session { self.new.session ≡ self.old.session }
+        ensures due { self.new.due ≡ self.old.due }
+    {
+        self.at = self.text.len();
+        let saying = of_recovery(code, name.as_bytes());
+        self.output.put_error(waits, code, saying, name.as_bytes())?;
         Ok(())
     }
 
@@ -337,6 +379,22 @@ impl Wire {
         }
         self.session.portals.clear();
         Ok(())
+    }
+}
+
+/// What is said of the code of an error in answer to a recovery.
+///
+/// House rule: `0A000` has the text of what is not taken where a name comes with it, which is so
+/// where the order was refused; a backend's has no name.
+fn of_recovery(code: Code, name: &[u8]) -> Saying
+    ensures { result ≡ of_recovery code.bytes name.now }
+{
+    if code.bytes == *b"55000" {
+        Saying::NotRecoverable
+    } else if code.bytes == *b"0A000" && !name.is_empty() {
+        Saying::NotInProfile
+    } else {
+        of_backend(code)
     }
 }
 

@@ -1,11 +1,11 @@
 //! What is ordered of a text that was read: its statements one by one, and then that it be settled.
 ghost use Rattle.std.specs.Prelude.{◌≡◌, ◌<◌, length, Some, IfOk, OnOk};
 ghost use Rattle.schema.specs.Grammar.{IsWithin};
-ghost use Rattle.session_wire.specs.Asking.{AsksFirst, Orders, OrdersFirst, OrdersNext, has_failed};
+ghost use Rattle.session_wire.specs.Asking.{AsksFirst, Orders, OrdersFirst, OrdersNext};
 ghost use Rattle.session_wire.specs.Sayings.{HasRoom};
 ghost use Rattle.session_wire.specs.Shown.{shown};
 
-use crate::due::Due;
+use crate::due::{Due, due_of};
 use crate::wire::Wire;
 use catalogue::Catalogue;
 use pool_base::NoMemory;
@@ -67,13 +67,13 @@ impl Wire {
     fn ask_first(&self, tables: &Catalogue) -> Result<Asked, NoMemory>
         requires within { IsWithin tables.now }
         requires some { self.now.at < length self.now.text }
-        ensures { IfOk result (AsksFirst tables.now (has_failed (shown self.now))
+        ensures { IfOk result (AsksFirst tables.now (shown self.now).session.status
             (shown self.now).session.implicit (shown self.now).left) }
     {
         let statements = self.text.as_slice();
         let statement = &statements[self.at];
-        let failed = self.session.status == b'E';
-        let asked = ask(self.alloc, tables, statement, failed, self.session.implicit)?;
+        let status = self.session.status;
+        let asked = ask(self.alloc, tables, statement, status, self.session.implicit)?;
         Ok(asked)
     }
 
@@ -88,7 +88,7 @@ impl Wire {
         match asked {
             Asked::Order { body, description } => {
                 self.at += 1;
-                self.due = Some(Due::Statement { description, last });
+                self.due = Some(due_of(&body, description, last));
                 body
             }
             Asked::Refused(refusal) => self.refuse_query(refusal, last),

@@ -1,5 +1,5 @@
 -- What a statement of a Query asks for.
-use Rattle.std.specs.Prelude.{◌≡◌, ℕ, List, [], ◌∷◌, Bool, true, false, None, codes}
+use Rattle.std.specs.Prelude.{◌≡◌, ℕ, List, [], ◌∷◌, Bool, true, false, ◌&&◌, not, None, nat_eq, codes}
 use Rattle.schema.specs.declared.catalogue.TableDef.{TableDef}
 use Rattle.sql_tree.specs.declared.statement.Statement.{Statement}
 use Rattle.sql_tree.specs.declared.statement.Statement.TheVariants as statement
@@ -9,7 +9,7 @@ use Rattle.pg_messages.specs.declared.server.ServerMessage.TheVariants.{RowDescr
 use Rattle.wire_reply.specs.Rows.{IsMessage, fields_from}
 use Rattle.session_orders.specs.declared.order.OrderBody.{OrderBody}
 use Rattle.session_orders.specs.declared.order.OrderBody.TheVariants as orders
-use Rattle.wire_reply.specs.declared.saying.Saying.TheVariants.{Aborted}
+use Rattle.wire_reply.specs.declared.saying.Saying.TheVariants.{Aborted, InTransaction}
 use Rattle.wire_session.specs.declared.refusal.Refusal.{Refusal}
 use Rattle.wire_session.specs.Refusals.{Says, IsNotTaken}
 use Rattle.wire_query.specs.declared.asking.Asked.{Asked}
@@ -51,18 +51,30 @@ AsksWork tables s (Order body description) =
     (checked : Checked) × (body ≡ orders.Statement checked) × Describes checked.columns description × Judges tables s None (verdict.Taken checked)
 AsksWork tables s (Refused r) = WhyWrong tables s None r
 
+-- nothing is under way: no block, and no transaction that none began
+abbrev pub is_apart : ℕ → Bool → Bool
+is_apart status implicit = nat_eq status 73 && not implicit
+
+-- a backend is brought back outside of blocks and transactions alone
+abbrev pub AsksRecovery : Bool → ℕ → Asked → Type 0
+AsksRecovery true b asked = IsOrder (orders.Recover b) asked
+AsksRecovery false b asked = IsRefused (Says InTransaction (codes "25001") []) asked
+
+abbrev pub is_failed : ℕ → Bool
+is_failed status = nat_eq status 69
+
 abbrev pub Unless : Bool → Asked → Type 0 → Type 0
 Unless true asked P = IsBarred asked
 Unless false asked P = P
 
--- what a statement asks for: in a failed block, or not; in a transaction that no block began, or not
-abbrev pub Asks : List TableDef → Bool → Bool → Statement → Asked → Type 0
-Asks tables failed implicit statement.Commit asked = AsksControl implicit orders.Commit asked
-Asks tables failed implicit statement.Rollback asked = AsksControl implicit orders.Rollback asked
-Asks tables failed implicit statement.Begin asked = Unless failed asked (AsksControl implicit orders.Begin asked)
-Asks tables failed implicit statement.ShowNodes asked = Unless failed asked (IsOrder orders.ShowNodes asked)
-Asks tables failed implicit (statement.Recover b) asked = Unless failed asked (IsRefused (IsNotTaken (codes "recover")) asked)
-Asks tables failed implicit (statement.Select select) asked = Unless failed asked (AsksWork tables (statement.Select select) asked)
-Asks tables failed implicit (statement.Insert insert) asked = Unless failed asked (AsksWork tables (statement.Insert insert) asked)
-Asks tables failed implicit (statement.Update update) asked = Unless failed asked (AsksWork tables (statement.Update update) asked)
-Asks tables failed implicit (statement.Delete delete) asked = Unless failed asked (AsksWork tables (statement.Delete delete) asked)
+-- what a statement asks for, with that status: in a failed block, or not; in a transaction that no block began, or not
+abbrev pub Asks : List TableDef → ℕ → Bool → Statement → Asked → Type 0
+Asks tables status implicit statement.Commit asked = AsksControl implicit orders.Commit asked
+Asks tables status implicit statement.Rollback asked = AsksControl implicit orders.Rollback asked
+Asks tables status implicit statement.Begin asked = Unless (is_failed status) asked (AsksControl implicit orders.Begin asked)
+Asks tables status implicit statement.ShowNodes asked = Unless (is_failed status) asked (IsOrder orders.ShowNodes asked)
+Asks tables status implicit (statement.Recover b) asked = Unless (is_failed status) asked (AsksRecovery (is_apart status implicit) b asked)
+Asks tables status implicit (statement.Select select) asked = Unless (is_failed status) asked (AsksWork tables (statement.Select select) asked)
+Asks tables status implicit (statement.Insert insert) asked = Unless (is_failed status) asked (AsksWork tables (statement.Insert insert) asked)
+Asks tables status implicit (statement.Update update) asked = Unless (is_failed status) asked (AsksWork tables (statement.Update update) asked)
+Asks tables status implicit (statement.Delete delete) asked = Unless (is_failed status) asked (AsksWork tables (statement.Delete delete) asked)

@@ -1,10 +1,10 @@
 //! What a statement of a Query asks for.
-ghost use Rattle.std.specs.Prelude.{[], codes, IfOk};
+ghost use Rattle.std.specs.Prelude.{◌≡◌, [], codes, IfOk};
 ghost use Rattle.schema.specs.Grammar.{IsWithin};
 ghost use Rattle.catalogue.specs.Checking.{IsChecked};
 ghost use Rattle.wire_reply.specs.declared.saying.Saying.TheVariants.{Aborted};
-ghost use Rattle.wire_session.specs.Refusals.{Says, IsNotTaken};
-ghost use Rattle.wire_query.specs.Asking.{IsOrder, IsRefused, IsBarred, IsStatement, AsksControl, AsksWork, Asks, Describes};
+ghost use Rattle.wire_session.specs.Refusals.{Says};
+ghost use Rattle.wire_query.specs.Asking.{IsOrder, IsBarred, IsStatement, AsksControl, AsksRecovery, AsksWork, Asks, Describes, is_apart};
 
 use crate::checking::{Verdict, judged};
 use catalogue::{Catalogue, Checked, ColumnDesc};
@@ -98,34 +98,48 @@ fn work(alloc: Global, tables: &Catalogue, statement: &Statement) -> Result<Aske
     }
 }
 
-fn no_recovery(alloc: Global) -> Result<Asked, NoMemory>
-    ensures { IfOk result (IsRefused (IsNotTaken (codes "recover"))) }
+/// Whether nothing is under way: no block, and no transaction that none began.
+fn is_apart(status: u8, implicit: bool) -> bool
+    ensures { result ≡ is_apart status implicit }
 {
-    Ok(Asked::Refused(not_in_profile(alloc, "recover")?))
+    status == b'I' && !implicit
 }
 
-/// What a statement of a Query asks for, in a failed block or not, and in a transaction that no
-/// block began or not.
+/// A backend is brought back outside of blocks and transactions alone.
+fn recovery(alloc: Global, apart: bool, backend: u8) -> Result<Asked, NoMemory>
+    ensures { IfOk result (AsksRecovery apart backend) }
+{
+    if apart {
+        return Ok(plain(alloc, OrderBody::Recover(backend)));
+    }
+    let refusal = refused(alloc, Saying::InTransaction, Code { bytes: *b"25001" })?;
+    Ok(Asked::Refused(refusal))
+}
+
+/// What a statement of a Query asks for, where the session's status is `I`, `T` or `E`, in a
+/// transaction that no block began or not.
 ///
-/// Errors: `25P02` in a failed block, but for a statement that ends it; then what the tables say.
+/// Errors: `25P02` in a failed block, but for a statement that ends it; then what the tables say,
+/// and `25001` of a recovery in a block or a transaction.
 /// House rule: a block neither begins nor ends in a transaction that no block began.
 pub fn ask(
     alloc: Global,
     tables: &Catalogue,
     statement: &Statement,
-    failed: bool,
+    status: u8,
     implicit: bool,
 ) -> Result<Asked, NoMemory>
     requires within { IsWithin tables.now }
-    ensures { IfOk result (Asks tables.now failed implicit statement.now) }
+    ensures { IfOk result (Asks tables.now status implicit statement.now) }
 {
+    let failed = status == b'E';
     match statement {
         Statement::Commit => control(alloc, implicit, OrderBody::Commit),
         Statement::Rollback => control(alloc, implicit, OrderBody::Rollback),
         _ if failed => barred(alloc),
         Statement::Begin => control(alloc, implicit, OrderBody::Begin),
         Statement::ShowNodes => Ok(plain(alloc, OrderBody::ShowNodes)),
-        Statement::Recover(_) => no_recovery(alloc),
+        Statement::Recover(backend) => recovery(alloc, is_apart(status, implicit), *backend),
         Statement::Select(_) => work(alloc, tables, statement),
         Statement::Insert(_) => work(alloc, tables, statement),
         Statement::Update(_) => work(alloc, tables, statement),
