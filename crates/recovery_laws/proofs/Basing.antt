@@ -70,7 +70,7 @@ asked_fits n held (Waiting task) p b request f free here waits asks =
 asked_fits n held (Undoing side ending) p b request f free here waits asks = subst (λ x. FitsRequest x p) (sym asks) tt
 asked_fits n held at p b request f free here waits asks = absurd waits
 
-module _ (p : Pool) (phases : ℕ → Phase) (h : Holds p phases) (apart : AreApart p.gate) where
+module _ (p : Pool) (phases : ℕ → Phase) (h : Holds p phases) where
   abbrev own : GateState
   own = (world_of p).gate
 
@@ -80,15 +80,6 @@ module _ (p : Pool) (phases : ℕ → Phase) (h : Holds p phases) (apart : AreAp
   nobody : own.commits ≡ 0 → NobodyCommits (world_of p)
   nobody none s low high is =
       count_some (λ o. in_commit ((world_of p).machine o).session.gate) 65 s (sym h.invariant.counts.commits ∙ none) (let z : s < 65 = omega (arith, high) in z) (ap in_commit is)
-
-  -- a snapshot of a recovery is one of the gate's
-  in_snapshot : (s : SessionId) → IsIn InSnapshot Copying (phases s.number) → own.commits ≡ 0
-  in_snapshot s is = elim apart [
-    | inl none ↦
-        absurd (count_some (λ o. is_in_snapshot (phases o).gate) 65 s.number
-        (let e = h.counts.snaps in let z : count_below (λ o. is_in_snapshot (phases o).gate) 65 ≡ 0 = omega (arith, e, none) in z) (below_65 s) (ap is_in_snapshot is.0))
-    | inr none ↦ same_commits ∙ none
-  ]
 
   entered : (s : ℕ) → IsIn Out Entered (phases s) → p.gate.quiet ≡ 3
   entered s is = h.one.quiet s (λ opened. let z : Entered ≡ Open = sym is.1 ∙ opened in cc) ∙ ap number_of is.1
@@ -109,11 +100,6 @@ module _ (p : Pool) (phases : ℕ → Phase) (h : Holds p phases) (apart : AreAp
   same_here : (b : ℕ) → has p.gate.attached.bits b ≡ true → has own.attached.bits b ≡ true
   same_here b here = ap (λ (g : GateState). has g.attached.bits b) h.counts.same ∙ here
 
-  pub base_is : (s : SessionId) (b : ℕ) → p.asked s.number b ≡ Some requests.TakeSnapshot → has p.gate.attached.bits b ≡ true → ((world_of p).store b).rows ≡ (single p.tracked).rows
-  base_is s b is here =
-      let none : own.commits ≡ 0 = elim (fits_at s.number b requests.TakeSnapshot is here) [ inl snap ↦ in_snapshot s snap | inr quiet ↦ under_quiet (entered s.number quiet) ] in
-      (agree p.tracked h.invariant (nobody none) b (same_here b here)).rows
-
   same_quiet : p.gate.quiet ≡ 3 → own.quiet ≡ 3
   same_quiet three = ap (λ (g : GateState). g.quiet) h.counts.same ∙ three
 
@@ -121,21 +107,40 @@ module _ (p : Pool) (phases : ℕ → Phase) (h : Holds p phases) (apart : AreAp
   nobody_inserts three s low high inserts =
       subst IsInserting (calm p.tracked h.invariant (same_quiet three) s) inserts
 
-  pub number_is : (s : SessionId) (b table : ℕ) → p.asked s.number b ≡ Some (requests.ReadSerial table) → has p.gate.attached.bits b ≡ true
-      → ((world_of p).store b).next table ≡ (single p.tracked).next table
-  number_is s b table is here =
-      let three = entered s.number (fits_at s.number b (requests.ReadSerial table) is here) in
-      (agree p.tracked h.invariant (nobody (under_quiet three)) b (same_here b here)).numbers (nobody_inserts three) table
+  -- under entered quiet an attached backend has the rows of the single run
+  pub quiet_rows : p.gate.quiet ≡ 3 → (b : ℕ) → has p.gate.attached.bits b ≡ true → ((world_of p).store b).rows ≡ (single p.tracked).rows
+  quiet_rows three b here = (agree p.tracked h.invariant (nobody (under_quiet three)) b (same_here b here)).rows
 
-  -- Under entered quiet no step adds to the single run.
+  module _ (apart : AreApart p.gate) where
+    -- a snapshot of a recovery is one of the gate's
+    in_snapshot : (s : SessionId) → IsIn InSnapshot Copying (phases s.number) → own.commits ≡ 0
+    in_snapshot s is = elim apart [
+      | inl none ↦
+          absurd (count_some (λ o. is_in_snapshot (phases o).gate) 65 s.number
+          (let e = h.counts.snaps in let z : count_below (λ o. is_in_snapshot (phases o).gate) 65 ≡ 0 = omega (arith, e, none) in z) (below_65 s) (ap is_in_snapshot is.0))
+      | inr none ↦ same_commits ∙ none
+    ]
 
-  answers_add : (s b : ℕ) (answer : Answer) (request : Option Request) → own.quiet ≡ 3 → (answered p s b answer request).tracked.history ≡ p.tracked.history
-  answers_add s b answer None three = refl
-  answers_add s b answer (Some request) three = falls_none p.tracked h.invariant three (world_of (answered p s b answer (Some request))) refl
+    pub base_is : (s : SessionId) (b : ℕ) → p.asked s.number b ≡ Some requests.TakeSnapshot → has p.gate.attached.bits b ≡ true → ((world_of p).store b).rows ≡ (single p.tracked).rows
+    base_is s b is here =
+        let none : own.commits ≡ 0 = elim (fits_at s.number b requests.TakeSnapshot is here) [ inl snap ↦ in_snapshot s snap | inr quiet ↦ under_quiet (entered s.number quiet) ] in
+        (agree p.tracked h.invariant (nobody none) b (same_here b here)).rows
 
-  pub step_adds : (e : Step) → p.gate.quiet ≡ 3 → (after p e).tracked.history ≡ p.tracked.history
-  step_adds (Serve event) three = adds_nothing p.tracked h.invariant (same_quiet three) event
-  step_adds (Recover s event) three =
-      falls_none p.tracked h.invariant (same_quiet three) (tracked_recovered p.tracked (gate_after p.gate (call_in event)) s.number event).world
-      (recovered_tables p.tracked (gate_after p.gate (call_in event)) s.number event)
-  step_adds (Answers s b answer) three = answers_add s.number b.number answer (p.asked s.number b.number) (same_quiet three)
+    pub number_is : (s : SessionId) (b table : ℕ) → p.asked s.number b ≡ Some (requests.ReadSerial table) → has p.gate.attached.bits b ≡ true
+        → ((world_of p).store b).next table ≡ (single p.tracked).next table
+    number_is s b table is here =
+        let three = entered s.number (fits_at s.number b (requests.ReadSerial table) is here) in
+        (agree p.tracked h.invariant (nobody (under_quiet three)) b (same_here b here)).numbers (nobody_inserts three) table
+
+    -- Under entered quiet no step adds to the single run.
+
+    answers_add : (s b : ℕ) (answer : Answer) (request : Option Request) → own.quiet ≡ 3 → (answered p s b answer request).tracked.history ≡ p.tracked.history
+    answers_add s b answer None three = refl
+    answers_add s b answer (Some request) three = falls_none p.tracked h.invariant three (world_of (answered p s b answer (Some request))) refl
+
+    pub step_adds : (e : Step) → p.gate.quiet ≡ 3 → (after p e).tracked.history ≡ p.tracked.history
+    step_adds (Serve event) three = adds_nothing p.tracked h.invariant (same_quiet three) event
+    step_adds (Recover s event) three =
+        falls_none p.tracked h.invariant (same_quiet three) (tracked_recovered p.tracked (gate_after p.gate (call_in event)) s.number event).world
+        (recovered_tables p.tracked (gate_after p.gate (call_in event)) s.number event)
+    step_adds (Answers s b answer) three = answers_add s.number b.number answer (p.asked s.number b.number) (same_quiet three)

@@ -73,7 +73,7 @@ module _ (st : Store) (s : ℕ) (x : Transaction) where
   abbrev Same : Store → Type 0
   Same new = store_left st new s ≡ st
 
-  settled_same : (y : Transaction) (next : ℕ → Option ℤ) → next ≡ st.next → Same (record (settled seen s y) { next = next })
+  pub settled_same : (y : Transaction) (next : ℕ → Option ℤ) → next ≡ st.next → Same (record (settled seen s y) { next = next })
   settled_same y next e =
       ap (λ (f : ℕ → Transaction). record st { transaction = f; next = next }) (back y)
       ∙ ap (λ (n : ℕ → Option ℤ). record st { next = n }) e
@@ -124,6 +124,10 @@ alive_stored tables u base changes = record {
   base = λ l e. subst (λ (z : Live). AreAllStored tables z.base) (let same : u ≡ l = cc in same) base;
   changes = λ l p row e is. changes p row (ap (λ (z : Live). fin.get z.changes p) (let same : u ≡ l = cc in same) ∙ is);
 }
+
+-- and what it sees
+pub view_stored : (tables : List TableDef) (x : Transaction) → AreStoredIn tables x → (l : Live) → x ≡ Alive l → AreAllStored tables (view_of l)
+view_stored tables x h l is = laid_stored tables l.base l.changes (h.base l is) (λ q row f. h.changes l q row is f)
 
 stored_in : (st : Store) → AreShaped st → (s : ℕ) → AreStoredIn st.tables (st.transaction s)
 stored_in st shaped s = record { base = shaped.bases s; changes = shaped.changes s }

@@ -172,7 +172,7 @@ answered_tables : (p : Pool) (s b : ℕ) (answer : Answer) (request : Option Req
 answered_tables p s b answer None = refl
 answered_tables p s b answer (Some request) = refl
 
-step_tables : (p : Pool) (e : Step) → (world_of (after p e)).tables ≡ (world_of p).tables
+pub step_tables : (p : Pool) (e : Step) → (world_of (after p e)).tables ≡ (world_of p).tables
 step_tables p (Serve event) = served_tables (world_of p) event
 step_tables p (Recover s event) = recovered_tables p.tracked (gate_after p.gate (call_in event)) s.number event
 step_tables p (Answers s b answer) = answered_tables p s.number b.number answer (p.asked s.number b.number)

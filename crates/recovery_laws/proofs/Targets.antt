@@ -85,7 +85,7 @@ not_asked p e f = let z : Asked ≡ Open = sym e ∙ f in cc
 not_entered : (p : Phase) → p.quiet ≡ Entered → p.quiet ≡ Open → ⊥
 not_entered p e f = let z : Entered ≡ Open = sym e ∙ f in cc
 
-task_open : (task : Task) (p : Phase) → FitsTask task p → p.quiet ≡ Open → ⊥
+pub task_open : (task : Task) (p : Phase) → FitsTask task p → p.quiet ≡ Open → ⊥
 task_open OpeningSource p f e = elim f [ inl x ↦ not_open p x.1 e | inr x ↦ not_entered p x.1 e ]
 task_open OpeningTarget p f e = elim f [ inl x ↦ not_open p x.1 e | inr x ↦ not_entered p x.1 e ]
 task_open (Reading table) p f e = elim f [ inl x ↦ not_open p x.1 e | inr x ↦ not_entered p x.1 e ]
@@ -161,7 +161,7 @@ session_steady call answer may = refl
 same_fewer : (g n : GateState) → n.attached ≡ g.attached → (k : ℕ) → has n.attached.bits k ≡ true → has g.attached.bits k ≡ true
 same_fewer g n e k = subst (λ a. has a.bits k ≡ true → has g.attached.bits k ≡ true) (sym e) (λ h. h)
 
-gone_fewer : (g : GateState) (b : BackendId) → g.attached.bits < 256 → (k : ℕ) → has (step g (calls.Detach b)).0.attached.bits k ≡ true → has g.attached.bits k ≡ true
+pub gone_fewer : (g : GateState) (b : BackendId) → g.attached.bits < 256 → (k : ℕ) → has (step g (calls.Detach b)).0.attached.bits k ≡ true → has g.attached.bits k ≡ true
 gone_fewer g b few k e =
     fewer_in g b (has g.attached.bits b.number) few k
     (one_of_eight (step g (calls.Detach b)).0.attached.bits k (few_left g b (has g.attached.bits b.number) few) e) e

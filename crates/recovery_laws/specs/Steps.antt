@@ -1,4 +1,4 @@
--- What is asked of the steps of recoveries, so that each moment is one of a single store.
+-- Lists of steps that are fit, as every list is; and what holds along them: each moment is one of a single store.
 use Rattle.std.specs.Prelude.{List, [], ◌∷◌, Option, Some, None}
 use Rattle.pool_base.specs.declared.gate_call.GateCall.TheVariants as calls
 use Rattle.pool_base.specs.declared.gate_call.GateAnswer.TheVariants.{Granted}

@@ -13,14 +13,21 @@ ghost use Rattle.recovery_world.specs.declared.step.Step.{Step};
 ghost use Rattle.recovery_world.specs.Pool.{after, first_pool, pool_all, world_of, IsPlayed};
 ghost use Rattle.recovery_laws.specs.Steps.{AllHold, AreFit};
 
-/// Where each target is ready when it is attached, and each statement that a recovery asks for can
-/// be run on the tables, the invariant holds at every step, each reply to a session is right, and
-/// each attached backend has done each commit that it acknowledges, or was attached after it.
+/// Every list of steps is fit: each target is ready when it is attached, and each statement that a
+/// recovery asks for can be run on the tables.
+pub fn steps_are_fit()
+    ensures { (layout : Layout) (policy : ReadPolicy) (attached : BackendSet) (steps : List Step)
+        → AreAllowed layout.tables → attached.bits < 256
+        → IsPlayed (first_pool layout policy attached) steps
+        → AreFit (first_pool layout policy attached) steps }
+{}
+
+/// So the invariant holds at every step, each reply to a session is right, and each attached
+/// backend has done each commit that it acknowledges, or was attached after it.
 pub fn always_holds()
     ensures { (layout : Layout) (policy : ReadPolicy) (attached : BackendSet) (steps : List Step)
         → AreAllowed layout.tables → attached.bits < 256
         → IsPlayed (first_pool layout policy attached) steps
-        → AreFit (first_pool layout policy attached) steps
         → AllHold (first_pool layout policy attached) steps }
 {}
 
@@ -29,7 +36,6 @@ pub fn replicas_agree()
     ensures { (layout : Layout) (policy : ReadPolicy) (attached : BackendSet) (steps : List Step)
         → AreAllowed layout.tables → attached.bits < 256
         → IsPlayed (first_pool layout policy attached) steps
-        → AreFit (first_pool layout policy attached) steps
         → ReplicasAgree (pool_all (first_pool layout policy attached) steps).tracked }
 {}
 
@@ -40,7 +46,6 @@ pub fn bases_are_right()
         (steps : List Step) (s : SessionId) (b : ℕ)
         → AreAllowed layout.tables → attached.bits < 256
         → IsPlayed (first_pool layout policy attached) steps
-        → AreFit (first_pool layout policy attached) steps
         → (pool_all (first_pool layout policy attached) steps).asked s.number b
         ≡ Some TakeSnapshot
         → has (pool_all (first_pool layout policy attached) steps).gate.attached.bits b ≡ true
@@ -50,7 +55,6 @@ pub fn bases_are_right()
         (steps : List Step) (s : SessionId) (b table : ℕ)
         → AreAllowed layout.tables → attached.bits < 256
         → IsPlayed (first_pool layout policy attached) steps
-        → AreFit (first_pool layout policy attached) steps
         → (pool_all (first_pool layout policy attached) steps).asked s.number b
         ≡ Some (ReadSerial table)
         → has (pool_all (first_pool layout policy attached) steps).gate.attached.bits b ≡ true
@@ -64,7 +68,6 @@ pub fn quiet_adds_nothing()
     ensures { (layout : Layout) (policy : ReadPolicy) (attached : BackendSet) (steps : List Step)
         (step : Step) → AreAllowed layout.tables → attached.bits < 256
         → IsPlayed (first_pool layout policy attached) steps
-        → AreFit (first_pool layout policy attached) steps
         → (pool_all (first_pool layout policy attached) steps).gate.quiet ≡ 3
         → (after (pool_all (first_pool layout policy attached) steps) step).tracked.history
         ≡ (pool_all (first_pool layout policy attached) steps).tracked.history }

@@ -6,3 +6,4 @@ pub mod Meeting
 pub mod Quieting
 pub mod Sampled
 pub mod Still
+pub mod Waited

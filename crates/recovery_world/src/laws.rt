@@ -1,16 +1,22 @@
 //! What holds of every list of steps.
-ghost use Rattle.std.specs.Prelude.{◌≡◌, true, List, []};
+ghost use Rattle.std.specs.Prelude.{◌≡◌, ◌+◌, ℕ, true, List, []};
+ghost use Rattle.pool_base.specs.declared.gate_call.GateAnswer.TheVariants.{Held};
+ghost use Rattle.pool_base.specs.declared.gate_call.GateCall.TheVariants.{EnterQuiet};
 ghost use Rattle.pool_base.specs.Sets.{has};
 ghost use Rattle.pool_base.specs.declared.backend_set.BackendSet.{BackendSet};
 ghost use Rattle.schema_print.specs.Allowed.{AreAllowed};
 ghost use Rattle.session_machine.specs.declared.machine.ReadPolicy.{ReadPolicy};
+ghost use Rattle.snapshot_gate.specs.Function.{refuse, step};
 ghost use Rattle.snapshot_gate.specs.Runs.{AreApart};
+ghost use Rattle.online_recovery.specs.declared.action.RecoveryAction.TheVariants.{Gate};
+ghost use Rattle.online_recovery.specs.Rules.{next_action};
 ghost use Rattle.online_recovery.specs.declared.layout.Layout.{Layout};
 ghost use Rattle.one_copy_model.specs.declared.event.Event.{Event};
 ghost use Rattle.one_copy_model.specs.World.{first_world, IsSchedule};
 ghost use Rattle.one_copy_model.specs.Tracking.{first_tracked, tracked_all};
 ghost use Rattle.recovery_world.specs.declared.step.Step.{Step};
-ghost use Rattle.recovery_world.specs.Pool.{first_pool, pool_all, served, world_of, IsPlayed};
+ghost use Rattle.recovery_world.specs.Pool.{first_pool, pool_all, served, world_of, IsPlayed, Pool};
+ghost use Rattle.recovery_world.specs.Waiting.{IsRecoveryBlocked};
 ghost use Rattle.recovery_world.specs.Counting.{CountsBoth};
 ghost use Rattle.recovery_world.specs.Phases.{all_outside, phases_all, IsStill, QuietIsOne};
 ghost use Rattle.recovery_world.specs.Sample.{of_none, first_alone, one_recovery, too_early};
@@ -65,6 +71,14 @@ pub fn without_recoveries()
         (events : List Event)
         → (pool_all (first_pool layout policy attached) (served events)).tracked
         ≡ tracked_all (first_tracked layout.tables policy attached) events }
+{}
+
+/// The gate holds a recovery off its quiet exactly where the recovery is blocked.
+pub fn held_off_is_blocked()
+    ensures held { (p : Pool) (s n : ℕ) → next_action (p.recovery s) ≡ Gate EnterQuiet
+        → step p.gate EnterQuiet ≡ refuse p.gate (Held n) → IsRecoveryBlocked p s }
+    ensures blocked { (p : Pool) (s : ℕ) → IsRecoveryBlocked p s
+        → step p.gate EnterQuiet ≡ refuse p.gate (Held (p.gate.snaps + p.gate.live)) }
 {}
 
 /// A recovery takes place from its order to its reply, and its target is attached at the end; and

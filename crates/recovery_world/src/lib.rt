@@ -7,7 +7,7 @@ mod laws;
 mod step;
 
 pub use laws::{
-    a_recovery_takes_place, counts_are_of_both, never_together, quiet_is_of_one, quiet_is_still,
-    without_recoveries,
+    a_recovery_takes_place, counts_are_of_both, held_off_is_blocked, never_together,
+    quiet_is_of_one, quiet_is_still, without_recoveries,
 };
 pub use step::Step;

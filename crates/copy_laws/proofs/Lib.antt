@@ -1,0 +1,10 @@
+pub mod Answering
+pub mod Drawing
+pub mod Meaning
+pub mod Seeking
+pub mod Reading
+pub mod Emptying
+pub mod Filling
+pub mod Filled
+pub mod Running
+pub mod Ending
