@@ -53,7 +53,7 @@ use Rattle.session_wire.specs.Steps.{IsNext}
 use Rattle.session_seat.specs.declared.book.Journal.{Journal}
 use Rattle.session_seat.specs.declared.fault.StepFault.{StepFault}
 use Rattle.session_seat.specs.declared.fault.StepFault.TheVariants.{Stopped}
-use Rattle.session_seat.specs.declared.roll.Roll.{Roll}
+use Rattle.backend_rolls.specs.declared.roll.Roll.{Roll}
 use Rattle.session_seat.specs.declared.seat.Seat.{Seat}
 use Rattle.session_seat.specs.declared.step.Step.{Step}
 use Rattle.session_seat.specs.declared.step.Step.TheVariants as steps

@@ -1,6 +1,7 @@
+mod BlankLemmas
 mod DueLemmas
-mod KnownLemmas
 mod RollLemmas
-mod ServedLemmas
+pub mod ServedLemmas
 mod SharedLemmas
-mod StepLemmas
+pub mod StepLemmas
+mod SwapLemmas

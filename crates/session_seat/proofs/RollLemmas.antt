@@ -1,36 +1,37 @@
--- The rolls of the backends: one is read, and one is changed with its backend. And which backends are honest, and which are lost.
-use Rattle.std.proofs.Common.{◌≡◌, ◌≢◌, ℕ, ◌<◌, ◌≤◌, Bool, true, false, List, length, get_or, set, take, replicate, zero, suc, refl, sym, ap, ◌∙◌, subst, arith, inl, inr}
+-- The rolls of the backends: one is read, and one is changed with its backend. And which are honest, count, are blank, and are lost.
+use Rattle.std.proofs.Common.{◌≡◌, ◌≢◌, ℕ, ◌<◌, ◌≤◌, ◌-◌, Bool, true, false, List, length, get_or, set, take, drop, replicate, zero, suc, refl, sym, ap, ◌∙◌, subst, arith, inl, inr}
 use Rattle.std.specs.Prelude.{All, Some, ◌==◌, ◌%◌, ◌^◌, slice_get, if◌then◌else◌}
 use Rattle.std.proofs.Math.Nat.{zero-div}
 use Rattle.std.proofs.lemmas.Bool.Decides.{eqb_tells}
-use Rattle.std.proofs.lemmas.List.{get_or-set_same, get_or-set_other, length-set, length-take-le, get_or-take}
+use Rattle.std.proofs.lemmas.List.{get_or-set_same, get_or-set_other, length-set, length-take-le, length-drop, get_or-take, get_or-drop}
 use Rattle.std.proofs.lemmas.Option.{slice_get-get_or, slice_get_read, slice_get_within, get_or_from_slice_get}
 use Rattle.pool_base.specs.Sets.{has, Gains}
 use Rattle.pool_base.specs.declared.backend_set.BackendSet.{BackendSet}
 use Rattle.schema.specs.declared.catalogue.TableDef.{TableDef}
-use Rattle.backend_trait.specs.Store.{Store, prepared, lost_by}
+use Rattle.backend_trait.specs.Rows.{with_at}
+use Rattle.backend_trait.specs.Store.{Store, blank, prepared, lost_by}
 use Rattle.backend_trait.specs.Acts.{InForm}
 use Rattle.backend_trait.specs.declared.answer.Polled.{Polled}
 use Rattle.backend_trait.specs.declared.answer.Polled.TheVariants as polls
-use Rattle.session_seat.specs.declared.known.Known.{Known}
-use Rattle.session_seat.specs.declared.roll.Roll.{Roll}
-use Rattle.session_seat.specs.Known.{Knows, nothing_known}
-use Rattle.session_seat.specs.Rolls.{known_in, roll_at, no_roll, IsTrueOf, AreTrue, AreHonest, AreTold}
-use Rattle.session_seat.proofs.KnownLemmas.{prepared_known, lost_known}
-
--- a roll of the same entry for all
-pub entries_same : (k : Known) (n s : ℕ) → k ≡ nothing_known → get_or (replicate n k) s nothing_known ≡ nothing_known
-entries_same k zero s is = refl
-entries_same k (suc n) zero is = is
-entries_same k (suc n) (suc s) is = entries_same k n s is
+use Rattle.backend_rolls.specs.declared.roll.Roll.{Roll}
+use Rattle.backend_rolls.specs.Known.{Counts, Knows, nothing_known}
+use Rattle.backend_rolls.specs.declared.spares.Spare.{Spare}
+use Rattle.backend_rolls.specs.declared.spares.Spare.TheVariants.{Spent}
+use Rattle.backend_rolls.specs.declared.spares.Spares.{Spares}
+use Rattle.backend_rolls.specs.Rolls.{known_in, roll_at, no_roll}
+use Rattle.backend_rolls.specs.Spares.{spare_at}
+use Rattle.backend_rolls.proofs.CountLemmas.{counts_first}
+use Rattle.backend_rolls.proofs.KnownLemmas.{prepared_known, lost_known}
+use Rattle.session_seat.proofs.BlankLemmas.{blank_is}
+use Rattle.session_seat.specs.Rolls.{IsTrueOf, AreTrue, AreHonest, AreTold, AllCount, AreBlank}
 
 -- one backend is new, with its roll
-set_other : {X : Type 0} (shelf : List X) (at b : ℕ) (x y : X) → b ≢ at → slice_get (set shelf at x) b ≡ Some y → slice_get shelf b ≡ Some y
+pub set_other : {X : Type 0} (shelf : List X) (at b : ℕ) (x y : X) → b ≢ at → slice_get (set shelf at x) b ≡ Some y → slice_get shelf b ≡ Some y
 set_other shelf at b x y other there =
     let inside : b < length shelf = (let w : b < length (set shelf at x) = slice_get_within (set shelf at x) b y there in omega (arith, w, length-set shelf at x)) in
     slice_get-get_or shelf b y inside ∙ ap Some (sym (get_or-set_other shelf at b x y other) ∙ get_or_from_slice_get (set shelf at x) b y y there)
 
-set_same : {X : Type 0} (shelf : List X) (at : ℕ) (x y : X) → at < length shelf → slice_get (set shelf at x) at ≡ Some y → y ≡ x
+pub set_same : {X : Type 0} (shelf : List X) (at : ℕ) (x y : X) → at < length shelf → slice_get (set shelf at x) at ≡ Some y → y ≡ x
 set_same shelf at x y inside there = sym (get_or_from_slice_get (set shelf at x) at y y there) ∙ get_or-set_same shelf at x y inside
 
 pub known_set : {X : Type 0} (meaning : X → Store) (tables : List TableDef) (count : ℕ) (shelf : List X) (rolls : List Roll) (at : ℕ) (x : X) (roll : Roll)
@@ -90,23 +91,63 @@ known_lost meaning tables count shelf rolls at x y known below enough read lost 
 
 -- The honest ones.
 
-pub honest_first : {X : Type 0} (is_honest : X → Bool) (count : ℕ) (shelf : List X) → count ≤ length shelf → All (λ b. is_honest b ≡ true) (take count shelf) → AreHonest is_honest count shelf
-honest_first is_honest count shelf enough each b x below there =
-    let first : get_or (take count shelf) b x ≡ x = get_or-take count shelf b x below ∙ get_or_from_slice_get shelf b x x there in
-    ap is_honest (sym first) ∙ each b x (omega (arith, length-take-le count shelf enough, below))
+pub honest_first : {X : Type 0} (is_honest : X → Bool) (shelf : List X) → All (λ b. is_honest b ≡ true) shelf → AreHonest is_honest shelf
+honest_first is_honest shelf each b x there = ap is_honest (sym (get_or_from_slice_get shelf b x x there)) ∙ each b x (slice_get_within shelf b x there)
 
-pub honest_at : {X : Type 0} (is_honest : X → Bool) (count : ℕ) (shelf : List X) (at : ℕ) (x : X) → AreHonest is_honest count shelf → at < count → count ≤ length shelf → x ≡ get_or shelf at x
-    → is_honest x ≡ true
-honest_at is_honest count shelf at x honest below enough read = honest at x below (slice_get_read shelf (length shelf) at x refl (omega (arith, below, enough)) read)
+pub honest_at : {X : Type 0} (is_honest : X → Bool) (shelf : List X) (at : ℕ) (x : X) → AreHonest is_honest shelf → at < length shelf → x ≡ get_or shelf at x → is_honest x ≡ true
+honest_at is_honest shelf at x honest inside read = honest at x (slice_get_read shelf (length shelf) at x refl inside read)
 
 -- no call changes whether one is honest
-pub honest_next : {X : Type 0} (is_honest : X → Bool) (count : ℕ) (shelf : List X) (at : ℕ) (x y : X)
-    → AreHonest is_honest count shelf → at < count → count ≤ length shelf → x ≡ get_or shelf at x → is_honest y ≡ is_honest x → AreHonest is_honest count (set shelf at y)
-honest_next is_honest count shelf at x y honest below enough read same b z under there = elim (eqb_tells b at) [
+pub honest_next : {X : Type 0} (is_honest : X → Bool) (shelf : List X) (at : ℕ) (x y : X) → AreHonest is_honest shelf → at < length shelf → x ≡ get_or shelf at x → is_honest y ≡ is_honest x
+    → AreHonest is_honest (set shelf at y)
+honest_next is_honest shelf at x y honest inside read same b z there = elim (eqb_tells b at) [
+  | inl p ↦
+      let here : z ≡ y = set_same shelf at y z inside (subst (λ j. slice_get (set shelf at y) j ≡ Some z) p.1 there) in
+      ap is_honest here ∙ same ∙ honest_at is_honest shelf at x honest inside read
+  | inr p ↦ honest b z (set_other shelf at b y z p.1 there)
+]
+
+-- Those that count.
+
+pub counting_first : {X : Type 0} (meaning : X → Store) (tables : List TableDef) (count : ℕ) (shelf : List X) → count ≤ length shelf → All (λ b. meaning b ≡ prepared tables) (take count shelf)
+    → AllCount meaning tables count shelf
+counting_first meaning tables count shelf enough each b x below there =
+    let first : get_or (take count shelf) b x ≡ x = get_or-take count shelf b x below ∙ get_or_from_slice_get shelf b x x there in
+    let is : meaning x ≡ prepared tables = ap meaning (sym first) ∙ each b x (omega (arith, length-take-le count shelf enough, below)) in
+    subst (Counts tables) (sym is) (counts_first tables)
+
+-- one is new, and counts where the old one does
+pub counting_next : {X : Type 0} (meaning : X → Store) (tables : List TableDef) (count : ℕ) (shelf : List X) (at : ℕ) (x y : X) → AllCount meaning tables count shelf → at < count → count ≤ length shelf
+    → x ≡ get_or shelf at x → (Counts tables (meaning x) → Counts tables (meaning y)) → AllCount meaning tables count (set shelf at y)
+counting_next meaning tables count shelf at x y counting below enough read kept b z under there = elim (eqb_tells b at) [
   | inl p ↦
       let here : z ≡ y = set_same shelf at y z (omega (arith, below, enough)) (subst (λ j. slice_get (set shelf at y) j ≡ Some z) p.1 there) in
-      ap is_honest here ∙ same ∙ honest_at is_honest count shelf at x honest below enough read
-  | inr p ↦ honest b z under (set_other shelf at b y z p.1 there)
+      let was : Counts tables (meaning x) = counting at x below (slice_get_read shelf (length shelf) at x refl (omega (arith, below, enough)) read) in
+      subst (λ w. Counts tables (meaning w)) (sym here) (kept was)
+  | inr p ↦ counting b z under (set_other shelf at b y z p.1 there)
+]
+
+-- The blank ones.
+
+pub blank_first : {X : Type 0} (meaning : X → Store) (count : ℕ) (shelf : List X) (spares : Spares) → All (λ b. meaning b ≡ blank) (drop count shelf) → AreBlank meaning count shelf spares
+blank_first meaning count shelf spares each b x behind unspent there =
+    let inside : b < length shelf = slice_get_within shelf b x there in
+    let read : get_or (drop count shelf) (b - count) x ≡ x = get_or-drop count shelf (b - count) x ∙ (ap (λ (n : ℕ). get_or shelf n x) (omega (arith, behind)) ∙ get_or_from_slice_get shelf b x x there) in
+    blank_is (meaning x) (ap meaning (sym read) ∙ each (b - count) x (omega (arith, length-drop count shelf, inside, behind)))
+
+-- one of the first is new
+pub blank_next : {X : Type 0} (meaning : X → Store) (count : ℕ) (shelf : List X) (spares : Spares) (at : ℕ) (y : X) → AreBlank meaning count shelf spares → at < count
+    → AreBlank meaning count (set shelf at y) spares
+blank_next meaning count shelf spares at y are below b z behind unspent there = are b z behind unspent (set_other shelf at b y z (λ same. omega (arith, same, below, behind)) there)
+
+-- one that is not spent is set aside, or is given back
+pub blank_put : {X : Type 0} (meaning : X → Store) (count : ℕ) (shelf : List X) (old new : Spares) (box : ℕ) (spare : Spare) → AreBlank meaning count shelf old → spare_at old box ≢ Spent
+    → spare_at new ≡ with_at (spare_at old) box spare → AreBlank meaning count shelf new
+blank_put meaning count shelf old new box spare are unspent put b x behind is there = elim (eqb_tells b box) [
+  | inl p ↦ are b x behind (subst (λ (j : ℕ). spare_at old j ≢ Spent) (sym p.1) unspent) there
+  | inr p ↦
+      let same : spare_at new b ≡ spare_at old b = ap (λ (f : ℕ → Spare). f b) put ∙ ap (λ (c : Bool). if c then spare else spare_at old b) p.0 in
+      are b x behind (λ spent. is (same ∙ spent)) there
 ]
 
 -- The lost ones.

@@ -10,14 +10,13 @@ use Rattle.pool_base.specs.declared.backend_id.BackendId.{BackendId}
 use Rattle.pool_base.specs.declared.backend_set.BackendSet.{BackendSet}
 use Rattle.schema.specs.declared.catalogue.TableDef.{TableDef}
 use Rattle.backend_trait.specs.Rows.{with_at}
-use Rattle.backend_trait.specs.Store.{Store, prepared, posted, lost_by}
+use Rattle.backend_trait.specs.Store.{Store, prepared, lost_by}
 use Rattle.backend_trait.specs.Acts.{Acts}
 use Rattle.backend_trait.specs.declared.answer.Polled.{Polled}
-use Rattle.backend_trait.specs.declared.request.Request.{Request}
 use Rattle.snapshot_gate.specs.declared.state.GateState.{GateState}
 use Rattle.snapshot_gate.specs.Function.{first as first_gate}
 use Rattle.session_seat.specs.Rolls.{AreTold}
-use Rattle.session_seat.specs.Shared.{Shared, AreFirst, IsFirst, IsLoss, first_shared, shared_of, store_in, stores_of}
+use Rattle.session_seat.specs.Shared.{AreFirst, IsFirst, IsLoss, shared_of, store_in, stores_of}
 
 -- what holds where a result is one
 pub where_on : {T E : Type 0} {P Q : Type 0} (r : Result T E) → (P → Q) → OnOk r P → OnOk r Q
@@ -49,7 +48,7 @@ store_if meaning tables true x found = refl
 store_if meaning tables false x found = refl
 
 -- one box is new
-stores_set : {X : Type 0} (meaning : X → Store) (tables : List TableDef) (count : ℕ) (shelf : List X) (at : ℕ) (x : X) → at < count → count ≤ length shelf
+pub stores_set : {X : Type 0} (meaning : X → Store) (tables : List TableDef) (count : ℕ) (shelf : List X) (at : ℕ) (x : X) → at < count → count ≤ length shelf
     → stores_of meaning tables count (set shelf at x) ≡ with_at (stores_of meaning tables count shelf) at (meaning x)
 stores_set {X} meaning tables count shelf at x below enough = λ i b. (by_number b) i
   where

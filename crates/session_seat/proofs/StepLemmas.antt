@@ -94,6 +94,7 @@ took tables policy s old new (steps.Did mark) is place = place
 took tables policy s old new steps.Waits is place = absurd is
 took tables policy s old new steps.Idle is place = absurd is
 took tables policy s old new steps.Closed is place = absurd is
+took tables policy s old new (steps.Recovers moment number) is place = absurd is
 
 -- a request was posted
 pub posted_step : {E : Type 0} (tables : List TableDef) (policy : ReadPolicy) (s : SessionId) (old new : Stand) (b : BackendId) (request : Request) (text : List ℕ) (result : Result Step E)

@@ -15,6 +15,8 @@ use Rattle.backend_trait.specs.Store.{Store}
 use Rattle.backend_trait.specs.Acts.{InForm, IsPromptly}
 use Rattle.snapshot_gate.specs.declared.state.GateState.{GateState}
 use Rattle.snapshot_gate.specs.Function as gates
+use Rattle.session_orders.specs.declared.order.OrderBody.{OrderBody}
+use Rattle.session_orders.specs.declared.order.OrderBody.TheVariants as orders
 use Rattle.session_machine.specs.Rules.{next_action}
 use Rattle.session_engine.specs.declared.ask.Ask.{Ask}
 use Rattle.session_engine.specs.declared.ask.Ask.TheVariants as asks
@@ -83,9 +85,19 @@ WaitsFor {X} meaning is_prompt shelf s b did = (polled : Polled) × LooksAt mean
 
 -- The client.
 
--- an order takes place; where the wire needs input there is nothing to do, and where it is closed the session is
+-- the backend of the number that is to be brought in, where that is ordered
+abbrev pub recovery_in : OrderBody → Option ℕ
+recovery_in (orders.Recover number) = Some number
+recovery_in body = None
+
+-- an order takes place; that of a recovery is handed out
+abbrev pub ordered_step : ℤ → Option ℕ → Step
+ordered_step moment None = step.Did (Some marks.Order)
+ordered_step moment (Some number) = step.Recovers moment number
+
+-- where the wire needs input there is nothing to do, and where it is closed the session is
 abbrev pub Follows : WireStep → Step → Type 0
-Follows (wires.Order order) did = did ≡ step.Did (Some marks.Order)
+Follows (wires.Order order) did = did ≡ ordered_step order.moment (recovery_in order.body)
 Follows wires.NeedInput did = did ≡ step.Idle
 Follows wires.NeedOutcome did = ⊥
 Follows (wires.Close refused) did = did ≡ step.Closed

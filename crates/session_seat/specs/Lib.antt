@@ -1,4 +1,3 @@
-pub mod Known
 pub mod Rolls
 pub mod Policy
 pub mod Told

@@ -2,6 +2,7 @@
 use Rattle.std.specs.Prelude.{◌≡◌, ◌≢◌, ◌<◌, ◌≤◌, ◌⊎◌, ℕ, ℤ, Bool, true, false, List, [], ◌++◌, Option, Some, None}
 use Rattle.pool_base.specs.declared.backend_id.BackendId.{BackendId}
 use Rattle.pool_base.specs.declared.session_id.SessionId.{SessionId}
+use Rattle.pool_base.specs.Sets.{has}
 use Rattle.pool_config.specs.declared.config.Node.{Node}
 use Rattle.schema.specs.declared.catalogue.TableDef.{TableDef}
 use Rattle.pg_messages.specs.declared.server.ServerMessage.{ServerMessage}
@@ -13,6 +14,7 @@ use Rattle.backend_trait.specs.declared.answer.Polled.TheVariants as polls
 use Rattle.backend_trait.specs.Store.{Store}
 use Rattle.snapshot_gate.specs.declared.state.GateState.{GateState}
 use Rattle.snapshot_gate.specs.Function.{MayCall}
+use Rattle.session_orders.specs.declared.order.OrderBody.{OrderBody}
 use Rattle.session_orders.specs.declared.outcome.Outcome.{Outcome}
 use Rattle.session_machine.specs.declared.status.Status.{Status}
 use Rattle.session_machine.specs.declared.action.Action.TheVariants as actions
@@ -31,14 +33,17 @@ use Rattle.session_wire.specs.declared.wire.WireStep.TheVariants as wires
 use Rattle.session_wire.specs.Answers.{MayAnswer, Says}
 use Rattle.session_wire.specs.Shown.{View, shown}
 use Rattle.session_wire.specs.Steps.{IsNext}
-use Rattle.session_seat.specs.declared.known.Known.{Known}
-use Rattle.session_seat.specs.declared.known.Awaits.TheVariants as awaiting
-use Rattle.session_seat.specs.declared.roll.Roll.{Roll}
+use Rattle.backend_rolls.specs.declared.known.Awaits.TheVariants as awaiting
+use Rattle.backend_rolls.specs.declared.roll.Roll.{Roll}
+use Rattle.backend_rolls.specs.declared.spares.Spare.TheVariants.{Aside}
+use Rattle.backend_rolls.specs.declared.spares.Spares.{Spares}
 use Rattle.session_seat.specs.declared.seat.Seat.{Seat}
-use Rattle.session_seat.specs.Known.{Admits}
-use Rattle.session_seat.specs.Rolls.{known_in, roll_at}
+use Rattle.backend_rolls.specs.Known.{MayPostBy}
+use Rattle.backend_rolls.specs.Rolls.{known_in, roll_at}
+use Rattle.backend_rolls.specs.Spares.{spare_at}
 use Rattle.session_seat.specs.Shared.{IsReady}
-use Rattle.session_seat.specs.Dues.{LooksAt}
+use Rattle.session_seat.specs.Steps.{IsOutside}
+use Rattle.session_seat.specs.Dues.{LooksAt, recovery_in}
 
 -- so many events were counted that the next two can not all be
 abbrev pub IsFull : ℕ → Type 0
@@ -58,16 +63,20 @@ pub record IsGarbled (bytes : List ℕ) : Type 0 where
 
 -- A backend: by its roll.
 
--- the session may post a request where it waits for nothing there and its transaction allows it
-abbrev pub MayPostBy : List TableDef → Known → Request → Type 0
-MayPostBy tables known request = (known.awaits ≡ awaiting.Nothing) × Admits tables known request
-
 abbrev pub MayPostAt : List TableDef → ℕ → List Roll → ℕ → ℕ → Request → Type 0
 MayPostAt tables count rolls s b request = (b < count) × MayPostBy tables (known_in (roll_at rolls b) s) request
 
 -- and it may look for an answer where it waits for one
 abbrev pub MayLookAt : ℕ → List Roll → ℕ → ℕ → Type 0
 MayLookAt count rolls s b = (b < count) × ((known_in (roll_at rolls b) s).awaits ≢ awaiting.Nothing)
+
+-- a box that is set aside may come in the place of a backend that is not attached
+pub record MaySwap (attached count : ℕ) (spares : Spares) (boxes b box : ℕ) : Type 0 where
+  pub configured : b < count
+  pub detached : has attached b ≡ false
+  pub behind : count ≤ box
+  pub there : box < boxes
+  pub aside : spare_at spares box ≡ Aside
 
 -- a request that is due may not be posted
 pub record StopsAtPost (tables : List TableDef) (count : ℕ) (rolls : List Roll) (m : Machine) (s b : ℕ) : Type 0 where
@@ -83,10 +92,15 @@ pub record IsUnfit {X : Type 0} (meaning : X → Store) (is_prompt : X → Bool)
 
 -- The client.
 
+-- its order is one that its session does not take, or that can not be run; that of a recovery comes in a block
+abbrev pub StopsOrdered : List TableDef → Machine → OrderBody → Option ℕ → Type 0
+StopsOrdered tables m body None = (TakesOrder m body → ⊥) ⊎ (IsReady tables body → ⊥)
+StopsOrdered tables m body (Some number) = IsOutside m → ⊥
+
 -- by what comes next of it: what is to be written is garbled, its order may not come or can not be run, or it awaits an outcome though
 -- its session rests; a session that is to be closed is not as at its start
 abbrev pub StopsBehind : List TableDef → ReadPolicy → SessionId → Machine → WireStep → View → Type 0
-StopsBehind tables policy s m (wires.Order order) after = IsGarbled after.output ⊎ ((TakesOrder m order.body → ⊥) ⊎ (IsReady tables order.body → ⊥))
+StopsBehind tables policy s m (wires.Order order) after = IsGarbled after.output ⊎ StopsOrdered tables m order.body (recovery_in order.body)
 StopsBehind tables policy s m wires.NeedInput after = IsGarbled after.output
 StopsBehind tables policy s m wires.NeedOutcome after = Unit {0}
 StopsBehind tables policy s m (wires.Close refused) after = IsGarbled after.output ⊎ (m ≢ new_machine s policy)

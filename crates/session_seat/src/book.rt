@@ -54,7 +54,7 @@ impl Book {
     }
 
     /// The journal's line of an event; no text where no journal is kept.
-    pub(crate) fn spelled(&self, setting: Setting, event: Event) -> Result<Text, NoMemory>
+    pub fn spelled(&self, setting: Setting, event: Event) -> Result<Text, NoMemory>
         ensures { IfOk result (λ line. added self.now.journal line ≡ added self.now.journal
             (spelled_event setting.entry.tables.now event.entry ++ 10 ∷ [])) }
     {
@@ -65,7 +65,7 @@ impl Book {
     }
 
     /// Counts an event whose line this is, and puts the line into the journal.
-    pub(crate) fn keep(&mut self, line: &Text) -> Result<(), StepFault>
+    pub fn keep(&mut self, line: &Text) -> Result<(), StepFault>
         ensures line { OnOk result (self.new.journal ≡ added self.old.journal line.now) }
         ensures counted { OnOk result (self.new.events ≡ self.old.events + 1) }
         ensures events { self.old.events ≤ self.new.events }

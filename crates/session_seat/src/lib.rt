@@ -4,16 +4,15 @@
 mod book;
 mod calls;
 mod fault;
-mod known;
 mod policy;
 mod posting;
 mod ready;
 mod replies;
-mod roll;
 mod seat;
 mod setting;
 mod start;
 mod step;
+mod swapping;
 mod talk;
 mod world;
 
@@ -25,6 +24,6 @@ pub use posting::Looked;
 pub use replies::put_no_place;
 pub use seat::{Seat, Turn};
 pub use setting::Setting;
-pub use step::{Step, take_step};
-pub use talk::note_loss;
+pub use step::{Step, mark_of, take_step, tell};
+pub use talk::{note_loss, put_detached};
 pub use world::World;

@@ -4,14 +4,13 @@ ghost use Rattle.pool_base.specs.Sets.{Gains};
 ghost use Rattle.backend_trait.specs.Acts.{Acts, InForm, IsPromptly};
 ghost use Rattle.backend_trait.specs.Store.{posted};
 ghost use Rattle.backend_trait.specs.declared.answer.Polled.TheVariants.{Lost};
-ghost use Rattle.session_seat.specs.Known.{Knows};
-ghost use Rattle.session_seat.specs.Rolls.{known_in};
-ghost use Rattle.session_seat.specs.Stops.{MayPostBy};
+ghost use Rattle.backend_rolls.specs.Known.{Counts, Knows, MayPostBy};
+ghost use Rattle.backend_rolls.specs.Rolls.{known_in};
 ghost use Rattle.session_seat.specs.declared.fault.StepFault.TheVariants.{Stopped};
-ghost use Rattle.session_seat.specs.declared.known.Awaits.TheVariants as awaiting;
+ghost use Rattle.backend_rolls.specs.declared.known.Awaits.TheVariants as awaiting;
 
 use crate::fault::StepFault;
-use crate::roll::Roll;
+use backend_rolls::Roll;
 use backend_trait::{Backend, Catalogue, Polled, Posted, Request};
 use pool_base::{BackendId, BackendSet, SessionId};
 
@@ -35,8 +34,10 @@ pub(crate) fn post_at<B: Backend>(
 ) -> Result<(), StepFault>
     requires tables { (B.meaning store.old).tables ≡ tables.now }
     requires known { Knows (known_in roll.old) (B.meaning store.old) }
+    requires counts { Counts tables.now (B.meaning store.old) }
     ensures tables { (B.meaning store.new).tables ≡ (B.meaning store.old).tables }
     ensures known { Knows (known_in roll.new) (B.meaning store.new) }
+    ensures next { (B.meaning store.new).next ≡ (B.meaning store.old).next }
     ensures honest { B.is_honest store.new ≡ B.is_honest store.old }
     ensures lost { (B.meaning store.new).lost ≡ (B.meaning store.old).lost }
     ensures idle { OnOk result ((B.meaning store.old).pending s.number ≡ None) }

@@ -1,4 +1,4 @@
-//! Whether a core stands as at its start.
+//! Whether a core stands as at its start, or outside a block.
 ghost use Rattle.std.specs.Prelude.{◌≡◌, ◌↔◌, IsTrue};
 ghost use Rattle.session_machine.specs.Rules.{new_machine};
 ghost use Rattle.session_engine.specs.declared.due.Due.TheVariants.{Resting};
@@ -6,6 +6,7 @@ ghost use Rattle.session_engine.specs.Cores.{machine_in};
 ghost use Rattle.session_engine.specs.Meaning.{machine_of};
 ghost use Rattle.session_machine.specs.declared.machine.GatePhase.TheVariants.{Out};
 ghost use Rattle.session_machine.specs.declared.status.Status.TheVariants.{Idle};
+ghost use Rattle.session_seat.specs.Steps.{IsOutside};
 
 use pool_base::{BackendSet, SessionId, View};
 use session_engine::{Core, Due, Standing};
@@ -80,4 +81,18 @@ pub(crate) fn is_new(core: &Core, s: SessionId, policy: &ReadPolicy) -> bool
         return false;
     }
     is_at_start(standing)
+}
+
+/// Whether a session is in no block, has no transaction, and nothing is due of it.
+fn is_apart(standing: &Standing) -> bool
+    ensures { IsTrue result ↔ IsOutside (machine_of standing.now) }
+{
+    is_resting(&standing.due) && is_idle(standing.status) && is_out(standing.gate)
+}
+
+/// Whether a core is in no block, has no transaction, and nothing is due of it.
+pub(crate) fn is_outside(core: &Core) -> bool
+    ensures { IsTrue result ↔ IsOutside (machine_in core.now) }
+{
+    is_apart(core.standing())
 }

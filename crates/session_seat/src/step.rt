@@ -2,7 +2,8 @@
 //!
 //! ```text
 //! asks      step                              event
-//! Rest      the wire's next order             Order, or none: nothing to do, or closed
+//! Rest      the wire's next order             Order, or none: nothing to do, or closed; the order
+//!                                             of a recovery is handed out
 //! Gate      one call                          Gate; none where it is held: the session waits
 //! Post      one post                          Post
 //! WaitFor   one poll                          Act and Take, or Lost and Fault; else it waits
@@ -30,9 +31,9 @@ ghost use Rattle.session_seat.specs.Policy.{policy_in};
 ghost use Rattle.session_seat.specs.Told.{added, told_of};
 ghost use Rattle.session_seat.specs.Shared.{IsReady, Serves, Shared, shared_of, stores_of};
 ghost use Rattle.session_seat.specs.Schedule.{led};
-ghost use Rattle.session_seat.specs.Steps.{IsDid, IsStep, at};
-ghost use Rattle.session_seat.specs.Dues.{IsDue, Rests, called, entry_mark, mark_of};
-ghost use Rattle.session_seat.specs.Stops.{IsFull, IsGarbled, MayPostAt, Stops, StopsAtPost, StopsAtReply, StopsAtRest, StopsTelling, world_view};
+ghost use Rattle.session_seat.specs.Steps.{IsDid, IsOutside, IsStep, at};
+ghost use Rattle.session_seat.specs.Dues.{IsDue, Rests, called, entry_mark, mark_of, ordered_step, recovery_in};
+ghost use Rattle.session_seat.specs.Stops.{IsFull, IsGarbled, MayPostAt, Stops, StopsAtPost, StopsAtReply, StopsAtRest, StopsOrdered, StopsTelling, world_view};
 ghost use Rattle.session_seat.specs.declared.fault.StepFault.TheVariants.{Stopped};
 ghost use Rattle.session_seat.specs.declared.step.Step.TheVariants as steps;
 
@@ -43,7 +44,7 @@ use crate::ready::is_ready;
 use crate::replies::put_output;
 use crate::seat::Seat;
 use crate::setting::Setting;
-use crate::start::is_new;
+use crate::start::{is_new, is_outside};
 use crate::talk::{detach, hear};
 use crate::world::World;
 use backend_trait::{Backend, Request};
@@ -52,7 +53,7 @@ use pgproto::Mark;
 use pool_base::{BackendId, GateAnswer, GateCall, Text};
 use session_engine::Ask;
 use session_machine::Status;
-use session_orders::{Order, Outcome};
+use session_orders::{Order, OrderBody, Outcome};
 use session_wire::{WireStep, may_answer};
 
 /// What a step did.
@@ -66,6 +67,10 @@ pub enum Step {
     Idle,
     /// It is over, and its place is free.
     Closed,
+    /// Its client has ordered a recovery. The order is handed out, and nothing has taken place.
+    ///
+    /// Units: microseconds since 2000-01-01 00:00 UTC.
+    Recovers { moment: i64, number: u8 },
 }
 
 /// Takes one step.
@@ -96,6 +101,7 @@ pub fn take_step<B: Backend>(
     ensures events { book.old.events ≤ book.new.events }
     ensures s { seat.new.s ≡ seat.old.s }
     ensures turn { seat.new.turn ≡ seat.old.turn }
+    ensures tables { world.new.tables ≡ world.old.tables }
     ensures count { world.new.count ≡ world.old.count }
     ensures boxes { length world.new.shelf.items ≡ length world.old.shelf.items }
 {
@@ -165,8 +171,76 @@ fn take_order(setting: Setting, seat: &mut Seat, book: &mut Book) -> Result<Step
     }
 }
 
-/// Takes an order.
+/// Takes an order. That of a recovery is handed out.
 fn obey(setting: Setting, seat: &mut Seat, order: Order, book: &mut Book) -> Result<Step, StepFault>
+    ensures did { IfOk result (λ step. IsDid step → book.old.events < book.new.events) }
+    ensures noted { (shared : Shared) → IfOk result (λ step. IsStep setting.entry.tables.now
+        (policy_in setting.entry.config.now) seat.old.s
+        (at shared (machine_in seat.old.core) book.old.journal) step
+        (at shared (machine_in seat.new.core) book.new.journal)) }
+    ensures events { book.old.events ≤ book.new.events }
+    ensures s { seat.new.s ≡ seat.old.s }
+    ensures turn { seat.new.turn ≡ seat.old.turn }
+    ensures due { IfOk result (λ step. step
+        ≡ ordered_step order.moment (recovery_in order.body)) }
+    ensures stopped { IfErr result (λ e. e ≡ Stopped → IsFull book.old.events
+        ⊎ (IsGarbled (shown seat.old.wire).output
+        ⊎ StopsOrdered setting.entry.tables.now (machine_in seat.old.core) order.body
+        (recovery_in order.body))) }
+{
+    match recovery_in(&order.body) {
+        Some(number) => {
+            let moment = order.moment;
+            drop(order);
+            hand_out(setting, seat, book)?;
+            Ok(Step::Recovers { moment, number })
+        }
+        None => accept(setting, seat, order, book),
+    }
+}
+
+/// The backend of the number that is to be brought in, where that is ordered.
+fn recovery_in(body: &OrderBody) -> Option<u8>
+    ensures { result ≡ recovery_in body.now }
+{
+    match body {
+        OrderBody::Recover(number) => Some(*number),
+        OrderBody::Statement(_)
+        | OrderBody::Begin
+        | OrderBody::Commit
+        | OrderBody::Rollback
+        | OrderBody::Settle
+        | OrderBody::ShowNodes
+        | OrderBody::Refuse { .. }
+        | OrderBody::Leave => None,
+    }
+}
+
+/// Hands out the order of a recovery, behind what the wire has put out before.
+fn hand_out(setting: Setting, seat: &mut Seat, book: &mut Book) -> Result<(), StepFault>
+    ensures outside { OnOk result (IsOutside (machine_in seat.old.core)) }
+    ensures core { seat.new.core ≡ seat.old.core }
+    ensures s { seat.new.s ≡ seat.old.s }
+    ensures turn { seat.new.turn ≡ seat.old.turn }
+    ensures journal { book.new.journal ≡ book.old.journal }
+    ensures events { book.new.events ≡ book.old.events }
+    ensures stopped { IfErr result (λ e. e ≡ Stopped → IsGarbled (shown seat.old.wire).output
+        ⊎ (IsOutside (machine_in seat.old.core) → ⊥)) }
+{
+    put_output(setting.alloc, seat.s, &mut seat.wire, book)?;
+    if !is_outside(&seat.core) {
+        return Err(StepFault::Stopped);
+    }
+    Ok(())
+}
+
+/// Takes an order that is none of a recovery.
+fn accept(
+    setting: Setting,
+    seat: &mut Seat,
+    order: Order,
+    book: &mut Book,
+) -> Result<Step, StepFault>
     ensures did { IfOk result (λ step. IsDid step → book.old.events < book.new.events) }
     ensures noted { (shared : Shared) → IfOk result (λ step. IsStep setting.entry.tables.now
         (policy_in setting.entry.config.now) seat.old.s
@@ -240,6 +314,7 @@ fn call_gate<B: Backend>(
     ensures events { book.old.events ≤ book.new.events }
     ensures s { seat.new.s ≡ seat.old.s }
     ensures turn { seat.new.turn ≡ seat.old.turn }
+    ensures tables { world.new.tables ≡ world.old.tables }
     ensures count { world.new.count ≡ world.old.count }
     ensures boxes { length world.new.shelf.items ≡ length world.old.shelf.items }
     ensures due { IfOk result (λ step. step
@@ -258,7 +333,7 @@ fn call_gate<B: Backend>(
 }
 
 /// At which mark a call of the gate stops a session: the entries that are granted have one.
-fn mark_of(call: GateCall, answer: GateAnswer) -> Option<Mark>
+pub fn mark_of(call: GateCall, answer: GateAnswer) -> Option<Mark>
     ensures { result ≡ mark_of call answer }
 {
     match answer {
@@ -306,6 +381,7 @@ fn post<B: Backend>(
     ensures events { book.old.events ≤ book.new.events }
     ensures s { seat.new.s ≡ seat.old.s }
     ensures turn { seat.new.turn ≡ seat.old.turn }
+    ensures tables { world.new.tables ≡ world.old.tables }
     ensures count { world.new.count ≡ world.old.count }
     ensures boxes { length world.new.shelf.items ≡ length world.old.shelf.items }
     ensures due { IfOk result (λ step. step ≡ steps.Did (Some (marks.Post b))) }
@@ -352,6 +428,7 @@ fn send<B: Backend>(
     ensures events { book.old.events ≤ book.new.events }
     ensures s { seat.new.s ≡ seat.old.s }
     ensures turn { seat.new.turn ≡ seat.old.turn }
+    ensures tables { world.new.tables ≡ world.old.tables }
     ensures count { world.new.count ≡ world.old.count }
     ensures boxes { length world.new.shelf.items ≡ length world.old.shelf.items }
     ensures due { IfOk result (λ step. step ≡ steps.Did (Some (marks.Post b))) }
@@ -387,7 +464,7 @@ fn reply(setting: Setting, seat: &mut Seat, book: &mut Book) -> Result<Step, Ste
 }
 
 /// Tells an outcome to the client, and the status behind it.
-fn tell(
+pub fn tell(
     setting: Setting,
     seat: &mut Seat,
     outcome: Outcome,

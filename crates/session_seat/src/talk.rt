@@ -51,6 +51,7 @@ pub(crate) fn hear<B: Backend>(
     ensures events { book.old.events ≤ book.new.events }
     ensures s { seat.new.s ≡ seat.old.s }
     ensures turn { seat.new.turn ≡ seat.old.turn }
+    ensures tables { world.new.tables ≡ world.old.tables }
     ensures count { world.new.count ≡ world.old.count }
     ensures boxes { length world.new.shelf.items ≡ length world.old.shelf.items }
     ensures due { IfOk result (λ step. WaitsFor B.meaning B.is_prompt world.old.shelf.items
@@ -205,6 +206,7 @@ pub(crate) fn detach<B: Backend>(
     ensures events { book.old.events ≤ book.new.events }
     ensures s { seat.new.s ≡ seat.old.s }
     ensures turn { seat.new.turn ≡ seat.old.turn }
+    ensures tables { world.new.tables ≡ world.old.tables }
     ensures count { world.new.count ≡ world.old.count }
     ensures boxes { length world.new.shelf.items ≡ length world.old.shelf.items }
     ensures due { IfOk result (λ step. step ≡ steps.Did None) }
@@ -248,7 +250,12 @@ fn note_detached(
 }
 
 /// Puts the line of a detachment.
-fn put_detached(alloc: Global, b: BackendId, cause: &Cause, book: &mut Book) -> Result<(), NoMemory>
+pub fn put_detached(
+    alloc: Global,
+    b: BackendId,
+    cause: &Cause,
+    book: &mut Book,
+) -> Result<(), NoMemory>
     ensures events { book.new.events ≡ book.old.events }
     ensures journal { book.new.journal ≡ book.old.journal }
 {

@@ -1,15 +1,15 @@
 //! The gate and the backends, which all sessions share.
 ghost use Rattle.std.specs.Prelude.{◌≡◌, ◌==◌, ◌||◌, ◌↔◌, ◌<◌, ◌≤◌, IfOk, IfErr, IsTrue, OnErr, OnOk, None};
-ghost use Rattle.std.specs.Prelude.{All, ℕ, false, is_some, length, not, take, true};
+ghost use Rattle.std.specs.Prelude.{All, ℕ, drop, false, is_some, length, not, take, true};
 ghost use Rattle.pool_base.specs.Outside.{Rose};
 ghost use Rattle.pool_base.specs.Sets.{has};
 ghost use Rattle.backend_trait.specs.Acts.{Acts};
 ghost use Rattle.backend_trait.specs.Rows.{with_at};
-ghost use Rattle.backend_trait.specs.Store.{posted, prepared};
+ghost use Rattle.backend_trait.specs.Store.{blank, posted, prepared};
 ghost use Rattle.backend_trait.specs.declared.answer.Polled.TheVariants.{Lost};
 ghost use Rattle.snapshot_gate.specs.Function.{step, MayCall};
-ghost use Rattle.session_seat.specs.Rolls.{AreHonest, AreTold, AreTrue};
-ghost use Rattle.session_seat.specs.Rolls.{honest_prop, prop, told_prop};
+ghost use Rattle.session_seat.specs.Rolls.{AreBlank, AllCount, AreHonest, AreTold, AreTrue};
+ghost use Rattle.session_seat.specs.Rolls.{blank_prop, count_prop, honest_prop, prop, told_prop};
 ghost use Rattle.session_seat.specs.Shared.{AreFirst, IsFirst, IsLoss, shared_of, stores_of};
 ghost use Rattle.session_seat.specs.Dues.{LooksAt};
 ghost use Rattle.session_seat.specs.Stops.{MayLookAt, MayPostAt};
@@ -18,12 +18,13 @@ ghost use Rattle.session_seat.specs.declared.fault.StepFault.TheVariants.{Stoppe
 use crate::calls::may_call;
 use crate::fault::StepFault;
 use crate::posting::{Looked, lost_behind, poll_at, post_at};
-use crate::roll::Roll;
+use backend_rolls::{Roll, Spares};
 use backend_trait::{Backend, Catalogue, Request};
 use pool_base::{BackendId, BackendSet, GateAnswer, GateCall, SessionId};
 use snapshot_gate::Gate;
 
-/// The gate, and a shelf whose first boxes, `count` of them, are the backends.
+/// The gate, and a shelf whose first boxes, `count` of them, are the backends. The others are the
+/// spares: each can come in the place of a backend once.
 #[derive(Drop)]
 pub struct World<B: Backend> {
     pub gate: Gate,
@@ -32,22 +33,27 @@ pub struct World<B: Backend> {
     pub shelf: Vec<B>,
     pub count: usize,
     /// The backends that are lost.
-    lost: BackendSet,
+    pub(crate) lost: BackendSet,
     /// The roll of each backend.
     pub(crate) rolls: [Roll; 8],
+    pub(crate) spares: Spares,
     ghost enough: { count ≤ length shelf.items },
     // The rolls are true, and each backend has the tables.
     ghost known: { AreTrue B.meaning tables count shelf.items rolls } by { prop B.meaning _ _ _ _ },
-    ghost honest: { AreHonest B.is_honest count shelf.items } by { honest_prop B.is_honest _ _ },
+    ghost honest: { AreHonest B.is_honest shelf.items } by { honest_prop B.is_honest _ },
     ghost told: { AreTold B.meaning lost.bits count shelf.items } by { told_prop B.meaning _ _ _ },
+    ghost counts: { AllCount B.meaning tables count shelf.items } by { count_prop B.meaning _ _ _ },
+    ghost blank: { AreBlank B.meaning count shelf.items spares } by { blank_prop B.meaning _ _ _ },
 }
 
 impl<B: Backend> World<B> {
-    /// The first `count` boxes of a shelf, all attached. They have these tables, and no rows.
+    /// The first `count` boxes of a shelf, all attached. They have these tables, and no rows. The
+    /// boxes behind them are the spares, up to the first 64.
     pub fn new(tables: Catalogue, shelf: Vec<B>, count: usize) -> World<B>
         requires enough { count ≤ length shelf.items }
         requires prepared { All (λ b. B.meaning b ≡ prepared tables) (take count shelf.items) }
-        requires honest { All (λ b. B.is_honest b ≡ true) (take count shelf.items) }
+        requires spare { All (λ b. B.meaning b ≡ blank) (drop count shelf.items) }
+        requires honest { All (λ b. B.is_honest b ≡ true) shelf.items }
         ensures tables { result.tables ≡ tables }
         ensures count { result.count ≡ count }
         ensures boxes { result.shelf.items ≡ shelf.items }
@@ -63,6 +69,7 @@ impl<B: Backend> World<B> {
             count,
             lost: BackendSet::EMPTY,
             rolls: [roll; 8],
+            spares: Spares::new(),
         }
     }
 

@@ -1,5 +1,5 @@
-use Rattle.session_seat.specs.Rolls.{known_in}
-use Rattle.session_seat.proofs.KnownLemmas.{polled_as}
+use Rattle.backend_rolls.specs.Rolls.{known_in}
+use Rattle.backend_rolls.proofs.KnownLemmas.{polled_as}
 use Rattle.session_seat.proofs.posting.poll_at.Goals as goal
 
 pub returns-clause-known : goal.returns-clause-known

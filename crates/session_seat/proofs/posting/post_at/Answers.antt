@@ -1,15 +1,15 @@
 use Rattle.std.proofs.Common.{sym, subst}
 use Rattle.backend_trait.specs.Store.{line_of}
-use Rattle.session_seat.specs.declared.known.Known.{Known}
-use Rattle.session_seat.specs.Known.{Tells}
-use Rattle.session_seat.specs.Rolls.{known_in}
-use Rattle.session_seat.proofs.KnownLemmas.{may_post, posted_as}
+use Rattle.backend_rolls.specs.declared.known.Known.{Known}
+use Rattle.backend_rolls.specs.Known.{Tells}
+use Rattle.backend_rolls.specs.Rolls.{known_in}
+use Rattle.backend_rolls.proofs.KnownLemmas.{may_post, posted_as}
 use Rattle.session_seat.proofs.posting.post_at.Goals as goal
 
 pub post-requires-clause-may : goal.post-requires-clause-may
 post-requires-clause-may g c =
     let store = g.B.Backend.meaning c.args.store.now in
-    may_post store c.args.tables.now c.at-known.result c.args.s.number c.args.request c.requires.tables
+    may_post store c.args.tables.now c.at-known.result c.args.s.number c.args.request c.requires.tables c.requires.counts
     (subst (λ (k : Known). Tells k (line_of store c.args.s.number)) (sym c.at-known.ensures) (c.requires.known c.args.s.number))
     (c.may_post.ensures.0 search).1
 

@@ -1,22 +1,13 @@
-use Rattle.std.proofs.Common.{◌∙◌, refl, ap, subst}
-use Rattle.session_machine.specs.declared.action.SessionEvent.TheVariants as events
-use Rattle.session_machine.specs.Allowed.{MayHappen}
-use Rattle.session_machine.specs.Rules.{after}
-use Rattle.session_engine.specs.declared.session.Core.{Core}
+use Rattle.std.proofs.Common.{◌≡◌, ◌∙◌, ℕ, sym, subst}
+use Rattle.std.specs.Prelude.{◌⊎◌, Option, IfErr}
 use Rattle.session_engine.specs.Cores.{machine_in}
-use Rattle.session_seat.specs.Steps.{at}
+use Rattle.session_wire.specs.Shown.{shown}
+use Rattle.session_seat.specs.declared.fault.StepFault.TheVariants.{Stopped}
+use Rattle.session_seat.specs.Stops.{IsFull, IsGarbled, StopsOrdered}
 use Rattle.session_seat.proofs.step.obey.Goals as goal
 
-pub returns-clause-noted : goal.returns-clause-noted
-returns-clause-noted c = λ shared. record {
-  event = events.Ordered c.args.order;
-  between = at shared (machine_in c.args.seat.now.core) c.args.book.now.journal;
-  first = refl;
-  moves = record {
-    may = subst (λ (core : Core). MayHappen (machine_in core) (events.Ordered c.args.order)) c.note_order.ensures.core c.in_default.ensures.may;
-    answered = refl;
-    serves = (c.in_default.ensures.ready, refl);
-    leads = c.in_ok-order.ensures.state ∙ ap (λ (core : Core). after (machine_in core) (events.Ordered c.args.order)) c.note_order.ensures.core;
-  };
-  tells = c.in_default.ensures.line;
-}
+pub returns-in-None-clause-stopped : goal.returns-in-None-clause-stopped
+returns-in-None-clause-stopped c =
+    subst (λ (o : Option ℕ). IfErr c.accept.result (λ e. e ≡ Stopped → IsFull c.args.book.now.events ⊎ (IsGarbled (shown c.args.seat.now.wire).output
+    ⊎ StopsOrdered c.args.setting.tables.now (machine_in c.args.seat.now.core) c.args.order.body o)))
+    (sym c.in-None.is ∙ c.recovery_in.ensures) c.accept.ensures.stopped

@@ -1,5 +1,5 @@
 use Rattle.std.proofs.Common.{◌<◌, rules}
-use Rattle.session_seat.proofs.RollLemmas.{honest_first, known_first, told_first}
+use Rattle.session_seat.proofs.RollLemmas.{blank_first, counting_first, honest_first, known_first, told_first}
 use Rattle.session_seat.proofs.SharedLemmas.{first_at}
 use Rattle.session_seat.proofs.world.World.new.Goals as goal
 
@@ -7,8 +7,10 @@ pub invariant_of-result : goal.invariant_of-result
 invariant_of-result g c = record {
   enough = c.requires.enough;
   known = known_first g.B.Backend.meaning c.args.tables c.args.count c.args.shelf.items 8 c.new-roll.result c.new-roll.ensures c.requires.enough c.requires.prepared;
-  honest = honest_first g.B.Backend.is_honest c.args.count c.args.shelf.items c.requires.enough c.requires.honest;
+  honest = honest_first g.B.Backend.is_honest c.args.shelf.items c.requires.honest;
   told = told_first g.B.Backend.meaning c.args.tables c.args.count c.args.shelf.items c.requires.enough c.requires.prepared;
+  counts = counting_first g.B.Backend.meaning c.args.tables c.args.count c.args.shelf.items c.requires.enough c.requires.prepared;
+  blank = blank_first g.B.Backend.meaning c.args.count c.args.shelf.items c.new.result c.requires.spare;
 }
 
 pub returns-clause-first : goal.returns-clause-first

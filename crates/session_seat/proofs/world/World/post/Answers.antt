@@ -1,7 +1,8 @@
 use Rattle.std.proofs.Common.{arith}
 use Rattle.std.proofs.lemmas.List.{length-set}
 use Rattle.backend_trait.specs.Store.{posted}
-use Rattle.session_seat.proofs.RollLemmas.{honest_next, known_next, told_next}
+use Rattle.backend_rolls.proofs.CountLemmas.{counts_same}
+use Rattle.session_seat.proofs.RollLemmas.{blank_next, counting_next, honest_next, known_next, told_next}
 use Rattle.session_seat.proofs.SharedLemmas.{idle_at, stores_by, where_on}
 use Rattle.session_seat.proofs.world.World.post.Goals as goal
 
@@ -12,8 +13,11 @@ invariant_of-self g c =
       enough = omega (arith, length-set world.shelf.items c.from-at.result c.post_at.new.store, world.enough);
       known = known_next g.B.Backend.meaning world.tables world.count world.shelf.items world.rolls c.from-at.result c.index_mut.result.now c.post_at.new.store c.post_at.new.roll world.known (omega arith) world.enough (omega arith)
           c.index_mut.ensures.value c.post_at.ensures.tables c.post_at.ensures.known;
-      honest = honest_next g.B.Backend.is_honest world.count world.shelf.items c.from-at.result c.index_mut.result.now c.post_at.new.store world.honest (omega arith) world.enough c.index_mut.ensures.value c.post_at.ensures.honest;
+      honest = honest_next g.B.Backend.is_honest world.shelf.items c.from-at.result c.index_mut.result.now c.post_at.new.store world.honest (omega (arith, world.enough)) c.index_mut.ensures.value c.post_at.ensures.honest;
       told = told_next g.B.Backend.meaning world.lost.bits world.count world.shelf.items c.from-at.result c.index_mut.result.now c.post_at.new.store world.told (omega arith) world.enough c.index_mut.ensures.value c.post_at.ensures.lost;
+      counts = counting_next g.B.Backend.meaning world.tables world.count world.shelf.items c.from-at.result c.index_mut.result.now c.post_at.new.store world.counts (omega arith) world.enough c.index_mut.ensures.value
+          (counts_same world.tables (g.B.Backend.meaning c.index_mut.result.now) (g.B.Backend.meaning c.post_at.new.store) c.post_at.ensures.next);
+      blank = blank_next g.B.Backend.meaning world.count world.shelf.items world.spares c.from-at.result c.post_at.new.store world.blank (omega arith);
     }
 
 pub returns-clause-idle : goal.returns-clause-idle

@@ -1,0 +1,6 @@
+pub mod Among
+mod StepLemmas
+mod ArmLemmas
+mod LayoutLemmas
+pub mod Sessions
+mod DueLemmas

@@ -1,0 +1,51 @@
+use Rattle.std.proofs.Common.{◌∙◌, ap}
+use Rattle.pool_base.specs.declared.session_id.SessionId.{SessionId}
+use Rattle.session_engine.specs.Cores.{machine_in}
+use Rattle.session_seat.specs.Policy.{policy_in}
+use Rattle.session_seat.specs.Shared.{shared_of}
+use Rattle.session_seat.specs.Steps as seats
+use Rattle.recovery_seat.specs.Places.{standing_at, standing_of}
+use Rattle.recovery_seat.specs.Steps.{at}
+use Rattle.recovery_seat.proofs.DueLemmas.{order_due, own_due}
+use Rattle.recovery_seat.proofs.StepLemmas.{begun_ok, own_taken, standing_none}
+use Rattle.recovery_seat.proofs.step.take_own.Goals as goal
+
+pub returns-in-Recovers-clause-noted : goal.returns-in-Recovers-clause-noted
+returns-in-Recovers-clause-noted g c = λ layout others is.
+    let world = c.args.world.now in
+    let mid = c.take_step.new.world in
+    let new = c.begin.new.world in
+    let place = c.args.place.now in
+    let seat = c.take_step.new.seat in
+    begun_ok c.args.setting.tables.now (policy_in c.args.setting.config.now) layout place.seat.s seat.s others
+    (seats.at (shared_of g.B.Backend.meaning world.gate.state world.tables world.count world.shelf.items) (machine_in place.seat.core) c.args.book.now.journal)
+    (seats.at (shared_of g.B.Backend.meaning mid.gate.state mid.tables mid.count mid.shelf.items) (machine_in seat.core) c.take_step.new.book.journal)
+    (standing_of layout place) (standing_at layout seat.s place.recovery)
+    (at (shared_of g.B.Backend.meaning new.gate.state new.tables new.count new.shelf.items) (machine_in c.begin.new.place.seat.core) (standing_of layout c.begin.new.place) c.begin.new.book.journal)
+    c.in_ok-step.step c.in-Recovers.moment c.in-Recovers.number c.begin.result c.in-Recovers.is c.in_ok-step.ensures.noted c.take_step.ensures.s
+    (ap (λ (s : SessionId). standing_at layout s place.recovery) c.take_step.ensures.s) (c.begin.ensures.noted layout others is)
+
+pub returns-in_default-clause-noted : goal.returns-in_default-clause-noted
+returns-in_default-clause-noted g c = λ layout others is.
+    let world = c.args.world.now in
+    let new = c.take_step.new.world in
+    let place = c.args.place.now in
+    let seat = c.take_step.new.seat in
+    let none = standing_none layout place.seat.s place.recovery c.requires.none in
+    own_taken c.args.setting.tables.now (policy_in c.args.setting.config.now) layout place.seat.s others
+    (seats.at (shared_of g.B.Backend.meaning world.gate.state world.tables world.count world.shelf.items) (machine_in place.seat.core) c.args.book.now.journal)
+    (seats.at (shared_of g.B.Backend.meaning new.gate.state new.tables new.count new.shelf.items) (machine_in seat.core) c.take_step.new.book.journal)
+    (standing_of layout place) (standing_at layout seat.s place.recovery) c.in_ok-step.step none (ap (λ (s : SessionId). standing_at layout s place.recovery) c.take_step.ensures.s ∙ none)
+    c.in_default.not-Recovers c.in_ok-step.ensures.noted
+
+pub returns-in-Recovers-clause-due : goal.returns-in-Recovers-clause-due
+returns-in-Recovers-clause-due g c =
+    let world = c.args.world.now in
+    order_due g.B.Backend.meaning g.B.Backend.is_prompt c.args.setting.tables.now c.args.setting.moment c.args.place.now.seat world.gate.state world.shelf.items
+    c.in_ok-step.step c.in-Recovers.moment c.in-Recovers.number c.begin.result c.in-Recovers.is c.in_ok-step.ensures.due c.begin.ensures.due
+
+pub returns-in_default-clause-due : goal.returns-in_default-clause-due
+returns-in_default-clause-due g c =
+    let world = c.args.world.now in
+    own_due g.B.Backend.meaning g.B.Backend.is_prompt c.args.setting.tables.now c.args.setting.moment c.args.place.now.seat world.gate.state world.shelf.items
+    c.in_ok-step.step c.in_default.not-Recovers c.in_ok-step.ensures.due

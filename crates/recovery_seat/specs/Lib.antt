@@ -1,0 +1,5 @@
+pub mod Schedule
+pub mod Places
+pub mod Steps
+pub mod Sessions
+pub mod Dues
