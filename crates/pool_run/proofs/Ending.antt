@@ -23,7 +23,7 @@ use Rattle.pool_run.specs.declared.schemas.SchemaStop.{SchemaStop}
 use Rattle.pool_run.specs.declared.schemas.SchemaStop.TheVariants as schemas
 use Rattle.pool_run.specs.Schemas.{IsSchemaAnswer, schema_too_long, bad_schema_line}
 use Rattle.pool_run.specs.Texts.{IsBuilt, IsSeveral, IsRead, config_name, schema_name, is_plain, is_play}
-use Rattle.pool_run.specs.Ways.{AreSingle, AreKeeping}
+use Rattle.pool_run.specs.Ways.{AreSingle}
 use Rattle.pool_run.specs.Reading.{IsFault}
 use Rattle.pool_run.specs.Ends.{Outside, outside, Grows, Says, IsSchemaRefusal, NoCommandEnds, RefusedEnds, UnbuiltEnds, UnreadEnds, ScriptEnds, no_command, not_built, fault_line}
 use Rattle.pool_run.specs.Ends.{ScriptStageEnds, script_unread, script_read, SchemaEnds, schema_stands, schema_refused, schema_unparsed, RestEnds, schema_unread, schema_read, ConfigEnds, configured, faulty, unparsed, CommandEnds, read}

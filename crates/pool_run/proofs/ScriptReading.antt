@@ -45,9 +45,8 @@ pub fits_one : (command : Command) (config : Config) (tables : List TableDef) (s
 fits_one command config tables script lines found r b =
     subst (λ (ls : List Line). FitsOneClient command config tables ls) (sym (r.only found b.reads)) (((b.plain, (b.some_backend, b.few_backends)), (b.session, b.single)), b.takes_none)
 
-pub fits_sessions : (command : Command) (config : Config) (script : Option (List ℕ)) (lines found : List Line) → IsReading script lines → IsSeveral command config script found → FitsSessions command config lines
-fits_sessions command config script lines found r b =
-    subst (λ (ls : List Line). FitsSessions command config ls) (sym (r.only found b.reads)) ((b.plays, (b.some_backend, b.few_backends)), b.keeping)
+pub fits_sessions : (command : Command) (config : Config) (script : Option (List ℕ)) (found : List Line) → IsSeveral command config script found → FitsSessions command config
+fits_sessions command config script found b = (b.plays, (b.some_backend, b.few_backends))
 
 -- how lines end that are played so, and that may be played so
 pub way_ends : (command : Command) (config : Config) (tables : List TableDef) (script : Option (List ℕ)) (lines : List Line) (way : Way) (s : Status) (o : Outside) → IsReading script lines
@@ -63,7 +62,7 @@ way_ends command config tables script lines OneClient s o r fits e =
       takes_none = fits.1;
     }) e
 way_ends command config tables script lines (Sessions journal) s o r fits e =
-    several lines (record { plays = fits.1.0.0.0; some_backend = fits.1.0.0.1.0; few_backends = fits.1.0.0.1.1; reads = r.reads; keeping = fits.1.0.1 })
+    several lines (record { plays = fits.1.0.0; some_backend = fits.1.0.1.0; few_backends = fits.1.0.1.1; reads = r.reads })
     (λ found b. fits.0 (fits_one command config tables script lines found r b)) (subst (λ (j : Bool). SeveralEnds j config tables lines s o) fits.1.1 e)
 
 pub way_fits : (command : Command) (config : Config) (tables : List TableDef) (lines : List Line) (way : Way) → IsWay command config tables lines (Some way) → FitsWay way lines
@@ -72,14 +71,14 @@ way_fits command config tables lines (Sessions journal) fits = tt
 
 pub way_few : (command : Command) (config : Config) (tables : List TableDef) (lines : List Line) (way : Way) → IsWay command config tables lines (Some way) → IsFew (length config.nodes)
 way_few command config tables lines OneClient fits = record { some = fits.0.0.1.0; few = fits.0.0.1.1 }
-way_few command config tables lines (Sessions journal) fits = record { some = fits.1.0.0.1.0; few = fits.1.0.0.1.1 }
+way_few command config tables lines (Sessions journal) fits = record { some = fits.1.0.1.0; few = fits.1.0.1.1 }
 
 -- lines that are played in no way
 pub no_way : (command : Command) (config : Config) (tables : List TableDef) (script : Option (List ℕ)) (lines : List Line) (s : Status) (o : Outside) → IsReading script lines
     → IsWay command config tables lines None → Untouched o → UnbuiltEnds s o → TextsEnds command config tables script s o
 no_way command config tables script lines s o r fits kept e =
     unbuilt (with lines r.reads) (λ found b. fits.0 (fits_one command config tables script lines found r b))
-    (λ found b. fits.1 (fits_sessions command config script lines found r b)) kept e
+    (λ found b. fits.1 (fits_sessions command config script found b)) kept e
 
 -- the reader's answer, at each of its forms
 pub too_long_at : (command : Command) (script : Option (List ℕ)) (stop : ScriptStop) → stop ≡ TooLong → IsAnswer command script (Err stop) → ScriptCause command script script_too_long

@@ -1,5 +1,5 @@
 -- The first boxes of a shelf.
-use Rattle.std.proofs.Common.{◌≡◌, ℕ, zero, suc, ◌<◌, ◌≤◌, Bool, true, List, [], ◌∷◌, ◌++◌, All, length, map, take, get_or, refl, sym, ap, ◌∙◌, subst, arith}
+use Rattle.std.proofs.Common.{◌≡◌, ℕ, zero, suc, ◌<◌, ◌≤◌, Bool, true, List, [], ◌∷◌, ◌++◌, All, drop, length, map, take, get_or, refl, sym, ap, ◌∙◌, subst, arith}
 use Rattle.std.specs.Prelude.{Some, slice_get, replicate}
 use Rattle.std.specs.Option.{option_map}
 use Rattle.std.proofs.lemmas.List.{length-map}
@@ -35,6 +35,12 @@ firsts_append [] zs zero is = refl
 firsts_append [] zs (suc n) is = absurd (omega (arith, is))
 firsts_append (y ∷ ys) zs zero is = absurd (omega (arith, is))
 firsts_append (y ∷ ys) zs (suc n) is = ap (λ l. y ∷ l) (firsts_append ys zs n (omega (arith, is)))
+
+pub firsts_left : {A : Type 0} (ys zs : List A) (n : ℕ) → length ys ≡ n → drop n (ys ++ zs) ≡ zs
+firsts_left [] zs zero is = refl
+firsts_left [] zs (suc n) is = absurd (omega (arith, is))
+firsts_left (y ∷ ys) zs zero is = absurd (omega (arith, is))
+firsts_left (y ∷ ys) zs (suc n) is = firsts_left ys zs n (omega (arith, is))
 
 -- ---- blank ones
 pub blanks : {X : Type 0} (meaning : X → Store) (xs : List X) (n : ℕ) → All (λ x. meaning x ≡ blank) xs → length xs ≡ n → map meaning xs ≡ replicate n blank
@@ -82,6 +88,14 @@ module _ {X : Type 0} (meaning : X → Store) (is_honest is_prompt is_steady : X
     steady = All-take (λ b. is_steady b ≡ true) count shelf fresh.steady;
   }
 
+  pub rest_fresh : AreFresh meaning is_honest is_prompt is_steady shelf → AreFresh meaning is_honest is_prompt is_steady (drop count shelf)
+  rest_fresh fresh = record {
+    blank_each = All-drop (λ b. meaning b ≡ blank) count shelf fresh.blank_each;
+    honest = All-drop (λ b. is_honest b ≡ true) count shelf fresh.honest;
+    prompt = All-drop (λ b. is_prompt b ≡ true) count shelf fresh.prompt;
+    steady = All-drop (λ b. is_steady b ≡ true) count shelf fresh.steady;
+  }
+
   pub backends_begin : (tables : List TableDef) → 0 < count → count ≤ 8 → count ≤ length shelf → ArePrepared meaning is_honest is_prompt is_steady tables (take count shelf) → AreBackends meaning is_honest is_prompt is_steady count (take count shelf)
   backends_begin tables some few le each = record {
     some = some;
@@ -108,6 +122,13 @@ module _ {X : Type 0} (meaning : X → Store) (is_honest is_prompt is_steady : X
       let first : slice_get (map meaning (take count shelf)) b ≡ Some (meaning x) = slice_get-map meaning (take count shelf) b ∙ ap (option_map meaning) x_there in
       let whole : slice_get (map meaning shelf) b ≡ Some (meaning x) = slice_get-map meaning shelf b ∙ ap (option_map meaning) (sym (firsts_get shelf count b below) ∙ x_there) in
       (meaning x, whole, subst (λ (t : List TableDef). IsReady t rows (meaning x)) of (subst (λ (r : Rows). IsReady (primary_tables (map meaning (take count shelf))) r (meaning x)) is (are.ready b (meaning x) first)))
+
+-- ---- the boxes behind the first stay fresh, where a slice of the shelf was written back
+pub rest_after : {X : Type 0} (meaning : X → Store) (is_honest is_prompt is_steady : X → Bool) (n count : ℕ) (new old : List X) → length new ≡ n → drop count new ≡ drop count old → AreFresh meaning is_honest is_prompt is_steady old
+    → AreFresh meaning is_honest is_prompt is_steady (drop count (take n (new ++ drop (length new) old)))
+rest_after meaning is_honest is_prompt is_steady n count new old is same fresh =
+    subst (λ l. AreFresh meaning is_honest is_prompt is_steady (drop count l)) (sym (firsts_append new (drop (length new) old) n is))
+    (subst (AreFresh meaning is_honest is_prompt is_steady) (sym same) (rest_fresh meaning is_honest is_prompt is_steady old count fresh))
 
 -- ---- after a statement: these in the place of the first
 module _ {X : Type 0} (v : X → Store) (ys zs : List X) (n : ℕ) (tables : List TableDef) where

@@ -23,7 +23,7 @@ use Rattle.pool_run.specs.Ends.{Outside, Untouched, NoCommandEnds, RefusedEnds, 
 use Rattle.pool_run.specs.Drawing.{TakesNone}
 use Rattle.pool_run.specs.Scripts.{script_too_long, bad_line}
 use Rattle.pool_run.specs.Texts.{is_plain, is_play, keeps_journal}
-use Rattle.pool_run.specs.Ways.{AreSingle, AreKeeping}
+use Rattle.pool_run.specs.Ways.{AreSingle}
 use Rattle.schema.specs.declared.catalogue.TableDef.{TableDef}
 use Rattle.schema_print.specs.Allowed.{AreAllowed}
 use Rattle.schema_print.specs.Printed.{AreInRange}
@@ -106,12 +106,12 @@ IsOneClient command config lines = ((is_plain command ≡ true) × ((0 < length 
 abbrev pub FitsOneClient : Command → Config → List TableDef → List Line → Type 0
 FitsOneClient command config tables lines = IsOneClient command config lines × TakesNone tables lines
 
-abbrev pub FitsSessions : Command → Config → List Line → Type 0
-FitsSessions command config lines = ((is_play command ≡ true) × ((0 < length config.nodes) × (length config.nodes ≤ 8))) × AreKeeping lines
+abbrev pub FitsSessions : Command → Config → Type 0
+FitsSessions command config = (is_play command ≡ true) × ((0 < length config.nodes) × (length config.nodes ≤ 8))
 
 -- the way in which lines are played, if they are
 abbrev pub IsWay : Command → Config → List TableDef → List Line → Option Way → Type 0
-IsWay command config tables lines None = ¬ (FitsOneClient command config tables lines) × ¬ (FitsSessions command config lines)
+IsWay command config tables lines None = ¬ (FitsOneClient command config tables lines) × ¬ (FitsSessions command config)
 IsWay command config tables lines (Some OneClient) = FitsOneClient command config tables lines
 IsWay command config tables lines (Some (Sessions journal)) =
-    ¬ (FitsOneClient command config tables lines) × (FitsSessions command config lines × (journal ≡ keeps_journal command))
+    ¬ (FitsOneClient command config tables lines) × (FitsSessions command config × (journal ≡ keeps_journal command))

@@ -9,7 +9,7 @@ use Rattle.pool_config.specs.declared.config.Config.{Config}
 use Rattle.schema.specs.declared.catalogue.TableDef.{TableDef}
 use Rattle.pool_run.specs.Drawing.{TakesNone}
 use Rattle.pool_run.specs.Scripts.{IsReadAs}
-use Rattle.pool_run.specs.Ways.{AreSingle, AreKeeping}
+use Rattle.pool_run.specs.Ways.{AreSingle}
 
 -- the file of the configuration
 abbrev pub config_name : Command → List ℕ
@@ -66,10 +66,9 @@ pub record IsBuilt (command : Command) (config : Config) (tables : List TableDef
   pub single : AreSingle lines
   pub takes_none : TakesNone tables lines
 
--- a script in which no backend is lost is played, over one to eight backends
+-- any other script is played too, over one to eight backends
 pub record IsSeveral (command : Command) (config : Config) (script : Option (List ℕ)) (lines : List Line) : Type 0 where
   pub plays : is_play command ≡ true
   pub some_backend : 0 < length config.nodes
   pub few_backends : length config.nodes ≤ 8
   pub reads : IsReadAs script lines
-  pub keeping : AreKeeping lines

@@ -1,7 +1,7 @@
 -- How a script is played: as the single statements of one client, or as sessions over the wire.
 use Rattle.std.specs.Prelude.{◌≡◌, ℕ, ◌+◌, Bool, true, false, not, ◌&&◌, ◌||◌, ◌==◌, if◌then◌else◌, List, [], ◌∷◌, codes}
 use Rattle.std.specs.List.{list_all}
-use Rattle.pgproto.specs.Line.{Line, lose, query}
+use Rattle.pgproto.specs.Line.{Line, query}
 use Rattle.pgproto.specs.Script.{IsScript}
 use Rattle.play.specs.Script.{IsSession}
 use Rattle.pool_base.specs.Outside.{Told, IsTold}
@@ -61,12 +61,3 @@ pub record SaysOneClient (schema : Told) (text : List ℕ) : Type 0 where
   pub session : IsSession lines
   pub single : AreSingle lines
   pub takes_none : (schema_text : List ℕ) (tables : List TableDef) → IsTold schema schema_text → SaysTables schema_text tables → TakesNone tables lines
-
--- whether a line keeps all backends
-abbrev pub is_keeping : Line → Bool
-is_keeping (lose b) = false
-is_keeping line = true
-
--- no line loses a backend
-abbrev pub AreKeeping : List Line → Type 0
-AreKeeping lines = list_all is_keeping lines ≡ true

@@ -18,7 +18,7 @@ use crate::status::Status;
 use crate::texts::{
     are_built, are_few, journal_of, read_config, read_schema_text, read_script_text,
 };
-use crate::ways::{are_keeping, are_single};
+use crate::ways::are_single;
 use pgproto::{Script, ScriptLine, lines_of_grammar};
 use play::is_session;
 use pool_base::{Files, List, NoMemory};
@@ -222,18 +222,18 @@ fn way_of(
     if is_built(alloc, command, config, catalogue, lines)? {
         return Ok(Some(Way::OneClient));
     }
-    match sessions_of(command, config, lines) {
+    match sessions_of(command, config) {
         Some(journal) => Ok(Some(Way::Sessions { journal })),
         None => Ok(None),
     }
 }
 
 /// Whether all that was read asks for sessions, as they are built: then whether with their journal.
-fn sessions_of(command: &Command, config: &Config, lines: &[ScriptLine]) -> Option<bool>
-    ensures fits { IsSome result ↔ FitsSessions command.now config.now (map line_of lines.now) }
+fn sessions_of(command: &Command, config: &Config) -> Option<bool>
+    ensures fits { IsSome result ↔ FitsSessions command.now config.now }
     ensures journal { IfSome result (λ journal. journal ≡ keeps_journal command.now) }
 {
-    if !are_few(config.nodes.len()) || !are_keeping(lines) {
+    if !are_few(config.nodes.len()) {
         return None;
     }
     journal_of(command)

@@ -1,5 +1,5 @@
 //! From the words to the status: what a run is to do is asked, and carried out.
-ghost use Rattle.std.specs.Prelude.{◌≡◌, ◌<◌, ◌≤◌, length, map, take, Ok, IfOk, OnOk};
+ghost use Rattle.std.specs.Prelude.{◌≡◌, ◌<◌, ◌≤◌, drop, length, map, take, Ok, IfOk, OnOk};
 ghost use Rattle.std.specs.List.{AllByRecursion};
 ghost use Rattle.pgproto.specs.Line.{line_of};
 ghost use Rattle.pgproto.specs.Spelling.{IsOfGrammar};
@@ -139,6 +139,7 @@ pub(crate) fn prepare_first<B: Backend>(
     ensures len { length shelf.new ≡ length shelf.old }
     ensures each { OnOk result (ArePrepared B.meaning B.is_honest B.is_prompt B.is_steady
         catalogue.now (take count shelf.new)) }
+    ensures rest { drop count shelf.new ≡ drop count shelf.old }
 {
     prepare_each(&mut shelf[..count], catalogue)
 }

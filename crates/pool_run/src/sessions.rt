@@ -1,5 +1,5 @@
 //! A script of sessions is played over the first boxes of a shelf.
-ghost use Rattle.std.specs.Prelude.{◌≡◌, ◌≤◌, ◌⊎◌, List as Sequence, [], true, length, map, take};
+ghost use Rattle.std.specs.Prelude.{◌≡◌, ◌≤◌, ◌⊎◌, List as Sequence, [], true, drop, length, map, take};
 ghost use Rattle.backend_trait.specs.Store.{Store};
 ghost use Rattle.pool_run.specs.declared.status.Status.TheVariants.{Done, NoneLeft};
 ghost use Rattle.pool_run.specs.Ends.{outside};
@@ -13,6 +13,9 @@ use crate::running::prepare_first;
 use crate::status::Status;
 use backend_trait::Backend;
 use pool_base::{BackendSet, List, NoMemory, Sink};
+use recovery_laws::replicas_agree;
+use recovery_plays::plays_are_steps;
+use recovery_seat::without_recoveries;
 use schema::Catalogue;
 use session_player::{PlayFault, play};
 use session_seat::{Journal, Setting, World};
@@ -72,6 +75,8 @@ fn play_sessions<O: Sink, B: Backend>(
     requires enough { length plan.now.config.nodes ≤ length shelf.old.items }
     requires each { ArePrepared B.meaning B.is_honest B.is_prompt B.is_steady plan.now.catalogue
         (take (length plan.now.config.nodes) shelf.old.items) }
+    requires spares { AreFresh B.meaning B.is_honest B.is_prompt B.is_steady
+        (drop (length plan.now.config.nodes) shelf.old.items) }
     ensures { SessionsEnd journal plan.now result (outside (O.fault_count out.old)
         (O.fault_count out.new) (O.taken out.old) (O.taken out.new)
         (map B.meaning shelf.old.items) (map B.meaning shelf.new.items)) }
@@ -90,7 +95,6 @@ fn play_sessions<O: Sink, B: Backend>(
 }
 
 /// Plays the script of a plan in a world.
-#[tactic(auto, using(crate::proofs::Tables::within_of))]
 fn play_in<O: Sink, B: Backend>(
     alloc: Global,
     plan: &Plan,
@@ -99,6 +103,7 @@ fn play_in<O: Sink, B: Backend>(
     world: &mut World<B>,
 ) -> Status
     requires sound { IsSound plan.now }
+    requires tables { world.old.tables ≡ plan.now.catalogue }
     requires first { IsFirst plan.now.catalogue (length plan.now.config.nodes) (shared_of B.meaning
         world.old.gate.state world.old.tables world.old.count world.old.shelf.items) }
     ensures { (before after : Sequence Store) → SessionsEnd journal plan.now result
@@ -112,7 +117,10 @@ fn play_in<O: Sink, B: Backend>(
         moment: 0,
     };
     let script = plan.lines.script.as_slice();
+    without_recoveries();
     plays_are_runs();
+    plays_are_steps();
+    replicas_agree();
     match play(setting, script, world, journal_at(alloc, journal), out) {
         Ok(attached) => ended(attached),
         Err(PlayFault::NoMemory) => Status::NoMemory,

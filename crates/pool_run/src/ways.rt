@@ -2,7 +2,7 @@
 ghost use Rattle.std.specs.Prelude.{◌≡◌, false, map};
 ghost use Rattle.std.specs.List.{list_all};
 ghost use Rattle.pgproto.specs.Line.{line_of};
-ghost use Rattle.pool_run.specs.Ways.{is_blank, unblanked, begins_with, begins_own, goes_on, is_single, is_single_line, is_keeping};
+ghost use Rattle.pool_run.specs.Ways.{is_blank, unblanked, begins_with, begins_own, goes_on, is_single, is_single_line};
 
 use pgproto::ScriptLine;
 
@@ -104,29 +104,6 @@ pub fn are_single(lines: &[ScriptLine]) -> bool
     let mut rest = lines;
     while let [line, after @ ..] = rest {
         if !is_single_line(line) {
-            return false;
-        }
-        rest = after;
-    }
-    true
-}
-
-fn is_keeping(line: &ScriptLine) -> bool
-    ensures { result ≡ is_keeping (line_of line.now) }
-{
-    match line {
-        ScriptLine::Lose(_) => false,
-        _ => true,
-    }
-}
-
-/// Whether no line loses a backend.
-pub fn are_keeping(lines: &[ScriptLine]) -> bool
-    ensures { result ≡ list_all is_keeping (map line_of lines.now) }
-{
-    let mut rest = lines;
-    while let [line, after @ ..] = rest {
-        if !is_keeping(line) {
             return false;
         }
         rest = after;

@@ -3,3 +3,4 @@ pub mod Placing
 pub mod Telling
 pub mod Fed
 pub mod Going
+pub mod Fitting

@@ -26,14 +26,3 @@ taken_all (x ∷ xs) (suc i) past = ap (λ z. x ∷ z) (taken_all xs i (omega ar
 pub here_of : {A L : Type 0} (f : A → L) (P : L → Type 0) (xs : List A) (i : ℕ) (x : A) → i < length xs → x ≡ get_or xs i x
     → AllByRecursion P (map f (drop i xs)) → P (f x) × AllByRecursion P (map f (drop (i + 1) xs))
 here_of f P xs i x below is all = subst (λ z. AllByRecursion P (map f z)) (drop_here xs i x below is) all
-
--- what holds of all lines holds of all that are left
-pub all_left : {A L : Type 0} (f : A → L) (P : L → Type 0) (xs : List A) (i : ℕ) → AllByRecursion P (map f xs) → AllByRecursion P (map f (drop i xs))
-all_left f P xs zero all = all
-all_left f P [] (suc i) all = tt
-all_left f P (x ∷ xs) (suc i) all = all_left f P xs i all.1
-
--- what holds of the lines that were walked and of one more
-pub all_more : {A L : Type 0} (f : A → L) (P : L → Type 0) (xs : List A) (x : A) → AllByRecursion P (map f xs) → P (f x) → AllByRecursion P (map f xs ++ f x ∷ [])
-all_more f P [] x all here = (here, tt)
-all_more f P (y ∷ xs) x all here = (all.0, all_more f P xs x all.1 here)

@@ -22,14 +22,6 @@ IsDeedOf line (Cut size) = line ≡ cut size
 IsDeedOf line (SetMoment text) = line ≡ moment text.now
 IsDeedOf line (Of s wish) = IsWishOf line s.number wish
 
--- the line loses a backend
-abbrev pub Loses : Line → Type 0
-Loses line = (b : ℕ) × (line ≡ lose b)
-
--- the line loses none
-abbrev pub KeepsAll : Line → Type 0
-KeepsAll line = Loses line → ⊥
-
 -- what a client is to send is a line of the grammar
 abbrev pub CanBeSent : Wish → Type 0
 CanBeSent Hold = Unit {0}

@@ -7,3 +7,4 @@ pub mod Slots
 pub mod Turns
 pub mod Written
 pub mod Journals
+pub mod Others

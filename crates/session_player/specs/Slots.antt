@@ -13,7 +13,7 @@ is_taken (Taken client) = true
 -- a slot that stands behind so many others is free, or of the session of the next number
 abbrev pub IsPlaced : ℕ → Slot → Type 0
 IsPlaced before Free = Unit {0}
-IsPlaced before (Taken client) = client.seat.s.number ≡ suc before
+IsPlaced before (Taken client) = client.place.seat.s.number ≡ suc before
 
 -- slots that stand behind so many others, each at its place
 abbrev pub ArePlaced : ℕ → List Slot → Type 0
@@ -31,9 +31,9 @@ ArePlaced-prop before (slot ∷ slots) = ×_prop (IsPlaced-prop before slot) (Ar
 -- the slot is of a session that is held
 abbrev pub IsHeld : Slot → Type 0
 IsHeld Free = ⊥
-IsHeld (Taken client) = client.seat.turn ≡ Held
+IsHeld (Taken client) = client.place.seat.turn ≡ Held
 
 -- the slot is free, or of a session that is held
 abbrev pub IsHeldOrFree : Slot → Type 0
 IsHeldOrFree Free = Unit {0}
-IsHeldOrFree (Taken client) = client.seat.turn ≡ Held
+IsHeldOrFree (Taken client) = client.place.seat.turn ≡ Held

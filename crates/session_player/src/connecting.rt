@@ -9,9 +9,13 @@ ghost use Rattle.session_machine.specs.Rules.{new_machine};
 ghost use Rattle.session_engine.specs.Cores.{machine_in};
 ghost use Rattle.session_seat.specs.Policy.{policy_in};
 ghost use Rattle.session_seat.specs.Shared.{shared_of};
-ghost use Rattle.session_seat.specs.Schedule.{state};
+ghost use Rattle.online_recovery.specs.declared.layout.Layout.{Layout};
+ghost use Rattle.online_recovery.specs.declared.standing.Standing.{Standing};
+ghost use Rattle.online_recovery.specs.State.{new_standing};
+ghost use Rattle.recovery_seat.specs.Places.{standing_of};
+ghost use Rattle.recovery_seat.specs.Steps.{state};
 ghost use Rattle.session_player.specs.Deeds.{CanBeSent};
-ghost use Rattle.session_player.specs.Journals.{Went, machine_in_slot, machines_of};
+ghost use Rattle.session_player.specs.Journals.{Went, machine_in_slot, machines_of, standing_in_slot, standings_of};
 ghost use Rattle.session_player.specs.Slots.{IsPlaced};
 
 use crate::deed::Wish;
@@ -20,9 +24,8 @@ use crate::slots::{Client, Seats, Slot, is_taken, place_of, put};
 use backend_trait::Backend;
 use pgproto::{Mark, ScriptLine};
 use pool_base::{BackendId, NoMemory, SessionId};
-use session_seat::{
-    Book, Seat, Setting, StepFault, Turn, World, note_loss, policy_of, put_no_place,
-};
+use recovery_seat::Place;
+use session_seat::{Book, Setting, StepFault, Turn, World, note_loss, policy_of, put_no_place};
 use std::alloc::Global;
 
 /// The first message of a session: version 3.0, user `pool`, database `pool`.
@@ -50,6 +53,8 @@ pub(crate) fn connect(
 ) -> Result<Then, StepFault>
     ensures machines { machines_of (policy_in setting.entry.config.now) seats.new.slots.items
         ≡ machines_of (policy_in setting.entry.config.now) seats.old.slots.items }
+    ensures standings { (layout : Layout) → standings_of layout seats.new.slots.items
+        ≡ standings_of layout seats.old.slots.items }
     ensures journal { book.new.journal ≡ book.old.journal }
 {
     let place = place_of(s);
@@ -68,15 +73,20 @@ pub(crate) fn connect(
 
 /// A client that has sent the first message of its session.
 fn client_of(setting: Setting, s: SessionId, cut: Cut) -> Result<Client, StepFault>
-    ensures s { IfOk result (λ client. client.seat.s ≡ s) }
-    ensures core { IfOk result (λ client. machine_in client.seat.core ≡
+    ensures s { IfOk result (λ client. client.place.seat.s ≡ s) }
+    ensures core { IfOk result (λ client. machine_in client.place.seat.core ≡
         new_machine s (policy_in setting.entry.config.now)) }
+    ensures at_rest { (layout : Layout) → IfOk result (λ client.
+        standing_of layout client.place ≡ new_standing s layout) }
 {
-    let mut seat = Seat::new(setting.alloc, s, policy_of(setting.config))?;
-    match feed(&mut seat.wire, cut, &START) {
-        Ok(()) => Ok(Client { seat, rests: false }),
+    let mut place = Place::new(setting.alloc, s, policy_of(setting.config))?;
+    match feed(&mut place.seat.wire, cut, &START) {
+        Ok(()) => Ok(Client {
+            place,
+            rests: false,
+        }),
         Err(fault) => {
-            drop(seat);
+            drop(place);
             Err(StepFault::from(fault))
         }
     }
@@ -94,6 +104,8 @@ pub(crate) fn address(
     requires { CanBeSent wish }
     ensures machines { (policy : ReadPolicy) → machines_of policy seats.new.slots.items
         ≡ machines_of policy seats.old.slots.items }
+    ensures standings { (layout : Layout) → standings_of layout seats.new.slots.items
+        ≡ standings_of layout seats.old.slots.items }
     ensures journal { book.new.journal ≡ book.old.journal }
 {
     let place = place_of(s);
@@ -109,6 +121,8 @@ fn grant(alloc: Global, slot: &mut Slot, wish: Wish, cut: Cut) -> Result<bool, N
     ensures placed { (before : ℕ) → IsPlaced before slot.old → IsPlaced before slot.new }
     ensures machine { (policy : ReadPolicy) → (s : SessionId) → machine_in_slot policy s slot.new
         ≡ machine_in_slot policy s slot.old }
+    ensures standing { (layout : Layout) → (s : SessionId) → standing_in_slot layout s slot.new
+        ≡ standing_in_slot layout s slot.old }
 {
     match slot {
         Slot::Free => Ok(false),
@@ -121,16 +135,18 @@ fn grant(alloc: Global, slot: &mut Slot, wish: Wish, cut: Cut) -> Result<bool, N
 
 fn grant_client(alloc: Global, client: &mut Client, wish: Wish, cut: Cut) -> Result<(), NoMemory>
     requires { CanBeSent wish }
-    ensures s { client.new.seat.s ≡ client.old.seat.s }
-    ensures core { client.new.seat.core ≡ client.old.seat.core }
+    ensures s { client.new.place.seat.s ≡ client.old.place.seat.s }
+    ensures core { client.new.place.seat.core ≡ client.old.place.seat.core }
+    ensures standing { (layout : Layout) → standing_of layout client.new.place
+        ≡ standing_of layout client.old.place }
 {
     match wish {
         Wish::Hold => {
-            client.seat.turn = Turn::Held;
+            client.place.seat.turn = Turn::Held;
             Ok(())
         }
         Wish::Go => {
-            client.seat.turn = Turn::Free;
+            client.place.seat.turn = Turn::Free;
             Ok(())
         }
         Wish::Until(_) => Ok(()),
@@ -141,12 +157,14 @@ fn grant_client(alloc: Global, client: &mut Client, wish: Wish, cut: Cut) -> Res
 /// The client of a session sends what a line says.
 fn send(alloc: Global, client: &mut Client, line: &ScriptLine, cut: Cut) -> Result<(), NoMemory>
     requires { IsOfGrammar (line_of line.now) }
-    ensures s { client.new.seat.s ≡ client.old.seat.s }
-    ensures core { client.new.seat.core ≡ client.old.seat.core }
+    ensures s { client.new.place.seat.s ≡ client.old.place.seat.s }
+    ensures core { client.new.place.seat.core ≡ client.old.place.seat.core }
+    ensures standing { (layout : Layout) → standing_of layout client.new.place
+        ≡ standing_of layout client.old.place }
 {
     let bytes = sent_of(alloc, line)?;
     client.rests = false;
-    feed(&mut client.seat.wire, cut, bytes.as_slice())
+    feed(&mut client.place.seat.wire, cut, bytes.as_slice())
 }
 
 /// What is played behind a line that asks this of a session, whether it is connected or not.
@@ -165,11 +183,13 @@ pub(crate) fn lose<B: Backend>(
     world: &mut World<B>,
     book: &mut Book,
 ) -> Result<Then, StepFault>
-    ensures went { (machines : SessionId → Machine) → OnOk result (Went setting.entry.tables.now
+    ensures went { (machines : SessionId → Machine) → (recoveries : SessionId → Standing)
+        → OnOk result (Went setting.entry.tables.now
         (state (shared_of B.meaning world.old.gate.state world.old.tables world.old.count
-        world.old.shelf.items) machines) book.old.journal
+        world.old.shelf.items) machines recoveries) book.old.journal
         (state (shared_of B.meaning world.new.gate.state world.new.tables world.new.count
-        world.new.shelf.items) machines) book.new.journal) }
+        world.new.shelf.items) machines recoveries) book.new.journal) }
+    ensures tables { world.new.tables ≡ world.old.tables }
     ensures boxes { length world.new.shelf.items ≡ length world.old.shelf.items }
 {
     if !world.is_configured(b) {

@@ -7,12 +7,11 @@ mod deed;
 mod fault;
 mod feeding;
 mod marks;
+mod others;
 mod player;
 mod round;
-mod script;
 mod slots;
 mod writing;
 
 pub use fault::PlayFault;
 pub use player::play;
-pub use script::is_played;

@@ -5,14 +5,16 @@ ghost use Rattle.pgproto.specs.Line.{line_of};
 ghost use Rattle.pgproto.specs.Spelling.{IsOfGrammar};
 ghost use Rattle.pool_base.specs.Outside.{Rose};
 ghost use Rattle.pool_config.specs.Configuration.{IsAllowed};
-ghost use Rattle.schema.specs.Grammar.{IsWithin};
+ghost use Rattle.schema_print.specs.Allowed.{AreAllowed};
 ghost use Rattle.schema_print.specs.Printed.{AreInRange};
 ghost use Rattle.pool_base.specs.declared.session_id.SessionId.{SessionId};
 ghost use Rattle.session_machine.specs.declared.machine.ReadPolicy.{ReadPolicy};
 ghost use Rattle.session_seat.specs.Policy.{policy_in};
 ghost use Rattle.session_seat.specs.Shared.{shared_of};
 ghost use Rattle.session_player.specs.declared.fault.PlayFault.TheVariants as faults;
-ghost use Rattle.session_player.specs.Journals.{IsJournaled, IsPut, Went, machine_in_slot, machines_of, state_of};
+ghost use Rattle.online_recovery.specs.declared.layout.Layout.{Layout};
+ghost use Rattle.recovery_seat.specs.Places.{IsLayout};
+ghost use Rattle.session_player.specs.Journals.{IsJournaled, IsPut, Went, machine_in_slot, machines_of, standing_in_slot, standings_of, state_of};
 ghost use Rattle.session_player.specs.Slots.{ArePlaced, IsPlaced};
 ghost use Rattle.session_player.specs.Times.{IsMomentRead};
 ghost use Rattle.session_player.specs.Written.{ArePlayed, AreParts, Grew, IsPart};
@@ -51,22 +53,25 @@ pub fn play<B: Backend, O: Sink>(
     out: &mut O,
 ) -> Result<BackendSet, PlayFault>
     requires grammar { AllByRecursion IsOfGrammar (map line_of script.now) }
-    requires within { IsWithin setting.tables.now }
+    requires allowed { AreAllowed setting.tables.now }
     requires in_range { AreInRange setting.tables.now }
+    requires tables { world.old.tables ≡ setting.tables.now }
     requires config { IsAllowed setting.config.now }
     // For each line its echo was written, and behind it what is told.
     ensures all { OnOk result (ArePlayed (map line_of script.now) (O.taken out.old)
         (O.taken out.new)) }
     // The journal behind it tells of a schedule: from the gate and the stores as they stood, and
     // no client connected, to the gate and the stores as they stand.
-    ensures journal { OnOk result (IsJournaled setting.entry.config.now setting.entry.tables.now
-        (map line_of script.now) journal
+    ensures journal { (layout : Layout) → IsLayout setting.entry.config.now
+        setting.entry.tables.now layout → OnOk result (IsJournaled setting.entry.config.now
+        setting.entry.tables.now layout (map line_of script.now) journal
         (shared_of B.meaning world.old.gate.state world.old.tables world.old.count
         world.old.shelf.items)
         (shared_of B.meaning world.new.gate.state world.new.tables world.new.count
         world.new.shelf.items) (O.taken out.old) (O.taken out.new)) }
     // What was taken begins with what had been taken, whatever the answer.
     ensures grows { Grew (O.taken out.old) (O.taken out.new) }
+    ensures tables { world.new.tables ≡ world.old.tables }
     ensures boxes { length world.new.shelf.items ≡ length world.old.shelf.items }
 
     // The sink's fault comes only where its count rose.
@@ -94,17 +99,21 @@ fn play_lines<B: Backend, O: Sink>(
     out: &mut O,
 ) -> Result<(), PlayFault>
     requires grammar { AllByRecursion IsOfGrammar (map line_of script.now) }
-    requires within { IsWithin setting.tables.now }
-    ensures went { OnOk result (Went setting.entry.tables.now
-        (state_of (policy_in setting.entry.config.now) (shared_of B.meaning world.old.gate.state
-        world.old.tables world.old.count world.old.shelf.items) scene.old.seats.slots.items)
-        scene.old.book.journal
-        (state_of (policy_in setting.entry.config.now) (shared_of B.meaning world.new.gate.state
-        world.new.tables world.new.count world.new.shelf.items) scene.new.seats.slots.items)
-        scene.new.book.journal) }
+    requires allowed { AreAllowed setting.tables.now }
+    requires in_range { AreInRange setting.tables.now }
+    requires tables { world.old.tables ≡ setting.tables.now }
+    ensures went { (layout : Layout) → IsLayout setting.entry.config.now setting.entry.tables.now
+        layout → OnOk result (Went setting.entry.tables.now
+        (state_of (policy_in setting.entry.config.now) layout
+        (shared_of B.meaning world.old.gate.state world.old.tables world.old.count
+        world.old.shelf.items) scene.old.seats.slots.items) scene.old.book.journal
+        (state_of (policy_in setting.entry.config.now) layout
+        (shared_of B.meaning world.new.gate.state world.new.tables world.new.count
+        world.new.shelf.items) scene.new.seats.slots.items) scene.new.book.journal) }
     ensures parts { OnOk result (AreParts (map line_of script.now) (O.taken out.old)
         (O.taken out.new)) }
     ensures grows { Grew (O.taken out.old) (O.taken out.new) }
+    ensures tables { world.new.tables ≡ world.old.tables }
     ensures boxes { length world.new.shelf.items ≡ length world.old.shelf.items }
     ensures sink { IfErr result (λ e. e ≡ faults.SinkFailed
         → Rose (O.fault_count out.old) (O.fault_count out.new)) }
@@ -125,16 +134,20 @@ fn play_part<B: Backend, O: Sink>(
     out: &mut O,
 ) -> Result<(), PlayFault>
     requires grammar { IsOfGrammar (line_of line.now) }
-    requires within { IsWithin setting.tables.now }
-    ensures went { OnOk result (Went setting.entry.tables.now
-        (state_of (policy_in setting.entry.config.now) (shared_of B.meaning world.old.gate.state
-        world.old.tables world.old.count world.old.shelf.items) scene.old.seats.slots.items)
-        scene.old.book.journal
-        (state_of (policy_in setting.entry.config.now) (shared_of B.meaning world.new.gate.state
-        world.new.tables world.new.count world.new.shelf.items) scene.new.seats.slots.items)
-        scene.new.book.journal) }
+    requires allowed { AreAllowed setting.tables.now }
+    requires in_range { AreInRange setting.tables.now }
+    requires tables { world.old.tables ≡ setting.tables.now }
+    ensures went { (layout : Layout) → IsLayout setting.entry.config.now setting.entry.tables.now
+        layout → OnOk result (Went setting.entry.tables.now
+        (state_of (policy_in setting.entry.config.now) layout
+        (shared_of B.meaning world.old.gate.state world.old.tables world.old.count
+        world.old.shelf.items) scene.old.seats.slots.items) scene.old.book.journal
+        (state_of (policy_in setting.entry.config.now) layout
+        (shared_of B.meaning world.new.gate.state world.new.tables world.new.count
+        world.new.shelf.items) scene.new.seats.slots.items) scene.new.book.journal) }
     ensures part { OnOk result (IsPart (line_of line.now) (O.taken out.old) (O.taken out.new)) }
     ensures grows { Grew (O.taken out.old) (O.taken out.new) }
+    ensures tables { world.new.tables ≡ world.old.tables }
     ensures boxes { length world.new.shelf.items ≡ length world.old.shelf.items }
     ensures sink { IfErr result (λ e. e ≡ faults.SinkFailed
         → Rose (O.fault_count out.old) (O.fault_count out.new)) }
@@ -166,14 +179,18 @@ fn play_line<B: Backend>(
     world: &mut World<B>,
 ) -> Result<(), StepFault>
     requires grammar { IsOfGrammar (line_of line.now) }
-    requires within { IsWithin setting.tables.now }
-    ensures went { OnOk result (Went setting.entry.tables.now
-        (state_of (policy_in setting.entry.config.now) (shared_of B.meaning world.old.gate.state
-        world.old.tables world.old.count world.old.shelf.items) scene.old.seats.slots.items)
-        scene.old.book.journal
-        (state_of (policy_in setting.entry.config.now) (shared_of B.meaning world.new.gate.state
-        world.new.tables world.new.count world.new.shelf.items) scene.new.seats.slots.items)
-        scene.new.book.journal) }
+    requires allowed { AreAllowed setting.tables.now }
+    requires in_range { AreInRange setting.tables.now }
+    requires tables { world.old.tables ≡ setting.tables.now }
+    ensures went { (layout : Layout) → IsLayout setting.entry.config.now setting.entry.tables.now
+        layout → OnOk result (Went setting.entry.tables.now
+        (state_of (policy_in setting.entry.config.now) layout
+        (shared_of B.meaning world.old.gate.state world.old.tables world.old.count
+        world.old.shelf.items) scene.old.seats.slots.items) scene.old.book.journal
+        (state_of (policy_in setting.entry.config.now) layout
+        (shared_of B.meaning world.new.gate.state world.new.tables world.new.count
+        world.new.shelf.items) scene.new.seats.slots.items) scene.new.book.journal) }
+    ensures tables { world.new.tables ≡ world.old.tables }
     ensures boxes { length world.new.shelf.items ≡ length world.old.shelf.items }
 {
     let then = do_line(setting, line, scene, world)?;
@@ -195,13 +212,15 @@ fn do_line<B: Backend>(
     world: &mut World<B>,
 ) -> Result<Then, StepFault>
     requires { IsOfGrammar (line_of line.now) }
-    ensures went { OnOk result (Went setting.entry.tables.now
-        (state_of (policy_in setting.entry.config.now) (shared_of B.meaning world.old.gate.state
-        world.old.tables world.old.count world.old.shelf.items) scene.old.seats.slots.items)
-        scene.old.book.journal
-        (state_of (policy_in setting.entry.config.now) (shared_of B.meaning world.new.gate.state
-        world.new.tables world.new.count world.new.shelf.items) scene.new.seats.slots.items)
-        scene.new.book.journal) }
+    ensures went { (layout : Layout) → IsLayout setting.entry.config.now setting.entry.tables.now
+        layout → OnOk result (Went setting.entry.tables.now
+        (state_of (policy_in setting.entry.config.now) layout
+        (shared_of B.meaning world.old.gate.state world.old.tables world.old.count
+        world.old.shelf.items) scene.old.seats.slots.items) scene.old.book.journal
+        (state_of (policy_in setting.entry.config.now) layout
+        (shared_of B.meaning world.new.gate.state world.new.tables world.new.count
+        world.new.shelf.items) scene.new.seats.slots.items) scene.new.book.journal) }
+    ensures tables { world.new.tables ≡ world.old.tables }
     ensures boxes { length world.new.shelf.items ≡ length world.old.shelf.items }
 {
     match deed_of(line) {
@@ -251,20 +270,23 @@ fn play_end<B: Backend, O: Sink>(
     world: &mut World<B>,
     out: &mut O,
 ) -> Result<(), PlayFault>
-    requires within { IsWithin setting.tables.now }
+    requires allowed { AreAllowed setting.tables.now }
     requires in_range { AreInRange setting.tables.now }
+    requires tables { world.old.tables ≡ setting.tables.now }
     requires config { IsAllowed setting.config.now }
-    ensures went { OnOk result (Went setting.entry.tables.now
-        (state_of (policy_in setting.entry.config.now) (shared_of B.meaning world.old.gate.state
-        world.old.tables world.old.count world.old.shelf.items) scene.old.seats.slots.items)
-        scene.old.book.journal
-        (state_of (policy_in setting.entry.config.now) (shared_of B.meaning world.new.gate.state
-        world.new.tables world.new.count world.new.shelf.items) scene.new.seats.slots.items)
-        scene.new.book.journal) }
+    ensures went { (layout : Layout) → IsLayout setting.entry.config.now setting.entry.tables.now
+        layout → OnOk result (Went setting.entry.tables.now
+        (state_of (policy_in setting.entry.config.now) layout
+        (shared_of B.meaning world.old.gate.state world.old.tables world.old.count
+        world.old.shelf.items) scene.old.seats.slots.items) scene.old.book.journal
+        (state_of (policy_in setting.entry.config.now) layout
+        (shared_of B.meaning world.new.gate.state world.new.tables world.new.count
+        world.new.shelf.items) scene.new.seats.slots.items) scene.new.book.journal) }
     ensures put { OnOk result ((told : Maybe (Sequence ℕ)) × Grew (O.taken out.old) told
         × IsPut setting.entry.config.now setting.entry.tables.now scene.new.book.journal told
         (O.taken out.new)) }
     ensures grows { Grew (O.taken out.old) (O.taken out.new) }
+    ensures tables { world.new.tables ≡ world.old.tables }
     ensures boxes { length world.new.shelf.items ≡ length world.old.shelf.items }
     ensures sink { IfErr result (λ e. e ≡ faults.SinkFailed
         → Rose (O.fault_count out.old) (O.fault_count out.new)) }
@@ -279,8 +301,10 @@ fn play_end<B: Backend, O: Sink>(
 
 /// All sessions are let go, and the input of each ends.
 fn end_all(seats: &mut Seats)
-    ensures { (policy : ReadPolicy) → machines_of policy seats.new.slots.items
+    ensures machines { (policy : ReadPolicy) → machines_of policy seats.new.slots.items
         ≡ machines_of policy seats.old.slots.items }
+    ensures standings { (layout : Layout) → standings_of layout seats.new.slots.items
+        ≡ standings_of layout seats.old.slots.items }
 {
     end_each(seats.slots.as_mut_slice());
 }
@@ -290,6 +314,8 @@ fn end_each(slots: &mut [Slot])
     ensures placed { ArePlaced 0 slots.new }
     ensures machines { (policy : ReadPolicy) → machines_of policy slots.new
         ≡ machines_of policy slots.old }
+    ensures standings { (layout : Layout) → standings_of layout slots.new
+        ≡ standings_of layout slots.old }
 {
     for slot in slots.iter_mut() {
         end_input(slot);
@@ -300,13 +326,15 @@ fn end_input(slot: &mut Slot)
     ensures placed { (before : ℕ) → IsPlaced before slot.old → IsPlaced before slot.new }
     ensures machine { (policy : ReadPolicy) → (s : SessionId) → machine_in_slot policy s slot.new
         ≡ machine_in_slot policy s slot.old }
+    ensures standing { (layout : Layout) → (s : SessionId) → standing_in_slot layout s slot.new
+        ≡ standing_in_slot layout s slot.old }
 {
     match slot {
         Slot::Free => {}
         Slot::Taken(client) => {
-            client.seat.turn = Turn::Free;
+            client.place.seat.turn = Turn::Free;
             client.rests = false;
-            client.seat.wire.end_input();
+            client.place.seat.wire.end_input();
         }
     }
 }

@@ -8,26 +8,33 @@
 //!
 //! A turn goes on behind an event alone, and rounds go on behind a round with an event. A play has
 //! fewer than 2^64 events, so turns and rounds end.
-ghost use Rattle.std.specs.Prelude.{◌≡◌, ◌↔◌, ◌≤◌, ℕ, suc, length, IsTrue, IfOk, OnOk};
+ghost use Rattle.std.specs.Prelude.{◌≡◌, ◌↔◌, ◌<◌, ◌≤◌, ℕ, suc, length, IsTrue, IfOk, OnOk, false, slice_index_or};
 ghost use Rattle.pool_base.specs.declared.session_id.SessionId.{SessionId};
-ghost use Rattle.schema.specs.Grammar.{IsWithin};
+ghost use Rattle.schema_print.specs.Allowed.{AreAllowed};
+ghost use Rattle.schema_print.specs.Printed.{AreInRange};
 ghost use Rattle.session_machine.specs.Rules.{new_machine};
 ghost use Rattle.session_engine.specs.Cores.{machine_in};
 ghost use Rattle.session_seat.specs.declared.seat.Turn.TheVariants.{Held};
 ghost use Rattle.session_seat.specs.Policy.{policy_in};
 ghost use Rattle.session_seat.specs.Shared.{shared_of};
-ghost use Rattle.session_seat.specs.Steps.{at};
-ghost use Rattle.session_player.specs.declared.round.TurnEnd.TheVariants.{Rests, Closed};
-ghost use Rattle.session_player.specs.Journals.{Goes, Went, machine_in_slot, state_of};
+ghost use Rattle.online_recovery.specs.declared.layout.Layout.{Layout};
+ghost use Rattle.online_recovery.specs.State.{new_standing};
+ghost use Rattle.recovery_seat.specs.Places.{IsLayout, standing_of};
+ghost use Rattle.recovery_seat.specs.Steps.{at};
+ghost use Rattle.session_player.specs.declared.round.TurnEnd.TheVariants.{Closed};
+ghost use Rattle.session_player.specs.declared.slots.Slot.TheVariants.{Free};
+ghost use Rattle.session_player.specs.Journals.{Goes, Went, machine_in_slot, standing_in_slot, state_of};
 ghost use Rattle.session_player.specs.Slots.{ArePlaced, IsPlaced, IsHeld, IsHeldOrFree};
-ghost use Rattle.session_player.specs.Turns.{EndsBehind};
+ghost use Rattle.session_player.specs.Turns.{EndsBehind, IsTaken};
 
 use crate::marks::stops;
+use crate::others::others_of;
 use crate::slots::{Client, Seats, Slot, free, place_of};
 use backend_trait::Backend;
 use pgproto::Mark;
-use pool_base::SessionId;
-use session_seat::{Book, Seat, Setting, Step, StepFault, Turn, World, take_step};
+use pool_base::{BackendSet, SessionId};
+use recovery_seat::{Place, take_step};
+use session_seat::{Book, Setting, Step, StepFault, Turn, World};
 
 /// How a session's turn ended.
 #[derive(Clone, Copy)]
@@ -44,6 +51,7 @@ enum TurnEnd {
 
 /// How a turn ends behind a step. None: it goes on.
 fn end_behind(until: Option<Mark>, did: Step) -> Option<TurnEnd>
+    requires { IsTaken did }
     ensures { EndsBehind until did result }
 {
     match did {
@@ -57,32 +65,44 @@ fn end_behind(until: Option<Mark>, did: Step) -> Option<TurnEnd>
         Step::Waits => Some(TurnEnd::Waits),
         Step::Idle => Some(TurnEnd::Rests),
         Step::Closed => Some(TurnEnd::Closed),
+        // A place takes the order itself.
+        Step::Recovers { .. } => unreachable!(),
     }
 }
 
 /// A session takes steps until it waits, rests, is closed, or has come to the mark.
 fn take_steps<B: Backend>(
     setting: Setting,
-    seat: &mut Seat,
+    place: &mut Place,
+    others: BackendSet,
     until: Option<Mark>,
     world: &mut World<B>,
     book: &mut Book,
 ) -> Result<TurnEnd, StepFault>
-    requires within { IsWithin setting.tables.now }
-    ensures goes { OnOk result (Goes setting.entry.tables.now seat.old.s
+    requires allowed { AreAllowed setting.tables.now }
+    requires in_range { AreInRange setting.tables.now }
+    requires tables { world.old.tables ≡ setting.tables.now }
+    ensures goes { (layout : Layout) → IsLayout setting.entry.config.now setting.entry.tables.now
+        layout → OnOk result (Goes setting.entry.tables.now place.old.seat.s others.bits
         (at (shared_of B.meaning world.old.gate.state world.old.tables world.old.count
-        world.old.shelf.items) (machine_in seat.old.core) book.old.journal)
+        world.old.shelf.items) (machine_in place.old.seat.core) (standing_of layout place.old)
+        book.old.journal)
         (at (shared_of B.meaning world.new.gate.state world.new.tables world.new.count
-        world.new.shelf.items) (machine_in seat.new.core) book.new.journal)) }
-    ensures closed { IfOk result (λ end. end ≡ Closed → machine_in seat.new.core ≡
-        new_machine seat.old.s (policy_in setting.entry.config.now)) }
-    ensures same { seat.new.s ≡ seat.old.s }
-    ensures turn { seat.new.turn ≡ seat.old.turn }
+        world.new.shelf.items) (machine_in place.new.seat.core) (standing_of layout place.new)
+        book.new.journal)) }
+    ensures closed { IfOk result (λ end. end ≡ Closed → machine_in place.new.seat.core ≡
+        new_machine place.old.seat.s (policy_in setting.entry.config.now)) }
+    ensures at_rest { (layout : Layout) → IsLayout setting.entry.config.now
+        setting.entry.tables.now layout → IfOk result (λ end. end ≡ Closed
+        → standing_of layout place.new ≡ new_standing place.old.seat.s layout) }
+    ensures same { place.new.seat.s ≡ place.old.seat.s }
+    ensures turn { place.new.seat.turn ≡ place.old.seat.turn }
+    ensures tables { world.new.tables ≡ world.old.tables }
     ensures boxes { length world.new.shelf.items ≡ length world.old.shelf.items }
 {
     'steps: loop {
         let before = book.events;
-        let did = take_step(setting, seat, world, book)?;
+        let did = take_step(setting, place, others, world, book)?;
         if let Some(end) = end_behind(until, did) {
             return Ok(end);
         }
@@ -102,32 +122,35 @@ fn is_held(turn: Turn) -> bool
     }
 }
 
-/// The turn of a session in a round. A session that is held takes no step; one that rests would
-/// find nothing to do.
+/// The turn of a session in a round.
 fn turn_of<B: Backend>(
     setting: Setting,
     client: &mut Client,
+    others: BackendSet,
     world: &mut World<B>,
     book: &mut Book,
 ) -> Result<TurnEnd, StepFault>
-    requires within { IsWithin setting.tables.now }
-    ensures goes { OnOk result (Goes setting.entry.tables.now client.old.seat.s
+    requires allowed { AreAllowed setting.tables.now }
+    requires in_range { AreInRange setting.tables.now }
+    requires tables { world.old.tables ≡ setting.tables.now }
+    ensures goes { (layout : Layout) → IsLayout setting.entry.config.now setting.entry.tables.now
+        layout → OnOk result (Goes setting.entry.tables.now client.old.place.seat.s others.bits
         (at (shared_of B.meaning world.old.gate.state world.old.tables world.old.count
-        world.old.shelf.items) (machine_in client.old.seat.core) book.old.journal)
+        world.old.shelf.items) (machine_in client.old.place.seat.core)
+        (standing_of layout client.old.place) book.old.journal)
         (at (shared_of B.meaning world.new.gate.state world.new.tables world.new.count
-        world.new.shelf.items) (machine_in client.new.seat.core) book.new.journal)) }
-    ensures closed { IfOk result (λ end. end ≡ Closed → machine_in client.new.seat.core ≡
-        new_machine client.old.seat.s (policy_in setting.entry.config.now)) }
-    ensures held { client.old.seat.turn ≡ Held → client.new ≡ client.old }
-    ensures quiet { client.old.seat.turn ≡ Held → book.new ≡ book.old }
-    ensures stays { client.old.seat.turn ≡ Held → IfOk result (λ end. end ≡ Rests) }
-    ensures same { client.new.seat.s ≡ client.old.seat.s }
+        world.new.shelf.items) (machine_in client.new.place.seat.core)
+        (standing_of layout client.new.place) book.new.journal)) }
+    ensures closed { IfOk result (λ end. end ≡ Closed → machine_in client.new.place.seat.core ≡
+        new_machine client.old.place.seat.s (policy_in setting.entry.config.now)) }
+    ensures at_rest { (layout : Layout) → IsLayout setting.entry.config.now
+        setting.entry.tables.now layout → IfOk result (λ end. end ≡ Closed
+        → standing_of layout client.new.place ≡ new_standing client.old.place.seat.s layout) }
+    ensures same { client.new.place.seat.s ≡ client.old.place.seat.s }
+    ensures tables { world.new.tables ≡ world.old.tables }
     ensures boxes { length world.new.shelf.items ≡ length world.old.shelf.items }
 {
-    if client.rests || is_held(client.seat.turn) {
-        return Ok(TurnEnd::Rests);
-    }
-    let end = take_steps(setting, &mut client.seat, None, world, book)?;
+    let end = take_steps(setting, &mut client.place, others, None, world, book)?;
     client.rests = matches!(end, TurnEnd::Rests);
     Ok(end)
 }
@@ -136,31 +159,83 @@ fn turn_of<B: Backend>(
 fn turn<B: Backend>(
     setting: Setting,
     slot: &mut Slot,
+    others: BackendSet,
     world: &mut World<B>,
     book: &mut Book,
 ) -> Result<(), StepFault>
-    requires within { IsWithin setting.tables.now }
-    ensures goes { (before : ℕ) → (s : SessionId) → s.number ≡ suc before
-        → IsPlaced before slot.old → OnOk result (Goes setting.entry.tables.now s
+    requires allowed { AreAllowed setting.tables.now }
+    requires in_range { AreInRange setting.tables.now }
+    requires tables { world.old.tables ≡ setting.tables.now }
+    ensures goes { (layout : Layout) → IsLayout setting.entry.config.now setting.entry.tables.now
+        layout → (before : ℕ) → (s : SessionId) → s.number ≡ suc before
+        → IsPlaced before slot.old → OnOk result (Goes setting.entry.tables.now s others.bits
         (at (shared_of B.meaning world.old.gate.state world.old.tables world.old.count
         world.old.shelf.items) (machine_in_slot (policy_in setting.entry.config.now) s slot.old)
-        book.old.journal)
+        (standing_in_slot layout s slot.old) book.old.journal)
         (at (shared_of B.meaning world.new.gate.state world.new.tables world.new.count
         world.new.shelf.items) (machine_in_slot (policy_in setting.entry.config.now) s slot.new)
-        book.new.journal)) }
-    ensures held { IsHeld slot.old → slot.new ≡ slot.old }
-    ensures quiet { IsHeld slot.old → book.new ≡ book.old }
+        (standing_in_slot layout s slot.new) book.new.journal)) }
     ensures placed { (before : ℕ) → IsPlaced before slot.old → IsPlaced before slot.new }
+    ensures tables { world.new.tables ≡ world.old.tables }
     ensures boxes { length world.new.shelf.items ≡ length world.old.shelf.items }
 {
     let end = match slot {
         Slot::Free => return Ok(()),
-        Slot::Taken(client) => turn_of(setting, client, world, book)?,
+        Slot::Taken(client) => turn_of(setting, client, others, world, book)?,
     };
     if let TurnEnd::Closed = end {
         free(slot);
     }
     Ok(())
+}
+
+/// Whether the session of a slot takes a turn. One that is held takes no step; one that rests would
+/// find nothing to do.
+fn is_due(slot: &Slot) -> bool
+    ensures { IsHeld slot.now → result ≡ false }
+{
+    match slot {
+        Slot::Free => false,
+        Slot::Taken(client) => !client.rests && !is_held(client.place.seat.turn),
+    }
+}
+
+/// The turn of a slot among all, where it takes one.
+fn turn_at<B: Backend>(
+    setting: Setting,
+    slots: &mut [Slot],
+    at: usize,
+    world: &mut World<B>,
+    book: &mut Book,
+) -> Result<(), StepFault>
+    requires allowed { AreAllowed setting.tables.now }
+    requires in_range { AreInRange setting.tables.now }
+    requires tables { world.old.tables ≡ setting.tables.now }
+    requires placed { ArePlaced 0 slots.old }
+    requires below { at < length slots.old }
+    requires few { length slots.old ≤ 64 }
+    ensures went { (layout : Layout) → IsLayout setting.entry.config.now setting.entry.tables.now
+        layout → OnOk result (Went setting.entry.tables.now
+        (state_of (policy_in setting.entry.config.now) layout
+        (shared_of B.meaning world.old.gate.state
+        world.old.tables world.old.count world.old.shelf.items) slots.old)
+        book.old.journal
+        (state_of (policy_in setting.entry.config.now) layout
+        (shared_of B.meaning world.new.gate.state
+        world.new.tables world.new.count world.new.shelf.items) slots.new)
+        book.new.journal) }
+    ensures held { IsHeld (slice_index_or slots.old at Free) → slots.new ≡ slots.old }
+    ensures quiet { IsHeld (slice_index_or slots.old at Free) → book.new ≡ book.old }
+    ensures placed { ArePlaced 0 slots.new }
+    ensures slots { length slots.new ≡ length slots.old }
+    ensures tables { world.new.tables ≡ world.old.tables }
+    ensures boxes { length world.new.shelf.items ≡ length world.old.shelf.items }
+{
+    if !is_due(&slots[at]) {
+        return Ok(());
+    }
+    let others = others_of(slots, at);
+    turn(setting, &mut slots[at], others, world, book)
 }
 
 /// One round: a turn of each slot, in the order of numbers.
@@ -170,21 +245,28 @@ fn round<B: Backend>(
     world: &mut World<B>,
     book: &mut Book,
 ) -> Result<(), StepFault>
-    requires within { IsWithin setting.tables.now }
+    requires allowed { AreAllowed setting.tables.now }
+    requires in_range { AreInRange setting.tables.now }
+    requires tables { world.old.tables ≡ setting.tables.now }
     requires placed { ArePlaced 0 slots.old }
     requires few { length slots.old ≤ 64 }
-    ensures went { OnOk result (Went setting.entry.tables.now
-        (state_of (policy_in setting.entry.config.now) (shared_of B.meaning world.old.gate.state
+    ensures went { (layout : Layout) → IsLayout setting.entry.config.now setting.entry.tables.now
+        layout → OnOk result (Went setting.entry.tables.now
+        (state_of (policy_in setting.entry.config.now) layout
+        (shared_of B.meaning world.old.gate.state
         world.old.tables world.old.count world.old.shelf.items) slots.old)
         book.old.journal
-        (state_of (policy_in setting.entry.config.now) (shared_of B.meaning world.new.gate.state
+        (state_of (policy_in setting.entry.config.now) layout
+        (shared_of B.meaning world.new.gate.state
         world.new.tables world.new.count world.new.shelf.items) slots.new)
         book.new.journal) }
     ensures placed { ArePlaced 0 slots.new }
+    ensures slots { length slots.new ≡ length slots.old }
+    ensures tables { world.new.tables ≡ world.old.tables }
     ensures boxes { length world.new.shelf.items ≡ length world.old.shelf.items }
 {
-    for slot in slots.iter_mut() {
-        turn(setting, slot, world, book)?;
+    for at in 0..slots.len() {
+        turn_at(setting, slots, at, world, book)?;
     }
     Ok(())
 }
@@ -196,14 +278,20 @@ pub(crate) fn rounds<B: Backend>(
     world: &mut World<B>,
     book: &mut Book,
 ) -> Result<(), StepFault>
-    requires within { IsWithin setting.tables.now }
-    ensures went { OnOk result (Went setting.entry.tables.now
-        (state_of (policy_in setting.entry.config.now) (shared_of B.meaning world.old.gate.state
+    requires allowed { AreAllowed setting.tables.now }
+    requires in_range { AreInRange setting.tables.now }
+    requires tables { world.old.tables ≡ setting.tables.now }
+    ensures went { (layout : Layout) → IsLayout setting.entry.config.now setting.entry.tables.now
+        layout → OnOk result (Went setting.entry.tables.now
+        (state_of (policy_in setting.entry.config.now) layout
+        (shared_of B.meaning world.old.gate.state
         world.old.tables world.old.count world.old.shelf.items) seats.old.slots.items)
         book.old.journal
-        (state_of (policy_in setting.entry.config.now) (shared_of B.meaning world.new.gate.state
+        (state_of (policy_in setting.entry.config.now) layout
+        (shared_of B.meaning world.new.gate.state
         world.new.tables world.new.count world.new.shelf.items) seats.new.slots.items)
         book.new.journal) }
+    ensures tables { world.new.tables ≡ world.old.tables }
     ensures boxes { length world.new.shelf.items ≡ length world.old.shelf.items }
 {
     'rounds: loop {
@@ -219,28 +307,34 @@ pub(crate) fn rounds<B: Backend>(
 fn turn_until<B: Backend>(
     setting: Setting,
     slot: &mut Slot,
+    others: BackendSet,
     mark: Mark,
     world: &mut World<B>,
     book: &mut Book,
 ) -> Result<(), StepFault>
-    requires within { IsWithin setting.tables.now }
-    ensures goes { (before : ℕ) → (s : SessionId) → s.number ≡ suc before
-        → IsPlaced before slot.old → OnOk result (Goes setting.entry.tables.now s
+    requires allowed { AreAllowed setting.tables.now }
+    requires in_range { AreInRange setting.tables.now }
+    requires tables { world.old.tables ≡ setting.tables.now }
+    ensures goes { (layout : Layout) → IsLayout setting.entry.config.now setting.entry.tables.now
+        layout → (before : ℕ) → (s : SessionId) → s.number ≡ suc before
+        → IsPlaced before slot.old → OnOk result (Goes setting.entry.tables.now s others.bits
         (at (shared_of B.meaning world.old.gate.state world.old.tables world.old.count
         world.old.shelf.items) (machine_in_slot (policy_in setting.entry.config.now) s slot.old)
-        book.old.journal)
+        (standing_in_slot layout s slot.old) book.old.journal)
         (at (shared_of B.meaning world.new.gate.state world.new.tables world.new.count
         world.new.shelf.items) (machine_in_slot (policy_in setting.entry.config.now) s slot.new)
-        book.new.journal)) }
+        (standing_in_slot layout s slot.new) book.new.journal)) }
     ensures held { OnOk result (IsHeldOrFree slot.new) }
     ensures placed { (before : ℕ) → IsPlaced before slot.old → IsPlaced before slot.new }
+    ensures tables { world.new.tables ≡ world.old.tables }
     ensures boxes { length world.new.shelf.items ≡ length world.old.shelf.items }
 {
     let end = match slot {
         Slot::Free => return Ok(()),
         Slot::Taken(client) => {
-            client.seat.turn = Turn::Held;
-            take_steps(setting, &mut client.seat, Some(mark), world, book)?
+            client.place.seat.turn = Turn::Held;
+            let until = Some(mark);
+            take_steps(setting, &mut client.place, others, until, world, book)?
         }
     };
     if let TurnEnd::Closed = end {
@@ -258,16 +352,24 @@ pub(crate) fn go_until<B: Backend>(
     world: &mut World<B>,
     book: &mut Book,
 ) -> Result<(), StepFault>
-    requires within { IsWithin setting.tables.now }
-    ensures went { OnOk result (Went setting.entry.tables.now
-        (state_of (policy_in setting.entry.config.now) (shared_of B.meaning world.old.gate.state
+    requires allowed { AreAllowed setting.tables.now }
+    requires in_range { AreInRange setting.tables.now }
+    requires tables { world.old.tables ≡ setting.tables.now }
+    ensures went { (layout : Layout) → IsLayout setting.entry.config.now setting.entry.tables.now
+        layout → OnOk result (Went setting.entry.tables.now
+        (state_of (policy_in setting.entry.config.now) layout
+        (shared_of B.meaning world.old.gate.state
         world.old.tables world.old.count world.old.shelf.items) seats.old.slots.items)
         book.old.journal
-        (state_of (policy_in setting.entry.config.now) (shared_of B.meaning world.new.gate.state
+        (state_of (policy_in setting.entry.config.now) layout
+        (shared_of B.meaning world.new.gate.state
         world.new.tables world.new.count world.new.shelf.items) seats.new.slots.items)
         book.new.journal) }
+    ensures tables { world.new.tables ≡ world.old.tables }
     ensures boxes { length world.new.shelf.items ≡ length world.old.shelf.items }
 {
     let place = place_of(s);
-    turn_until(setting, &mut seats.slots[place], mark, world, book)
+    let others = others_of(seats.slots.as_slice(), place);
+    let slot = &mut seats.slots[place];
+    turn_until(setting, slot, others, mark, world, book)
 }

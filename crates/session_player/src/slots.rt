@@ -4,7 +4,7 @@ ghost use Rattle.session_player.specs.Slots.{ArePlaced, ArePlaced-prop, is_taken
 ghost use Rattle.session_player.specs.declared.slots.Slot.TheVariants.{Free, Taken};
 
 use pool_base::{NoMemory, SessionId};
-use session_seat::Seat;
+use recovery_seat::Place;
 use std::alloc::Global;
 use std::mem;
 
@@ -14,7 +14,7 @@ const MOST_SESSIONS: usize = 64;
 /// A session that is connected.
 #[derive(Drop)]
 pub(crate) struct Client {
-    pub(crate) seat: Seat,
+    pub(crate) place: Place,
     /// It has nothing to do until its client sends something more, or has gone.
     pub(crate) rests: bool,
 }

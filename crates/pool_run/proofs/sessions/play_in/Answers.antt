@@ -1,12 +1,18 @@
-use Rattle.std.proofs.Common.{◌≡◌, true, ◌++◌, length, map, refl, rules}
+use Rattle.std.proofs.Common.{◌≡◌, ◌<◌, true, ◌++◌, length, map, refl, rules}
 use Rattle.pgproto.specs.Line.{line_of}
 use Rattle.session_player.specs.Written.{ArePlayed as AreSpoken}
 use Rattle.session_seat.specs.Policy.{policy_in}
-use Rattle.session_seat.specs.Told.{lines}
-use Rattle.world_plays.specs.Following.{started, events_of}
+use Rattle.session_seat.specs.Shared.{first_shared, shared_of}
+use Rattle.schema_print.specs.Allowed.{AreAllowed}
+use Rattle.recovery_seat.specs.Schedule.{IsSchedule, first_state, lines}
+use Rattle.recovery_seat.specs.Steps.{state}
+use Rattle.recovery_plays.specs.Following.{steps_of}
+use Rattle.recovery_seat.specs.Sessions.{sessions_in, sessions_of}
+use Rattle.world_plays.specs.Following.{events_of}
 use Rattle.pool_run.specs.Ends.{outside}
 use Rattle.pool_run.specs.Journals.{HasJournal}
-use Rattle.pool_run.proofs.PlayedOut.{played_out, journal_of_lines, schedule_at_first, put_alone}
+use Rattle.session_player.proofs.Going.{is_layout, layout_of}
+use Rattle.pool_run.proofs.PlayedOut.{journal_of_lines, of_sessions, tables_in, played_out, put_alone, schedule_at_first}
 use Rattle.pool_run.proofs.sessions.play_in.Goals as goal
 
 pub returns-in-Ok : goal.returns-in-Ok
@@ -14,13 +20,20 @@ returns-in-Ok g c before after =
     let plan = c.args.plan.now in
     let config = plan.config in
     let tables = plan.catalogue in
+    let sound = c.requires.sound in
+    let layout = layout_of config tables sound.allowed in
+    let of_layout = is_layout config tables sound.allowed in
     let script = map line_of plan.lines.script in
     let had = g.O.Sink.taken c.args.out.now in
     let has = g.O.Sink.taken c.play.new.out in
     let o = outside (g.O.Sink.fault_count c.args.out.now) (g.O.Sink.fault_count c.play.new.out) had has before after in
     let spoken : AreSpoken script had has = search rules in
-    let told = journal_of_lines config tables _ plan.lines.script c.journal_at.result _ _ had has c.as_slice-script.ensures c.in-Ok.ensures.journal in
+    let first = shared_of g.B.Backend.meaning c.args.world.now.gate.state c.args.world.now.tables c.args.world.now.count c.args.world.now.shelf.items in
+    let behind = shared_of g.B.Backend.meaning c.play.new.world.gate.state c.play.new.world.tables c.play.new.world.count c.play.new.world.shelf.items in
+    let told = journal_of_lines config tables layout c.as_slice-script.result.now plan.lines.script c.journal_at.result first behind had has c.as_slice-script.ensures (c.in-Ok.ensures.journal layout of_layout) in
     let begins = c.requires.first in
+    let last = state behind told.machines told.recoveries in
+    let schedule = schedule_at_first config tables layout first told.entries last begins told.schedule in
     let kept : c.args.journal ≡ true → HasJournal config tables script had has = λ is.
     let put = put_alone config tables c.journal_at.result (lines tables told.entries) told.transcript has (c.journal_at.ensures is) told.put in
     record {
@@ -28,20 +41,31 @@ returns-in-Ok g c before after =
       spoken = told.played;
       text = put.0 ++ lines tables told.entries;
       journal = record {
-        count = length (events_of told.entries);
-        run = record {
-          config = config;
-          start = started tables (policy_in config) begins.attached;
-          header = put.0;
-          lines = lines tables told.entries;
-          parts = refl;
-          printed = put.1;
-          begins = record { catalogue = refl; policy = refl; attached = begins.are_first };
-          schedule = c.plays_are_runs.ensures tables (policy_in config) begins.attached told.entries _ c.requires.sound.allowed begins.few
-              (schedule_at_first config tables _ told.entries _ begins told.schedule);
-        };
-        of_config = refl;
-        of_tables = refl;
+        layout = layout;
+        of_layout = of_layout;
+        attached = begins.attached;
+        are_first = begins.are_first;
+        entries = told.entries;
+        last = last;
+        schedule = schedule;
+        header = put.0;
+        printed = put.1;
+        parts = refl;
+        sessions_alone = λ alone.
+            of_sessions config tables begins.attached told.entries (sessions_of told.entries) put.0 (length (events_of (sessions_of told.entries))) begins.are_first put.1
+            (c.without_recoveries.ensures.told tables told.entries alone)
+            (c.plays_are_runs.ensures tables (policy_in config) begins.attached (sessions_of told.entries) (sessions_in last) sound.allowed begins.few
+            (c.without_recoveries.ensures.plays tables (policy_in config) layout (first_shared tables begins.attached) told.entries last alone schedule));
+        with_recoveries = λ short.
+            let allowed = tables_in tables layout (λ ts. AreAllowed ts) of_layout.of_tables sound.allowed in
+            let within = tables_in tables layout (λ ts. length (lines ts told.entries) < 18446744073709551616) of_layout.of_tables short in
+            let there = tables_in tables layout (λ ts. IsSchedule ts (first_state (policy_in config) layout (first_shared ts begins.attached)) told.entries last) of_layout.of_tables schedule in
+            let played = (c.plays_are_steps.ensures.steps (policy_in config) layout begins.attached told.entries last allowed begins.few within there).0 in
+            record {
+              played = played;
+              all_hold = c.plays_are_steps.ensures.one_store (policy_in config) layout begins.attached told.entries last allowed begins.few within there;
+              agree = c.replicas_agree.ensures layout (policy_in config) begins.attached (steps_of told.entries) allowed begins.few played;
+            };
       };
       wrote = put.2;
     } in

@@ -1,11 +1,18 @@
 use Rattle.std.proofs.Common.{◌∙◌, ap, drop, length, arith}
-use Rattle.session_player.specs.Journals.{machines_of}
+use Rattle.session_player.specs.Journals.{machines_of, standings_of}
 use Rattle.session_player.proofs.Going.{whole_again}
 use Rattle.session_player.proofs.player.end_all.Goals as goal
 
-pub returns : goal.returns
-returns c = λ policy.
+pub returns-clause-machines : goal.returns-clause-machines
+returns-clause-machines c = λ policy.
     let slots = c.args.seats.now.slots in
     let new = c.end_each.new.slots in
     ap (machines_of policy) (whole_again slots.len new (drop (length new) slots.items) (omega (arith, c.as_mut_slice.ensures.len, c.end_each.auto.slots)))
     ∙ (c.end_each.ensures.machines policy ∙ ap (machines_of policy) c.as_mut_slice.ensures.value)
+
+pub returns-clause-standings : goal.returns-clause-standings
+returns-clause-standings c = λ layout.
+    let slots = c.args.seats.now.slots in
+    let new = c.end_each.new.slots in
+    ap (standings_of layout) (whole_again slots.len new (drop (length new) slots.items) (omega (arith, c.as_mut_slice.ensures.len, c.end_each.auto.slots)))
+    ∙ (c.end_each.ensures.standings layout ∙ ap (standings_of layout) c.as_mut_slice.ensures.value)

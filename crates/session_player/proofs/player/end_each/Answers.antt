@@ -2,9 +2,10 @@ use Rattle.std.proofs.Common.{◌≡◌, ℕ, ◌<◌, length, sym, subst, ◌�
 use Rattle.session_player.specs.declared.slots.Slot.{Slot}
 use Rattle.pool_base.specs.declared.session_id.SessionId.{SessionId}
 use Rattle.session_machine.specs.declared.machine.ReadPolicy.{ReadPolicy}
-use Rattle.session_player.specs.Journals.{machine_in_slot}
+use Rattle.online_recovery.specs.declared.layout.Layout.{Layout}
+use Rattle.session_player.specs.Journals.{machine_in_slot, standing_in_slot}
 use Rattle.session_player.specs.Slots.{IsPlaced}
-use Rattle.session_player.proofs.Going.{machines_same}
+use Rattle.session_player.proofs.Going.{machines_same, standings_same}
 use Rattle.session_player.proofs.Placing.{placed_anew}
 use Rattle.session_player.proofs.player.end_each.Goals as goal
 
@@ -16,7 +17,9 @@ loop-slot-preserved c =
     let below : i < length slots = omega (arith, c.loop-slot.auto.slots, c.loop-slot-test.true) in
     let Keeps : Slot → Type 0 = λ old. (before : ℕ) → IsPlaced before old → IsPlaced before c.end_input.new.slot in
     let Same : Slot → Type 0 = λ old. (policy : ReadPolicy) → (s : SessionId) → machine_in_slot policy s c.end_input.new.slot ≡ machine_in_slot policy s old in
+    let Rests : Slot → Type 0 = λ old. (layout : Layout) → (s : SessionId) → standing_in_slot layout s c.end_input.new.slot ≡ standing_in_slot layout s old in
     record {
       placed = placed_anew slots i slot c.end_input.new.slot c.loop-slot.invariant.placed below c.slot-item.is (subst Keeps (sym c.slot-item.is) c.end_input.ensures.placed);
       machines = λ policy. machines_same policy slots i slot c.end_input.new.slot below c.slot-item.is (λ s own. subst Same (sym c.slot-item.is) c.end_input.ensures.machine policy s) ∙ c.loop-slot.invariant.machines policy;
+      standings = λ layout. standings_same layout slots i slot c.end_input.new.slot below c.slot-item.is (λ s own. subst Rests (sym c.slot-item.is) c.end_input.ensures.standing layout s) ∙ c.loop-slot.invariant.standings layout;
     }

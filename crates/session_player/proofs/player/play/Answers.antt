@@ -16,14 +16,14 @@ returns-clause-grows g c =
     grew_on (had c.args.out.now) (had c.play_lines.new.out) (had c.play_end.new.out) c.play_lines.ensures.grows c.play_end.ensures.grows
 
 pub returns-clause-journal : goal.returns-clause-journal
-returns-clause-journal g c =
+returns-clause-journal g c = λ layout is.
     let had = g.O.Sink.taken in
     let old = shared_of g.B.Backend.meaning c.args.world.now.gate.state c.args.world.now.tables c.args.world.now.count c.args.world.now.shelf.items in
     let mid = shared_of g.B.Backend.meaning c.play_lines.new.world.gate.state c.play_lines.new.world.tables c.play_lines.new.world.count c.play_lines.new.world.shelf.items in
     let new = shared_of g.B.Backend.meaning c.play_end.new.world.gate.state c.play_end.new.world.tables c.play_end.new.world.count c.play_end.new.world.shelf.items in
     let lines = c.play_lines.new.scene in
     let last = c.play_end.new.scene in
-    journaled c.args.setting.config.now c.args.setting.tables.now (map line_of c.args.script.now) c.args.journal c.new-2.result.journal lines.book.journal last.book.journal
+    journaled c.args.setting.config.now c.args.setting.tables.now layout (map line_of c.args.script.now) c.args.journal c.new-2.result.journal lines.book.journal last.book.journal
     old mid new c.in_ok-new.field-0.slots.items lines.seats.slots.items last.seats.slots.items
-    (had c.args.out.now) (had c.play_lines.new.out) (had c.play_end.new.out) c.in_ok-new.ensures.free c.new-2.ensures.journal c.in_ok-play_lines.ensures.parts c.in_ok-play_lines.ensures.went
-    c.in_ok-play_end.ensures.went c.in_ok-play_end.ensures.put
+    (had c.args.out.now) (had c.play_lines.new.out) (had c.play_end.new.out) c.in_ok-new.ensures.free c.new-2.ensures.journal c.in_ok-play_lines.ensures.parts (c.in_ok-play_lines.ensures.went layout is)
+    (c.in_ok-play_end.ensures.went layout is) c.in_ok-play_end.ensures.put

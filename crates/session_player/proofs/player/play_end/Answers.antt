@@ -4,7 +4,7 @@ use Rattle.session_seat.specs.declared.book.Journal.{Journal}
 use Rattle.session_seat.specs.Policy.{policy_in}
 use Rattle.session_seat.specs.Shared.{shared_of}
 use Rattle.session_player.specs.Journals.{Went, state_of}
-use Rattle.session_player.proofs.Going.{on_ok_always, went_behind, went_kept}
+use Rattle.session_player.proofs.Going.{layout_there, on_ok_always, went_behind, went_kept}
 use Rattle.session_player.proofs.Telling.{grew_on}
 use Rattle.session_player.proofs.player.play_end.Goals as goal
 
@@ -14,7 +14,7 @@ returns-clause-grows g c =
     grew_on (had c.args.out.now) (had c.put_told.new.out) (had c.put_journal.new.out) c.put_told.ensures.grows c.put_journal.ensures.grows
 
 pub returns-clause-went : goal.returns-clause-went
-returns-clause-went g c =
+returns-clause-went g c = λ layout is.
     let tables = c.args.setting.tables.now in
     let config = c.args.setting.config.now in
     let policy = policy_in config in
@@ -22,12 +22,13 @@ returns-clause-went g c =
     let new = shared_of g.B.Backend.meaning c.rounds.new.world.gate.state c.rounds.new.world.tables c.rounds.new.world.count c.rounds.new.world.shelf.items in
     let scene = c.args.scene.now in
     let freed = c.end_all.new.seats in
-    let first = went_kept tables policy old scene.seats.slots.items freed.slots.items scene.book.journal scene.book.journal (c.end_all.ensures policy) refl in
+    let first = went_kept tables policy layout old scene.seats.slots.items freed.slots.items scene.book.journal scene.book.journal (c.end_all.ensures.machines policy) (c.end_all.ensures.standings layout) refl in
+    let there = layout_there config c.at_moment-last.result.config.now tables c.at_moment-last.result.tables.now layout c.at_moment-last.ensures.config c.at_moment-last.ensures.tables is in
     let whole =
-    went_behind tables c.at_moment-last.result.tables.now config c.at_moment-last.result.config.now (state_of policy old scene.seats.slots.items) old new freed.slots.items
-    c.rounds.new.seats.slots.items scene.book.journal scene.book.journal c.rounds.new.book.journal c.at_moment-last.ensures.tables c.at_moment-last.ensures.config first c.in_ok-rounds.ensures.went in
+    went_behind tables c.at_moment-last.result.tables.now config c.at_moment-last.result.config.now layout (state_of policy layout old scene.seats.slots.items) old new freed.slots.items
+    c.rounds.new.seats.slots.items scene.book.journal scene.book.journal c.rounds.new.book.journal c.at_moment-last.ensures.tables c.at_moment-last.ensures.config first (c.in_ok-rounds.ensures.went layout there) in
     on_ok_always c.put_journal.result
-    (subst (λ (j : Journal). Went tables (state_of policy old scene.seats.slots.items) scene.book.journal (state_of policy new c.rounds.new.seats.slots.items) j) (sym c.put_told.ensures.journal) whole)
+    (subst (λ (j : Journal). Went tables (state_of policy layout old scene.seats.slots.items) scene.book.journal (state_of policy layout new c.rounds.new.seats.slots.items) j) (sym c.put_told.ensures.journal) whole)
 
 pub returns-clause-put : goal.returns-clause-put
 returns-clause-put g c =

@@ -2,31 +2,33 @@ use Rattle.std.proofs.lemmas.Result.{on_ok_weaker}
 use Rattle.session_seat.specs.Policy.{policy_in}
 use Rattle.session_seat.specs.Shared.{shared_of}
 use Rattle.session_player.specs.Journals.{state_of}
-use Rattle.session_player.proofs.Going.{went_behind}
+use Rattle.session_player.proofs.Going.{layout_there, went_behind}
 use Rattle.session_player.proofs.player.play_line.Goals as goal
 
 pub returns-in-Rounds-clause-went : goal.returns-in-Rounds-clause-went
-returns-in-Rounds-clause-went g c =
+returns-in-Rounds-clause-went g c = λ layout is.
     let old = shared_of g.B.Backend.meaning c.args.world.now.gate.state c.args.world.now.tables c.args.world.now.count c.args.world.now.shelf.items in
     let mid = shared_of g.B.Backend.meaning c.do_line.new.world.gate.state c.do_line.new.world.tables c.do_line.new.world.count c.do_line.new.world.shelf.items in
     let new = shared_of g.B.Backend.meaning c.rounds.new.world.gate.state c.rounds.new.world.tables c.rounds.new.world.count c.rounds.new.world.shelf.items in
     let config = c.args.setting.config.now in
     let scene = c.args.scene.now in
     let done = c.do_line.new.scene in
+    let there = layout_there config c.at_moment-setting.result.config.now c.args.setting.tables.now c.at_moment-setting.result.tables.now layout c.at_moment-setting.ensures.config c.at_moment-setting.ensures.tables is in
     on_ok_weaker c.rounds.result
-    (went_behind c.args.setting.tables.now c.at_moment-setting.result.tables.now config c.at_moment-setting.result.config.now (state_of (policy_in config) old scene.seats.slots.items)
+    (went_behind c.args.setting.tables.now c.at_moment-setting.result.tables.now config c.at_moment-setting.result.config.now layout (state_of (policy_in config) layout old scene.seats.slots.items)
     mid new done.seats.slots.items c.rounds.new.seats.slots.items scene.book.journal done.book.journal c.rounds.new.book.journal
-    c.at_moment-setting.ensures.tables c.at_moment-setting.ensures.config c.in_ok-then.ensures.went) c.rounds.ensures.went
+    c.at_moment-setting.ensures.tables c.at_moment-setting.ensures.config (c.in_ok-then.ensures.went layout is)) (c.rounds.ensures.went layout there)
 
 pub returns-in-Alone-clause-went : goal.returns-in-Alone-clause-went
-returns-in-Alone-clause-went g c =
+returns-in-Alone-clause-went g c = λ layout is.
     let old = shared_of g.B.Backend.meaning c.args.world.now.gate.state c.args.world.now.tables c.args.world.now.count c.args.world.now.shelf.items in
     let mid = shared_of g.B.Backend.meaning c.do_line.new.world.gate.state c.do_line.new.world.tables c.do_line.new.world.count c.do_line.new.world.shelf.items in
     let new = shared_of g.B.Backend.meaning c.go_until.new.world.gate.state c.go_until.new.world.tables c.go_until.new.world.count c.go_until.new.world.shelf.items in
     let config = c.args.setting.config.now in
     let scene = c.args.scene.now in
     let done = c.do_line.new.scene in
+    let there = layout_there config c.at_moment-setting.result.config.now c.args.setting.tables.now c.at_moment-setting.result.tables.now layout c.at_moment-setting.ensures.config c.at_moment-setting.ensures.tables is in
     on_ok_weaker c.go_until.result
-    (went_behind c.args.setting.tables.now c.at_moment-setting.result.tables.now config c.at_moment-setting.result.config.now (state_of (policy_in config) old scene.seats.slots.items)
+    (went_behind c.args.setting.tables.now c.at_moment-setting.result.tables.now config c.at_moment-setting.result.config.now layout (state_of (policy_in config) layout old scene.seats.slots.items)
     mid new done.seats.slots.items c.go_until.new.seats.slots.items scene.book.journal done.book.journal c.go_until.new.book.journal
-    c.at_moment-setting.ensures.tables c.at_moment-setting.ensures.config c.in_ok-then.ensures.went) c.go_until.ensures.went
+    c.at_moment-setting.ensures.tables c.at_moment-setting.ensures.config (c.in_ok-then.ensures.went layout is)) (c.go_until.ensures.went layout there)

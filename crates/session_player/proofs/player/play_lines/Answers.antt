@@ -21,10 +21,11 @@ loop-line-init g c =
     let old = shared_of g.B.Backend.meaning c.args.world.now.gate.state c.args.world.now.tables c.args.world.now.count c.args.world.now.shelf.items in
     record {
       grammar = c.requires.grammar;
-      went =
-          went_none c.args.setting.tables.now (state_of (policy_in c.args.setting.config.now) old c.args.scene.now.seats.slots.items) c.args.scene.now.book.journal
+      went = λ layout is.
+          went_none c.args.setting.tables.now (state_of (policy_in c.args.setting.config.now) layout old c.args.scene.now.seats.slots.items) c.args.scene.now.book.journal
           c.args.scene.now.book.journal refl;
       parts = refl;
+      tables = refl;
       boxes = refl;
       later = omega arith;
     }
@@ -41,12 +42,13 @@ loop-line-preserved g c =
     let mid = shared_of g.B.Backend.meaning c.loop-line.world.gate.state c.loop-line.world.tables c.loop-line.world.count c.loop-line.world.shelf.items in
     let new = shared_of g.B.Backend.meaning c.play_part.new.world.gate.state c.play_part.new.world.tables c.play_part.new.world.count c.play_part.new.world.shelf.items in
     record {
-      went =
-          went_on c.args.setting.tables.now (state_of policy old c.args.scene.now.seats.slots.items)
-          (state_of policy mid c.loop-line.scene.seats.slots.items) (state_of policy new c.play_part.new.scene.seats.slots.items)
-          c.args.scene.now.book.journal c.loop-line.scene.book.journal c.play_part.new.scene.book.journal c.loop-line.invariant.went c.in_ok-play_part.ensures.went;
+      went = λ layout is.
+          went_on c.args.setting.tables.now (state_of policy layout old c.args.scene.now.seats.slots.items)
+          (state_of policy layout mid c.loop-line.scene.seats.slots.items) (state_of policy layout new c.play_part.new.scene.seats.slots.items)
+          c.args.scene.now.book.journal c.loop-line.scene.book.journal c.play_part.new.scene.book.journal (c.loop-line.invariant.went layout is) (c.in_ok-play_part.ensures.went layout is);
       grammar = (here_of line_of IsOfGrammar script i line c.loop-line-test.true c.line-item.is c.loop-line.invariant.grammar).1;
       parts = subst After (sym (taken line_of script i line c.loop-line-test.true c.line-item.is)) (parts_on (map line_of (take i script)) (line_of line) (had c.args.out.now) (had c.loop-line.out) (had c.play_part.new.out) c.loop-line.invariant.parts c.in_ok-play_part.ensures.part);
+      tables = c.play_part.ensures.tables ∙ c.loop-line.invariant.tables;
       boxes = c.play_part.ensures.boxes ∙ c.loop-line.invariant.boxes;
       later = (let a : g.O.Sink.fault_count c.args.out.now ≤ g.O.Sink.fault_count c.loop-line.out = c.loop-line.invariant.later in let b : g.O.Sink.fault_count c.loop-line.out ≤ g.O.Sink.fault_count c.play_part.new.out = c.play_part.ensures.later in omega arith);
     }

@@ -21,12 +21,12 @@ returns-clause-grows g c =
     grew_on (had c.args.out.now) (had c.put_echo.new.out) (had c.put_told.new.out) c.put_echo.ensures.grows c.put_told.ensures.grows
 
 pub returns-clause-went : goal.returns-clause-went
-returns-clause-went g c =
+returns-clause-went g c = λ layout is.
     let policy = policy_in c.args.setting.config.now in
     let old = shared_of g.B.Backend.meaning c.args.world.now.gate.state c.args.world.now.tables c.args.world.now.count c.args.world.now.shelf.items in
     let new = shared_of g.B.Backend.meaning c.play_line.new.world.gate.state c.play_line.new.world.tables c.play_line.new.world.count c.play_line.new.world.shelf.items in
     let scene = c.args.scene.now in
     let played = c.play_line.new.scene in
     on_ok_always c.put_told.result
-    (subst (λ (j : Journal). Went c.args.setting.tables.now (state_of policy old scene.seats.slots.items) scene.book.journal (state_of policy new played.seats.slots.items) j)
-    (sym c.put_told.ensures.journal) c.in_ok-play_line.ensures.went)
+    (subst (λ (j : Journal). Went c.args.setting.tables.now (state_of policy layout old scene.seats.slots.items) scene.book.journal (state_of policy layout new played.seats.slots.items) j)
+    (sym c.put_told.ensures.journal) (c.in_ok-play_line.ensures.went layout is))

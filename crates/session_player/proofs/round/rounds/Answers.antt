@@ -9,20 +9,21 @@ pub rounds-init : goal.rounds-init
 rounds-init g c =
     let old = shared_of g.B.Backend.meaning c.args.world.now.gate.state c.args.world.now.tables c.args.world.now.count c.args.world.now.shelf.items in
     record {
-      went = went_none c.args.setting.tables.now (state_of (policy_in c.args.setting.config.now) old c.args.seats.now.slots.items) c.args.book.now.journal c.args.book.now.journal refl;
+      went = λ layout is. went_none c.args.setting.tables.now (state_of (policy_in c.args.setting.config.now) layout old c.args.seats.now.slots.items) c.args.book.now.journal c.args.book.now.journal refl;
+      tables = refl;
       boxes = refl;
     }
 
 pub returns-then-book-before-clause-went : goal.returns-then-book-before-clause-went
-returns-then-book-before-clause-went g c =
+returns-then-book-before-clause-went g c = λ layout is.
     let old = shared_of g.B.Backend.meaning c.args.world.now.gate.state c.args.world.now.tables c.args.world.now.count c.args.world.now.shelf.items in
     let mid = shared_of g.B.Backend.meaning c.rounds.world.gate.state c.rounds.world.tables c.rounds.world.count c.rounds.world.shelf.items in
     let new = shared_of g.B.Backend.meaning c.round.new.world.gate.state c.round.new.world.tables c.round.new.world.count c.round.new.world.shelf.items in
-    went_round c.args.setting.tables.now (policy_in c.args.setting.config.now) (state_of (policy_in c.args.setting.config.now) old c.args.seats.now.slots.items) mid new
+    went_round c.args.setting.tables.now (policy_in c.args.setting.config.now) layout (state_of (policy_in c.args.setting.config.now) layout old c.args.seats.now.slots.items) mid new
     c.args.book.now.journal c.rounds.book.journal c.round.new.book.journal c.rounds.seats.slots.items c.as_mut_slice.result.now c.round.new.slots
     (take c.rounds.seats.slots.len (c.round.new.slots ++ drop (length c.round.new.slots) c.rounds.seats.slots.items)) c.as_mut_slice.ensures.value
-    (whole_again c.rounds.seats.slots.len c.round.new.slots (drop (length c.round.new.slots) c.rounds.seats.slots.items) (omega (arith, c.as_mut_slice.ensures.len, c.round.auto.slots))) c.rounds.invariant.went
-    c.in_ok-round.ensures.went
+    (whole_again c.rounds.seats.slots.len c.round.new.slots (drop (length c.round.new.slots) c.rounds.seats.slots.items) (omega (arith, c.as_mut_slice.ensures.len, c.round.ensures.slots)))
+    (c.rounds.invariant.went layout is) (c.in_ok-round.ensures.went layout is)
 
 pub rounds-preserved : goal.rounds-preserved
 rounds-preserved g c =
@@ -30,10 +31,12 @@ rounds-preserved g c =
     let mid = shared_of g.B.Backend.meaning c.rounds.world.gate.state c.rounds.world.tables c.rounds.world.count c.rounds.world.shelf.items in
     let new = shared_of g.B.Backend.meaning c.round.new.world.gate.state c.round.new.world.tables c.round.new.world.count c.round.new.world.shelf.items in
     record {
-      went = went_round c.args.setting.tables.now (policy_in c.args.setting.config.now) (state_of (policy_in c.args.setting.config.now) old c.args.seats.now.slots.items) mid new
+      went = λ layout is.
+          went_round c.args.setting.tables.now (policy_in c.args.setting.config.now) layout (state_of (policy_in c.args.setting.config.now) layout old c.args.seats.now.slots.items) mid new
           c.args.book.now.journal c.rounds.book.journal c.round.new.book.journal c.rounds.seats.slots.items c.as_mut_slice.result.now c.round.new.slots
           (take c.rounds.seats.slots.len (c.round.new.slots ++ drop (length c.round.new.slots) c.rounds.seats.slots.items)) c.as_mut_slice.ensures.value
-          (whole_again c.rounds.seats.slots.len c.round.new.slots (drop (length c.round.new.slots) c.rounds.seats.slots.items) (omega (arith, c.as_mut_slice.ensures.len, c.round.auto.slots))) c.rounds.invariant.went
-          c.in_ok-round.ensures.went;
+          (whole_again c.rounds.seats.slots.len c.round.new.slots (drop (length c.round.new.slots) c.rounds.seats.slots.items) (omega (arith, c.as_mut_slice.ensures.len, c.round.ensures.slots)))
+          (c.rounds.invariant.went layout is) (c.in_ok-round.ensures.went layout is);
+      tables = c.round.ensures.tables ∙ c.rounds.invariant.tables;
       boxes = c.round.ensures.boxes ∙ c.rounds.invariant.boxes;
     }
