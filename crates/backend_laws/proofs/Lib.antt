@@ -1,0 +1,6 @@
+pub mod PostsAwaiting
+pub mod PostsKeeping
+pub mod PostsMeeting
+pub mod PostsOrders
+pub mod PostsSchedules
+pub mod PostsSteps

@@ -1,0 +1,7 @@
+//! What the replicated world keeps of its backends' contracts: each post that is due meets its
+//! store's condition.
+#![tactic(auto)]
+
+mod posts;
+
+pub use posts::{due_posts_meet, every_event_awaits, posts_meet_their_conditions};
