@@ -31,12 +31,12 @@ pub(crate) struct Talk {
     pub wire: Wire,
 }
 
-/// An order as this server takes it: a recovery is refused.
+/// An order as this server takes it: a recovery is refused, under the name that its SQL has.
 fn served(alloc: Global, body: OrderBody) -> Result<OrderBody, NoMemory> {
     match body {
         OrderBody::Recover(_) => Ok(OrderBody::Refuse {
             code: Code { bytes: *b"0A000" },
-            name: Text::from_str(alloc, "PGPOOL RECOVER")?,
+            name: Text::from_str(alloc, "recover")?,
         }),
         other => Ok(other),
     }
