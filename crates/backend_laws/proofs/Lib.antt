@@ -1,3 +1,5 @@
+pub mod CausesAlways
+pub mod CausesSteps
 pub mod PostsAwaiting
 pub mod PostsKeeping
 pub mod PostsMeeting

@@ -2,6 +2,8 @@
 //! store's condition.
 #![tactic(auto)]
 
+mod causes;
 mod posts;
 
+pub use causes::machines_detach_with_cause;
 pub use posts::{due_posts_meet, every_event_awaits, posts_meet_their_conditions};
