@@ -1,5 +1,5 @@
 -- Which outcomes may answer an order, and what a wire does at the outcome of its last order.
-use Rattle.std.specs.Prelude.{◌≡◌, ◌≤◌, ℕ, ℤ, Bool, true, false, List, [], ◌∷◌, ◌++◌, ◌&&◌, Option, Some, None, length, codes, bytes_eq, nat_eq, if◌then◌else◌}
+use Rattle.std.specs.Prelude.{◌≡◌, ◌≤◌, ℕ, ℤ, Bool, true, false, List, [], ◌∷◌, ◌++◌, ◌&&◌, not, Option, Some, None, length, codes, bytes_eq, nat_eq, if◌then◌else◌}
 use Rattle.pool_base.specs.declared.code.Code.{Code}
 use Rattle.pool_config.specs.declared.config.Node.{Node}
 use Rattle.session_orders.specs.declared.outcome.Outcome.{Outcome}
@@ -12,13 +12,14 @@ use Rattle.wire_reply.specs.Codes.{of_backend}
 use Rattle.wire_reply.specs.Replies.{report_bytes, text_with, complete_bytes, ready_bytes}
 use Rattle.wire_reply.specs.Rows.{AreInRange, AreRows}
 use Rattle.wire_reply.specs.Tags.{tag_text}
-use Rattle.wire_session.specs.Kept.{portal_of}
+use Rattle.wire_session.specs.Kept.{HasNone, portal_of}
 use Rattle.wire_extended.specs.Giving.{GivesFirst}
 use Rattle.wire_nodes.specs.Nodes.{TellsNodes}
+use Rattle.sql_tree.specs.declared.statement.Statement.{Statement}
 use Rattle.session_wire.specs.declared.due.Due.{Due}
 use Rattle.session_wire.specs.declared.due.Due.TheVariants as due
 use Rattle.session_wire.specs.Sayings.{Puts, error_bytes, done_bytes, said_bytes}
-use Rattle.session_wire.specs.Shown.{View}
+use Rattle.session_wire.specs.Shown.{View, frame_of}
 
 -- each value of its rows is in its range; the name of an error has at most 1000 bytes
 abbrev pub MayAnswer : Outcome → Type 0
@@ -135,3 +136,35 @@ abbrev pub ends_block : Outcome → Bool
 ends_block (outcome.Done tag.Commit warning) = true
 ends_block (outcome.Done tag.Rollback warning) = true
 ends_block _ = false
+
+-- the statements that are left of a text behind an outcome: an error of a Query drops them
+abbrev pub left_after : Due → Outcome → List Statement → List Statement
+left_after (due.Statement description last) (outcome.Error code name) left = []
+left_after (due.Recovery last) (outcome.Error code name) left = []
+left_after _ outcome left = left
+
+-- the portals stay behind an outcome: it ends no block and is no Settle outside one, nor the rows of an Execute
+abbrev pub keeps_portals : Due → Outcome → ℕ → Bool
+keeps_portals due.Settle outcome status = not (nat_eq status 73) && not (ends_block outcome)
+keeps_portals (due.Execute portal limit) (outcome.Rows rows tag) status = false
+keeps_portals _ outcome status = not (ends_block outcome)
+
+-- All of it.
+
+-- where a wire stands once the outcome of an order that is for this is told, before these backends of the configuration
+pub record IsHeard (nodes : List Node) (d : Due) (outcome : Outcome) (status : ℕ) (old new : View) : Type 0 where
+  pub says : Says nodes d outcome status old new
+  pub is_status : new.session.status ≡ status
+  pub implicit : new.session.implicit ≡ implicit_after old.session.implicit outcome status
+  pub skipping : new.session.skipping ≡ skips d outcome old.session.skipping
+  pub kept : frame_of new ≡ frame_of old
+  pub left : new.left ≡ left_after d outcome old.left
+  pub portals : keeps_portals d outcome status ≡ true → new.session.portals ≡ old.session.portals
+  pub ended : ends_block outcome ≡ true → HasNone new.session.portals
+  pub settled : d ≡ due.Settle → status ≡ 73 → HasNone new.session.portals
+  pub gone : new.due ≡ None
+
+-- where no order awaits an outcome nothing is told
+abbrev pub IsHeardAt : List Node → Option Due → Outcome → ℕ → View → View → Type 0
+IsHeardAt nodes None outcome status old new = new ≡ old
+IsHeardAt nodes (Some d) outcome status old new = IsHeard nodes d outcome status old new

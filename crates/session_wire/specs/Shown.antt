@@ -3,6 +3,7 @@ use Rattle.std.specs.Prelude.{◌≡◌, ℕ, Bool, true, false, List, [], ◌++
 use Rattle.pg_messages.specs.declared.start.Pair.{Pair}
 use Rattle.sql_tree.specs.declared.statement.Statement.{Statement}
 use Rattle.wire_session.specs.declared.session.Session.{Session}
+use Rattle.wire_session.specs.declared.statements.Statements.{Statements}
 use Rattle.session_wire.specs.declared.due.Due.{Due}
 use Rattle.session_wire.specs.declared.wire.Stage.{Stage}
 use Rattle.session_wire.specs.declared.wire.Stage.TheVariants.{Starting}
@@ -50,3 +51,24 @@ with_written v count = record v { output = drop count v.output }
 abbrev pub IsFresh : ℕ → View → Type 0
 IsFresh number v = (v.number ≡ number) × (v.stage ≡ Starting false false) × (v.options ≡ []) × (v.left ≡ []) × (v.settles ≡ false)
     × (v.due ≡ None) × (v.rest ≡ []) × (v.ended ≡ false) × (v.output ≡ []) × (v.held ≡ [])
+
+-- what an outcome leaves as it is: whose wire it is, where the session stands, what was fed and not taken, the names of statements
+pub record Frame : Type 0 where
+  pub number : ℕ
+  pub stage : Stage
+  pub options : List Pair
+  pub settles : Bool
+  pub rest : List ℕ
+  pub ended : Bool
+  pub statements : Statements
+
+abbrev pub frame_of : View → Frame
+frame_of v = record {
+  number = v.number;
+  stage = v.stage;
+  options = v.options;
+  settles = v.settles;
+  rest = v.rest;
+  ended = v.ended;
+  statements = v.session.statements;
+}

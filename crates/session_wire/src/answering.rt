@@ -1,11 +1,11 @@
 //! What becomes of an order, as bytes for the client.
-ghost use Rattle.std.specs.Prelude.{◌≡◌, ◌≤◌, length, false, true, None, Some, IfOk, IsTrue, IsOk, OnOk};
+ghost use Rattle.std.specs.Prelude.{◌≡◌, ◌≤◌, [], length, nat_eq, false, true, None, Some, IfOk, IsTrue, IsOk, OnOk};
 ghost use Rattle.wire_reply.specs.Rows.{AreInRange};
-ghost use Rattle.session_wire.specs.Answers.{MayAnswer, Says, SaysExecute, SaysRecovery, SaysRefused, SaysStatement, code_of, ends_block, ends_now, implicit_after, of_recovery, saying_of, skips};
+ghost use Rattle.session_wire.specs.Answers.{MayAnswer, Says, SaysExecute, SaysRecovery, SaysRefused, SaysStatement, code_of, ends_block, ends_now, implicit_after, keeps_portals, left_after, of_recovery, saying_of, skips};
 ghost use Rattle.wire_session.specs.Kept.{HasNone};
 ghost use Rattle.session_wire.specs.Hears.{with_session};
 ghost use Rattle.session_wire.specs.Sayings.{HasRoom};
-ghost use Rattle.session_wire.specs.Shown.{shown};
+ghost use Rattle.session_wire.specs.Shown.{frame_of, shown};
 ghost use Rattle.session_wire.specs.declared.due.Due.TheVariants as dues;
 ghost use Rattle.session_orders.specs.declared.outcome.Outcome.TheVariants.{Rows, Nodes, Error as Failed};
 
@@ -36,6 +36,14 @@ impl Wire {
         ensures skips { (due : _) → (shown self.old).due ≡ Some due
             → OnOk result ((shown self.new).session.skipping
             ≡ skips due outcome (shown self.old).session.skipping) }
+        // All else stays: the bytes that were fed and not taken, where the session stands, the
+        // names of statements. An error of a Query drops the statements that are left of its text.
+        ensures kept { frame_of (shown self.new) ≡ frame_of (shown self.old) }
+        ensures left { (due : _) → (shown self.old).due ≡ Some due
+            → OnOk result ((shown self.new).left ≡ left_after due outcome (shown self.old).left) }
+        ensures portals { (due : _) → (shown self.old).due ≡ Some due
+            → keeps_portals due outcome status ≡ true
+            → OnOk result ((shown self.new).session.portals ≡ (shown self.old).session.portals) }
         // Portals end with their block, and outside one with Settle.
         ensures ended { (due : _) → (shown self.old).due ≡ Some due → ends_block outcome ≡ true
             → OnOk result (HasNone (shown self.new).session.portals) }
@@ -77,6 +85,11 @@ impl Wire {
         ensures skips { OnOk result (self.new.session.skipping
             ≡ skips due outcome self.old.session.skipping) }
         ensures due { self.new.due ≡ self.old.due }
+        ensures kept { frame_of (shown self.new) ≡ frame_of (shown self.old) }
+        ensures left { OnOk result ((shown self.new).left
+            ≡ left_after due outcome (shown self.old).left) }
+        ensures portals { keeps_portals due outcome status ≡ true
+            → OnOk result (self.new.session.portals ≡ self.old.session.portals) }
         ensures ended { ends_block outcome ≡ true → OnOk result (HasNone self.new.session.portals) }
         ensures settled { due ≡ dues.Settle → status ≡ 73
             → OnOk result (HasNone self.new.session.portals) }
@@ -97,6 +110,7 @@ impl Wire {
         ensures output { self.new.output ≡ self.old.output }
         ensures due { self.new.due ≡ self.old.due }
         ensures session { shown self.new ≡ with_session self.new.session (shown self.old) }
+        ensures statements { self.new.session.statements ≡ self.old.session.statements }
         ensures portals { ends ≡ false → self.new.session.portals ≡ self.old.session.portals }
         ensures ended { ends ≡ true → HasNone self.new.session.portals }
         ensures kept { HasNone self.old.session.portals → HasNone self.new.session.portals }
@@ -121,6 +135,11 @@ impl Wire {
         ensures skips { OnOk result (self.new.session.skipping
             ≡ skips due outcome self.old.session.skipping) }
         ensures due { self.new.due ≡ self.old.due }
+        ensures kept { frame_of (shown self.new) ≡ frame_of (shown self.old) }
+        ensures left { OnOk result ((shown self.new).left
+            ≡ left_after due outcome (shown self.old).left) }
+        ensures portals { keeps_portals due outcome status ≡ true
+            → OnOk result (self.new.session.portals ≡ self.old.session.portals) }
         ensures settled { due ≡ dues.Settle → status ≡ 73
             → OnOk result (HasNone self.new.session.portals) }
         ensures commit { IsTrue (ends_now due outcome) → HasRoom self.old.output → IsOk result }
@@ -155,6 +174,7 @@ impl Wire {
     }
 
     /// The outcome of a statement of a Query. An error ends the text.
+    #[tactic(auto, using(crate::proofs::Saying::none_left))]
     fn statement(
         &mut self,
         config: &Config,
@@ -167,6 +187,9 @@ impl Wire {
             (shown self.old) (shown self.new)) }
         ensures session { self.new.session ≡ self.old.session }
         ensures due { self.new.due ≡ self.old.due }
+        ensures kept { frame_of (shown self.new) ≡ frame_of (shown self.old) }
+        ensures left { OnOk result ((shown self.new).left ≡ left_after
+            (dues.Statement description last) outcome (shown self.old).left) }
         ensures commit { IsTrue (ends_now (dues.Statement description last) outcome)
             → HasRoom self.old.output → IsOk result }
     {
@@ -209,6 +232,8 @@ impl Wire {
             (Rows rows.now tag) (shown self.old) (shown self.new)) }
         ensures session { self.new.session ≡ self.old.session }
         ensures due { self.new.due ≡ self.old.due }
+        ensures kept { frame_of (shown self.new) ≡ frame_of (shown self.old) }
+        ensures left { (shown self.new).left ≡ (shown self.old).left }
     {
         let bytes = rows_bytes(self.alloc, rows, &[])?;
         self.output.put(last, description.as_slice())?;
@@ -223,6 +248,8 @@ impl Wire {
             last (Nodes attached) (shown self.old) (shown self.new)) }
         ensures session { self.new.session ≡ self.old.session }
         ensures due { self.new.due ≡ self.old.due }
+        ensures kept { frame_of (shown self.new) ≡ frame_of (shown self.old) }
+        ensures left { (shown self.new).left ≡ (shown self.old).left }
     {
         let bytes = nodes_bytes(self.alloc, config.nodes.as_slice(), attached)?;
         self.output.put(last, bytes.as_slice())?;
@@ -237,6 +264,9 @@ impl Wire {
             (shown self.new)) }
         ensures session { self.new.session ≡ self.old.session }
         ensures due { self.new.due ≡ self.old.due }
+        ensures kept { frame_of (shown self.new) ≡ frame_of (shown self.old) }
+        ensures left { OnOk result ((shown self.new).left ≡ left_after (dues.Recovery waits) outcome
+            (shown self.old).left) }
     {
         match outcome {
             Outcome::Done { tag, warning } => {
@@ -255,12 +285,15 @@ impl Wire {
         }
     }
 
+    #[tactic(auto, using(crate::proofs::Saying::none_left))]
     fn report_recovered(&mut self, waits: bool, code: Code, name: Text) -> Result<(), NoMemory>
         requires short { length name ≤ 1000 }
         ensures says { OnOk result (SaysRecovery waits (Failed code name) (shown self.old)
             (shown self.new)) }
         ensures session { self.new.session ≡ self.old.session }
         ensures due { self.new.due ≡ self.old.due }
+        ensures kept { frame_of (shown self.new) ≡ frame_of (shown self.old) }
+        ensures left { (shown self.new).left ≡ [] }
     {
         self.at = self.text.len();
         let saying = of_recovery(code, name.as_bytes());
@@ -281,6 +314,8 @@ impl Wire {
             (shown self.new)) }
         ensures session { self.new.session ≡ self.old.session }
         ensures due { self.new.due ≡ self.old.due }
+        ensures kept { frame_of (shown self.new) ≡ frame_of (shown self.old) }
+        ensures left { (shown self.new).left ≡ (shown self.old).left }
     {
         match outcome {
             Outcome::Error { code, name } => {
@@ -308,6 +343,8 @@ impl Wire {
             (shown self.old) (shown self.new)) }
         ensures session { self.new.session ≡ self.old.session }
         ensures due { self.new.due ≡ self.old.due }
+        ensures kept { frame_of (shown self.new) ≡ frame_of (shown self.old) }
+        ensures left { (shown self.new).left ≡ (shown self.old).left }
     {
         let saying = saying_of(asked, saying, code);
         self.output.put_error(last, code, saying, name.as_bytes())?;
@@ -322,6 +359,10 @@ impl Wire {
         ensures skips { OnOk result (self.new.session.skipping
             ≡ skips (dues.Execute portal limit) outcome self.old.session.skipping) }
         ensures due { self.new.due ≡ self.old.due }
+        ensures kept { frame_of (shown self.new) ≡ frame_of (shown self.old) }
+        ensures left { (shown self.new).left ≡ (shown self.old).left }
+        ensures portals { (status : _) → keeps_portals (dues.Execute portal limit) outcome status
+            ≡ true → OnOk result (self.new.session.portals ≡ self.old.session.portals) }
         ensures commit { IsTrue (ends_now (dues.Execute portal limit) outcome)
             → HasRoom self.old.output → IsOk result }
     {
@@ -354,6 +395,8 @@ impl Wire {
             (shown self.old) (shown self.new)) }
         ensures skipping { self.new.session.skipping ≡ self.old.session.skipping }
         ensures due { self.new.due ≡ self.old.due }
+        ensures kept { frame_of (shown self.new) ≡ frame_of (shown self.old) }
+        ensures left { (shown self.new).left ≡ (shown self.old).left }
     {
         let name = portal.as_slice();
         let bytes = first_rows(self.alloc, &mut self.session.portals, name, limit, rows)?;
@@ -368,6 +411,10 @@ impl Wire {
             (shown self.old) (shown self.new)) }
         ensures skipping { self.new.session.skipping ≡ self.old.session.skipping }
         ensures due { self.new.due ≡ self.old.due }
+        ensures kept { frame_of (shown self.new) ≡ frame_of (shown self.old) }
+        ensures left { (shown self.new).left ≡ (shown self.old).left }
+        ensures portals { nat_eq status 73 ≡ false
+            → OnOk result (self.new.session.portals ≡ self.old.session.portals) }
         ensures settled { status ≡ 73 → OnOk result (HasNone self.new.session.portals) }
         ensures commit { HasRoom self.old.output → IsOk result }
     {
