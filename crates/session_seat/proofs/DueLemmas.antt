@@ -60,6 +60,7 @@ use Rattle.session_seat.specs.declared.step.Step.TheVariants as steps
 use Rattle.session_seat.specs.Told.{added, told_of}
 use Rattle.session_seat.specs.Shared.{Shared}
 use Rattle.session_seat.specs.Steps.{at, TookPlace}
+use Rattle.session_seat.specs.Speech.{IsQuiet}
 use Rattle.session_seat.specs.Dues.{called, mark_of, Hears, LooksAt, WaitsFor, Follows, Rests, IsAsked, IsOfTurn, IsDue}
 use Rattle.session_seat.specs.Stops.{IsFull, IsGarbled, IsNoMessage, IsTold, IsUnfit, MayPostAt, StopsAtPost, StopsTelling, StopsAtReply, StopsBehind, StopsAtRest, WorldView, StopsAsked, StopsTurn, Stops}
 
@@ -210,19 +211,22 @@ called_may m g h call answer asked is free =
 
 pub called_place : (tables : List TableDef) (s : SessionId) (m n : Machine) (old new : Shared) (j k : Journal) (call : GateCall) (answer : GateAnswer) → asked_of (next_action m) ≡ asks.Gate call
     → gates.MayCall old.gate call → (new.gate, answer) ≡ gates.step old.gate call → new.stores ≡ old.stores → is_held answer ≡ false → n ≡ after m (gate_event (next_action m) answer)
-    → k ≡ added j (told_of tables s (events.Called call answer)) → TookPlace tables s (at old m j) (at new n k)
-called_place tables s m n old new j k call answer asked may is stores free leads tells = record {
-  event = events.Called call answer;
-  between = at old m j;
-  first = refl;
-  moves = record {
-    may = called_as m old.gate new.gate call answer asked is free;
-    answered = (may, is);
-    serves = stores;
-    leads = leads ∙ ap (λ (a : Action). after m (gate_event a answer)) (called_due (next_action m) call asked);
-  };
-  tells = tells;
-}
+    → k ≡ added j (told_of tables s (events.Called call answer)) → (took : TookPlace tables s (at old m j) (at new n k)) × IsQuiet took.event
+called_place tables s m n old new j k call answer asked may is stores free leads tells = (
+  record {
+    event = events.Called call answer;
+    between = at old m j;
+    first = refl;
+    moves = record {
+      may = called_as m old.gate new.gate call answer asked is free;
+      answered = (may, is);
+      serves = stores;
+      leads = leads ∙ ap (λ (a : Action). after m (gate_event a answer)) (called_due (next_action m) call asked);
+    };
+    tells = tells;
+  },
+  tt,
+)
 
 -- which step it is
 pub held_step : (g h : GateState) (call : GateCall) (answer : GateAnswer) (count : ℕ) → (h, answer) ≡ gates.step g call → answer ≡ Held count → steps.Waits ≡ called call (gates.step g call).1
@@ -264,22 +268,24 @@ detached_may m g h b answer due is = detached_at m (next_action m) answer refl d
 
 pub detached_place : (tables : List TableDef) (s : SessionId) (m n : Machine) (old new : Shared) (j k : Journal) (b : BackendId) (answer : GateAnswer) → asked_of (next_action m) ≡ asks.Detach b
     → (new.gate, answer) ≡ gates.step old.gate (calls.Detach b) → new.stores ≡ old.stores → n ≡ after m (gate_event (next_action m) answer)
-    → (cause : Cause) × Detaches (next_action m) cause × (k ≡ added j (told_of tables s (events.Detached b cause answer)))
-    → TookPlace tables s (at old m j) (at new n k)
-detached_place tables s m n old new j k b answer asked is stores leads (cause, of, tells) =
-    let due : next_action m ≡ actions.Detach b cause = detached_due (next_action m) b cause asked of in
-    record {
-      event = events.Detached b cause answer;
-      between = at old m j;
-      first = refl;
-      moves = record {
-        may = (due, detached_answer old.gate new.gate b answer is);
-        answered = is;
-        serves = stores;
-        leads = leads ∙ ap (λ (a : Action). after m (gate_event a answer)) due;
-      };
-      tells = tells;
-    }
+    → (tells : (cause : Cause) × Detaches (next_action m) cause × (k ≡ added j (told_of tables s (events.Detached b cause answer))))
+    → (took : TookPlace tables s (at old m j) (at new n k)) × (took.event ≡ events.Detached b tells.0 answer)
+detached_place tables s m n old new j k b answer asked is stores leads tells =
+    let due : next_action m ≡ actions.Detach b tells.0 = detached_due (next_action m) b tells.0 asked tells.1 in (
+      record {
+        event = events.Detached b tells.0 answer;
+        between = at old m j;
+        first = refl;
+        moves = record {
+          may = (due, detached_answer old.gate new.gate b answer is);
+          answered = is;
+          serves = stores;
+          leads = leads ∙ ap (λ (a : Action). after m (gate_event a answer)) due;
+        };
+        tells = tells.2;
+      },
+      refl,
+    )
 
 -- Messages that are read one after another.
 

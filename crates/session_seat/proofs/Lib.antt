@@ -5,3 +5,4 @@ pub mod ServedLemmas
 mod SharedLemmas
 pub mod StepLemmas
 mod SwapLemmas
+mod SpeechLemmas

@@ -28,6 +28,7 @@ use Rattle.session_seat.specs.Told.{added, told_of, told_lost}
 use Rattle.session_seat.specs.Shared.{Serves}
 use Rattle.session_seat.specs.Schedule.{led}
 use Rattle.session_seat.specs.Steps.{IsDid, Stand, at, TookPlace, IsStep}
+use Rattle.session_seat.specs.Speech.{IsQuiet, IsQuietStep}
 use Rattle.session_seat.proofs.ServedLemmas.{IsLostAt, not_lost, lost_before, stores_lost, lost_now, still_waits, lost_again}
 
 -- What is asked for is the post of a request.
@@ -87,53 +88,69 @@ ended_at session EndDue is = refl
 pub ended : (m : Machine) → next_action m ≡ actions.End → handed m ≡ led m events.Ended
 ended m is = ended_at m.session m.point is
 
--- A step by which an event took place.
+-- A step by which an event took place at which nothing is told.
 
-pub took : (tables : List TableDef) (policy : ReadPolicy) (s : SessionId) (old new : Stand) (step : Step) → IsDid step → TookPlace tables s old new → IsStep tables policy s old step new
-took tables policy s old new (steps.Did mark) is place = place
-took tables policy s old new steps.Waits is place = absurd is
-took tables policy s old new steps.Idle is place = absurd is
-took tables policy s old new steps.Closed is place = absurd is
-took tables policy s old new (steps.Recovers moment number) is place = absurd is
+took : (tables : List TableDef) (s : SessionId) (old new : Stand) (step : Step) → IsDid step → (took : TookPlace tables s old new) × IsQuiet took.event → IsQuietStep tables s old step new
+took tables s old new (steps.Did mark) is place = place
+took tables s old new steps.Waits is place = absurd is
+took tables s old new steps.Idle is place = absurd is
+took tables s old new steps.Closed is place = absurd is
+took tables s old new (steps.Recovers moment number) is place = absurd is
+
+pub quiet_step : (tables : List TableDef) (policy : ReadPolicy) (s : SessionId) (old new : Stand) (step : Step) → IsQuietStep tables s old step new → IsStep tables policy s old step new
+quiet_step tables policy s old new (steps.Did mark) is = is.0
+quiet_step tables policy s old new steps.Waits is = is
+quiet_step tables policy s old new steps.Idle is = absurd is
+quiet_step tables policy s old new steps.Closed is = absurd is
+quiet_step tables policy s old new (steps.Recovers moment number) is = absurd is
+
+pub quiet_ok : {E : Type 0} (tables : List TableDef) (policy : ReadPolicy) (s : SessionId) (old new : Stand) (result : Result Step E) → IfOk result (λ step. IsQuietStep tables s old step new)
+    → IfOk result (λ step. IsStep tables policy s old step new)
+quiet_ok tables policy s old new (Ok step) is = quiet_step tables policy s old new step is
+quiet_ok tables policy s old new (Err fault) is = tt
 
 -- a request was posted
-pub posted_step : {E : Type 0} (tables : List TableDef) (policy : ReadPolicy) (s : SessionId) (old new : Stand) (b : BackendId) (request : Request) (text : List ℕ) (result : Result Step E)
+pub posted_step : {E : Type 0} (tables : List TableDef) (s : SessionId) (old new : Stand) (b : BackendId) (request : Request) (text : List ℕ) (result : Result Step E)
     → IfOk result IsDid → OnOk result (new.machine ≡ led old.machine (events.Posted b request)) → OnOk result (new.journal ≡ added old.journal text)
     → new.shared.gate ≡ old.shared.gate → OnOk result (Serves tables old.shared.stores s.number (events.Posted b request) new.shared.stores) → MayHappen old.machine (events.Posted b request)
-    → added old.journal text ≡ added old.journal (told_of tables s (events.Posted b request)) → IfOk result (λ step. IsStep tables policy s old step new)
-posted_step tables policy s old new b request text (Ok step) is leads line gate serves may same =
-    took tables policy s old new step is
-    (record { event = events.Posted b request; between = old; first = refl; moves = record { may = may; answered = gate; serves = serves; leads = leads }; tells = line ∙ same })
-posted_step tables policy s old new b request text (Err fault) is leads line gate serves may same = tt
+    → added old.journal text ≡ added old.journal (told_of tables s (events.Posted b request)) → IfOk result (λ step. IsQuietStep tables s old step new)
+posted_step tables s old new b request text (Ok step) is leads line gate serves may same =
+    took tables s old new step is
+    (record { event = events.Posted b request; between = old; first = refl; moves = record { may = may; answered = gate; serves = serves; leads = leads }; tells = line ∙ same }, tt)
+posted_step tables s old new b request text (Err fault) is leads line gate serves may same = tt
 
 -- a backend was found lost; where no session has seen it before, it is lost first, and the journal tells of that
-pub missed_step : {E : Type 0} (tables : List TableDef) (policy : ReadPolicy) (s : SessionId) (old new : Stand) (mid : Journal) (b : BackendId) (before later : ℕ) (is_new : Bool) (result : Result Step E)
+pub missed_step : {E : Type 0} (tables : List TableDef) (s : SessionId) (old new : Stand) (mid : Journal) (b : BackendId) (before later : ℕ) (is_new : Bool) (result : Result Step E)
     → mid ≡ (if is_new then added old.journal (told_lost b) else old.journal) → IfOk result IsDid → MayHappen old.machine (events.Faulted b before later)
     → OnOk result (new.machine ≡ led old.machine (events.Faulted b before later)) → OnOk result (new.journal ≡ added mid (told_of tables s (events.Faulted b before later)))
-    → new.shared.gate ≡ old.shared.gate → IsLostAt old.shared.stores b.number s.number is_new new.shared.stores → IfOk result (λ step. IsStep tables policy s old step new)
-missed_step tables policy s old new mid b before later true (Ok step) seen is may leads line gate lost =
+    → new.shared.gate ≡ old.shared.gate → IsLostAt old.shared.stores b.number s.number is_new new.shared.stores → IfOk result (λ step. IsQuietStep tables s old step new)
+missed_step tables s old new mid b before later true (Ok step) seen is may leads line gate lost =
     let was = old.shared.stores in
     let now = new.shared.stores in
-    took tables policy s old new step is
-    (record {
-      event = events.Faulted b before later;
-      between = at new.shared old.machine mid;
-      first = inr (record { not_lost = not_lost was now b.number s.number lost; gate = gate; stores = stores_lost was now b.number s.number true lost }, (refl, seen));
-      moves = record { may = may; answered = refl; serves = (lost_now was now b.number s.number true lost, (still_waits was now b.number s.number true lost, refl)); leads = leads };
-      tells = line;
-    })
-missed_step tables policy s old new mid b before later false (Ok step) seen is may leads line gate lost =
+    took tables s old new step is (
+      record {
+        event = events.Faulted b before later;
+        between = at new.shared old.machine mid;
+        first = inr (record { not_lost = not_lost was now b.number s.number lost; gate = gate; stores = stores_lost was now b.number s.number true lost }, (refl, seen));
+        moves = record { may = may; answered = refl; serves = (lost_now was now b.number s.number true lost, (still_waits was now b.number s.number true lost, refl)); leads = leads };
+        tells = line;
+      },
+      tt,
+    )
+missed_step tables s old new mid b before later false (Ok step) seen is may leads line gate lost =
     let was = old.shared.stores in
     let now = new.shared.stores in
-    took tables policy s old new step is
-    (record {
-      event = events.Faulted b before later;
-      between = old;
-      first = inl refl;
-      moves = record { may = may; answered = gate; serves = (lost_before was now b.number s.number lost, (lost.waits, lost_again was now b.number s.number lost)); leads = leads };
-      tells = line ∙ ap (λ (j : Journal). added j (told_of tables s (events.Faulted b before later))) seen;
-    })
-missed_step tables policy s old new mid b before later is_new (Err fault) seen is may leads line gate lost = tt
+    took tables s old new step is (
+      record {
+        event = events.Faulted b before later;
+        between = old;
+        first = inl refl;
+        moves = record { may = may; answered = gate; serves = (lost_before was now b.number s.number lost, (lost.waits, lost_again was now b.number s.number lost)); leads = leads };
+        tells = line ∙ ap (λ (j : Journal). added j (told_of tables s (events.Faulted b before later))) seen;
+      },
+      tt,
+    )
+missed_step tables s old new mid b before later is_new (Err fault) seen is may leads line gate lost = tt
 
 -- A session is its number.
 

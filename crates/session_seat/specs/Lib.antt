@@ -6,3 +6,4 @@ pub mod Schedule
 pub mod Steps
 pub mod Dues
 pub mod Stops
+pub mod Speech

@@ -2,6 +2,7 @@
 ghost use Rattle.std.specs.Prelude.{◌≡◌, ◌≤◌, ◌+◌, ◌++◌, ◌∷◌, [], IfOk, IfErr, OnOk, OnErr};
 ghost use Rattle.journal.specs.Events.{spelled_event};
 ghost use Rattle.session_seat.specs.Told.{added};
+ghost use Rattle.session_seat.specs.Speech.{word_line};
 ghost use Rattle.session_seat.specs.declared.fault.StepFault.TheVariants.{Stopped};
 
 use crate::fault::StepFault;
@@ -31,6 +32,7 @@ impl Book {
     pub fn new(alloc: Global, journal: Journal) -> Book
         ensures events { result.events ≡ 0 }
         ensures journal { result.journal ≡ journal }
+        ensures lines { result.lines ≡ [] }
     {
         Book {
             lines: List::new(alloc),
@@ -46,6 +48,7 @@ impl Book {
         ensures counted { OnOk result (self.new.events ≡ self.old.events + 1) }
         ensures events { self.old.events ≤ self.new.events }
         ensures as_before { OnErr result (self.new.journal ≡ self.old.journal) }
+        ensures lines { self.new.lines ≡ self.old.lines }
         ensures full { IfErr result (λ e. e ≡ Stopped
             → 18446744073709551615 ≤ self.old.events) }
     {
@@ -70,6 +73,7 @@ impl Book {
         ensures counted { OnOk result (self.new.events ≡ self.old.events + 1) }
         ensures events { self.old.events ≤ self.new.events }
         ensures as_before { OnErr result (self.new.journal ≡ self.old.journal) }
+        ensures lines { self.new.lines ≡ self.old.lines }
         ensures full { IfErr result (λ e. e ≡ Stopped
             → 18446744073709551615 ≤ self.old.events) }
     {
@@ -88,6 +92,7 @@ impl Book {
 
     /// Puts bytes into the transcript.
     pub fn say(&mut self, bytes: &[u8]) -> Result<(), NoMemory>
+        ensures lines { OnOk result (self.new.lines ≡ self.old.lines ++ bytes.now) }
         ensures events { self.new.events ≡ self.old.events }
         ensures journal { self.new.journal ≡ self.old.journal }
     {
@@ -96,6 +101,8 @@ impl Book {
 
     /// Puts the line of a number and a word.
     pub fn say_of(&mut self, alloc: Global, s: SessionId, word: &str) -> Result<(), NoMemory>
+        ensures lines { OnOk result (self.new.lines
+            ≡ self.old.lines ++ word_line s.number word.now) }
         ensures events { self.new.events ≡ self.old.events }
         ensures journal { self.new.journal ≡ self.old.journal }
     {

@@ -17,13 +17,13 @@ mod talk;
 mod world;
 
 pub use book::{Book, Journal};
-pub use calls::may_call;
+pub use calls::{mark_of, may_call};
 pub use fault::StepFault;
 pub use policy::policy_of;
 pub use posting::Looked;
 pub use replies::put_no_place;
 pub use seat::{Seat, Turn};
 pub use setting::Setting;
-pub use step::{Step, mark_of, take_step, tell};
+pub use step::{Step, take_step, tell};
 pub use talk::{note_loss, put_detached};
 pub use world::World;

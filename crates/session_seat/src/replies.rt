@@ -1,6 +1,10 @@
 //! The lines of what a session's client is told.
-ghost use Rattle.std.specs.Prelude.{◌≡◌, ◌≤◌, length, IfOk, IfErr};
+ghost use Rattle.std.specs.Prelude.{◌≡◌, ◌<◌, ◌≤◌, ◌++◌, List as Sequence, ℕ, length, IfOk, IfErr, OnOk};
+ghost use Rattle.pg_messages.specs.declared.server.ServerMessage.{ServerMessage as Message};
+ghost use Rattle.pg_messages.specs.Frame.{BeginsWith};
+ghost use Rattle.pg_messages.specs.Server.{IsServerForm};
 ghost use Rattle.session_wire.specs.Shown.{shown};
+ghost use Rattle.session_seat.specs.Speech.{IsShown, IsWritten, closed_line, message_line, no_place};
 ghost use Rattle.session_seat.specs.Stops.{IsGarbled, IsNoMessage};
 ghost use Rattle.session_seat.specs.declared.fault.StepFault.TheVariants.{Stopped};
 
@@ -19,6 +23,8 @@ pub(crate) fn put_output(
     wire: &mut Wire,
     book: &mut Book,
 ) -> Result<(), StepFault>
+    ensures written { OnOk result (IsWritten s.number (shown wire.old) (shown wire.new)
+        book.old.lines book.new.lines) }
     ensures events { book.new.events ≡ book.old.events }
     ensures journal { book.new.journal ≡ book.old.journal }
     ensures stopped { IfErr result (λ e. e ≡ Stopped → IsGarbled (shown wire.old).output) }
@@ -31,6 +37,8 @@ pub(crate) fn put_output(
 
 /// Puts the lines of whole messages.
 fn put_replies(alloc: Global, s: SessionId, bytes: &[u8], book: &mut Book) -> Result<(), StepFault>
+    ensures shows { OnOk result ((text : Sequence ℕ) × IsShown s.number bytes.now text
+        × (book.new.lines ≡ book.old.lines ++ text)) }
     ensures events { book.new.events ≡ book.old.events }
     ensures journal { book.new.journal ≡ book.old.journal }
     ensures stopped { IfErr result (λ e. e ≡ Stopped → IsGarbled bytes.now) }
@@ -50,6 +58,9 @@ fn put_replies(alloc: Global, s: SessionId, bytes: &[u8], book: &mut Book) -> Re
 fn put_reply(alloc: Global, s: SessionId, bytes: &[u8], book: &mut Book) -> Result<usize, NoMemory>
     ensures events { book.new.events ≡ book.old.events }
     ensures journal { book.new.journal ≡ book.old.journal }
+    ensures shows { IfOk result (λ taken. 0 < taken → (message : Message)
+        × BeginsWith IsServerForm message taken bytes.now
+        × (book.new.lines ≡ book.old.lines ++ message_line s.number message)) }
     ensures within { IfOk result (λ taken. taken ≤ length bytes.now) }
     ensures none { IfOk result (λ taken. taken ≡ 0 → IsNoMessage bytes.now) }
 {
@@ -63,7 +74,9 @@ fn put_reply(alloc: Global, s: SessionId, bytes: &[u8], book: &mut Book) -> Resu
     }
 }
 
-fn part(alloc: Global, tag: u8, text: &[u8]) -> Result<Part, NoMemory> {
+fn part(alloc: Global, tag: u8, text: &[u8]) -> Result<Part, NoMemory>
+    ensures { IfOk result (λ part. part ≡ record { tag = tag; text = text.now }) }
+{
     Ok(Part {
         tag,
         text: List::from_slice(alloc, text)?,
@@ -71,7 +84,9 @@ fn part(alloc: Global, tag: u8, text: &[u8]) -> Result<Part, NoMemory> {
 }
 
 /// The error by which a client that finds no place is refused.
-fn no_place(alloc: Global) -> Result<ServerMessage, NoMemory> {
+fn no_place(alloc: Global) -> Result<ServerMessage, NoMemory>
+    ensures { IfOk result (λ message. message ≡ no_place) }
+{
     let mut parts = List::new(alloc);
     parts.push(part(alloc, b'S', b"FATAL")?)?;
     parts.push(part(alloc, b'V', b"FATAL")?)?;
@@ -82,6 +97,8 @@ fn no_place(alloc: Global) -> Result<ServerMessage, NoMemory> {
 
 /// Puts the lines by which a client that finds no place is refused.
 pub fn put_no_place(alloc: Global, s: SessionId, book: &mut Book) -> Result<(), NoMemory>
+    ensures lines { OnOk result (book.new.lines ≡ book.old.lines
+        ++ (message_line s.number no_place ++ closed_line s.number)) }
     ensures events { book.new.events ≡ book.old.events }
     ensures journal { book.new.journal ≡ book.old.journal }
 {

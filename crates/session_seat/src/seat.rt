@@ -2,6 +2,7 @@
 ghost use Rattle.std.specs.Prelude.{◌≡◌, IfOk, false};
 ghost use Rattle.session_machine.specs.Rules.{new_machine};
 ghost use Rattle.session_engine.specs.Cores.{machine_in};
+ghost use Rattle.session_wire.specs.Shown.{IsFresh, shown};
 ghost use Rattle.session_seat.specs.declared.seat.Turn.TheVariants as turns;
 
 use pool_base::{NoMemory, SessionId};
@@ -36,6 +37,7 @@ impl Seat {
         ensures core { IfOk result (λ seat. machine_in seat.core ≡ new_machine s policy) }
         ensures turn { IfOk result (λ seat. seat.turn ≡ turns.Free) }
         ensures begins { IfOk result (λ seat. seat.over ≡ false) }
+        ensures fresh { IfOk result (λ seat. IsFresh s.number (shown seat.wire)) }
     {
         let core = Core::new(alloc, s, policy)?;
         let wire = Wire::new(alloc, s)?;

@@ -13,12 +13,12 @@
 //! ```
 //!
 //! An event is noted before it takes place, but for a post, which is noted behind it.
-ghost use Rattle.std.specs.Prelude.{◌≡◌, ◌≢◌, ◌<◌, ◌≤◌, ◌⊎◌, length, Some, None, IfOk, IfErr, OnOk, List};
+ghost use Rattle.std.specs.Prelude.{◌≡◌, ◌≢◌, ◌<◌, ◌≤◌, ◌++◌, ◌⊎◌, length, false, Some, None, IfOk, IfErr, OnOk, List};
 ghost use Rattle.schema.specs.Grammar.{IsWithin};
 ghost use Rattle.schema.specs.declared.catalogue.TableDef.{TableDef};
 ghost use Rattle.pgproto.specs.declared.line.Mark.TheVariants as marks;
 ghost use Rattle.session_machine.specs.Allowed.{MayHappen, TakesOrder};
-ghost use Rattle.session_machine.specs.Rules.{new_machine, next_action};
+ghost use Rattle.session_machine.specs.Rules.{new_machine, next_action, status_byte};
 ghost use Rattle.session_machine.specs.declared.action.Action.TheVariants as actions;
 ghost use Rattle.session_machine.specs.declared.action.SessionEvent.TheVariants as events;
 ghost use Rattle.snapshot_gate.specs.Function as gates;
@@ -32,12 +32,14 @@ ghost use Rattle.session_seat.specs.Told.{added, told_of};
 ghost use Rattle.session_seat.specs.Shared.{IsReady, Serves, Shared, shared_of, stores_of};
 ghost use Rattle.session_seat.specs.Schedule.{led};
 ghost use Rattle.session_seat.specs.Steps.{IsDid, IsOutside, IsStep, at};
-ghost use Rattle.session_seat.specs.Dues.{IsDue, Rests, called, entry_mark, mark_of, ordered_step, recovery_in};
+ghost use Rattle.session_seat.specs.Dues.{IsDue, Rests, called, ordered_step, recovery_in};
 ghost use Rattle.session_seat.specs.Stops.{IsFull, IsGarbled, MayPostAt, Stops, StopsAtPost, StopsAtReply, StopsAtRest, StopsOrdered, StopsTelling, world_view};
+ghost use Rattle.session_seat.specs.Speech.{Hears, IsOrdered, IsQuietStep, IsWritten, Speaks, closed_line, speech};
 ghost use Rattle.session_seat.specs.declared.fault.StepFault.TheVariants.{Stopped};
 ghost use Rattle.session_seat.specs.declared.step.Step.TheVariants as steps;
 
 use crate::book::Book;
+use crate::calls::mark_of;
 use crate::fault::StepFault;
 use crate::policy::policy_of;
 use crate::ready::is_ready;
@@ -88,6 +90,16 @@ pub fn take_step<B: Backend>(
         world.old.shelf.items) (machine_in seat.old.core) book.old.journal) step
         (at (shared_of B.meaning world.new.gate.state world.new.tables world.new.count
         world.new.shelf.items) (machine_in seat.new.core) book.new.journal)) }
+    // And its client is told what that says: the wire is led to the order that takes place, or to
+    // its need of input or its end; a reply goes to the wire; what that puts out has its lines.
+    ensures speaks { IfOk result (λ step. Speaks setting.entry.tables.now setting.entry.moment
+        setting.entry.config.now.nodes (policy_in setting.entry.config.now) seat.old.s
+        (at (shared_of B.meaning world.old.gate.state world.old.tables world.old.count
+        world.old.shelf.items) (machine_in seat.old.core) book.old.journal)
+        (speech seat.old book.old.lines) step
+        (at (shared_of B.meaning world.new.gate.state world.new.tables world.new.count
+        world.new.shelf.items) (machine_in seat.new.core) book.new.journal)
+        (speech seat.new book.new.lines)) }
     // Which step it is, by what is asked for: it waits, has nothing to do or is closed there alone.
     ensures due { IfOk result (λ step. IsDue B.meaning B.is_prompt setting.entry.tables.now
         setting.entry.moment seat.old world.old.gate.state world.old.shelf.items step) }
@@ -128,6 +140,7 @@ fn close(setting: Setting, seat: &Seat, book: &mut Book) -> Result<Step, StepFau
     ensures events { book.new.events ≡ book.old.events }
     ensures none { IfOk result (λ step. IsDid step → ⊥) }
     ensures closed { IfOk result (λ step. step ≡ steps.Closed) }
+    ensures lines { OnOk result (book.new.lines ≡ book.old.lines ++ closed_line seat.now.s.number) }
     ensures stopped { IfErr result (λ e. e ≡ Stopped → machine_in seat.now.core
         ≢ new_machine seat.now.s (policy_in setting.entry.config.now)) }
 {
@@ -150,6 +163,12 @@ fn take_order(setting: Setting, seat: &mut Seat, book: &mut Book) -> Result<Step
     ensures events { book.old.events ≤ book.new.events }
     ensures s { seat.new.s ≡ seat.old.s }
     ensures turn { seat.new.turn ≡ seat.old.turn }
+    ensures speaks { seat.old.over ≡ false → (shared : Shared) → IfOk result (λ step. Speaks
+        setting.entry.tables.now setting.entry.moment setting.entry.config.now.nodes
+        (policy_in setting.entry.config.now) seat.old.s
+        (at shared (machine_in seat.old.core) book.old.journal) (speech seat.old book.old.lines)
+        step (at shared (machine_in seat.new.core) book.new.journal)
+        (speech seat.new book.new.lines)) }
     ensures due { IfOk result (λ step. Rests setting.entry.tables.now setting.entry.moment
         (shown seat.old.wire) step) }
     ensures stopped { IfErr result (λ e. e ≡ Stopped → IsFull book.old.events
@@ -181,6 +200,12 @@ fn obey(setting: Setting, seat: &mut Seat, order: Order, book: &mut Book) -> Res
     ensures events { book.old.events ≤ book.new.events }
     ensures s { seat.new.s ≡ seat.old.s }
     ensures turn { seat.new.turn ≡ seat.old.turn }
+    ensures ordered { (shared : Shared) → IfOk result (λ step. IsOrdered setting.entry.tables.now
+        seat.old.s order (at shared (machine_in seat.old.core) book.old.journal) step
+        (at shared (machine_in seat.new.core) book.new.journal)) }
+    ensures written { OnOk result (IsWritten seat.old.s.number (shown seat.old.wire)
+        (shown seat.new.wire) book.old.lines book.new.lines) }
+    ensures over { seat.new.over ≡ seat.old.over }
     ensures due { IfOk result (λ step. step
         ≡ ordered_step order.moment (recovery_in order.body)) }
     ensures stopped { IfErr result (λ e. e ≡ Stopped → IsFull book.old.events
@@ -219,6 +244,9 @@ fn recovery_in(body: &OrderBody) -> Option<u8>
 /// Hands out the order of a recovery, behind what the wire has put out before.
 fn hand_out(setting: Setting, seat: &mut Seat, book: &mut Book) -> Result<(), StepFault>
     ensures outside { OnOk result (IsOutside (machine_in seat.old.core)) }
+    ensures written { OnOk result (IsWritten seat.old.s.number (shown seat.old.wire)
+        (shown seat.new.wire) book.old.lines book.new.lines) }
+    ensures over { seat.new.over ≡ seat.old.over }
     ensures core { seat.new.core ≡ seat.old.core }
     ensures s { seat.new.s ≡ seat.old.s }
     ensures turn { seat.new.turn ≡ seat.old.turn }
@@ -249,6 +277,12 @@ fn accept(
     ensures events { book.old.events ≤ book.new.events }
     ensures s { seat.new.s ≡ seat.old.s }
     ensures turn { seat.new.turn ≡ seat.old.turn }
+    ensures ordered { (shared : Shared) → IfOk result (λ step. IsOrdered setting.entry.tables.now
+        seat.old.s order (at shared (machine_in seat.old.core) book.old.journal) step
+        (at shared (machine_in seat.new.core) book.new.journal)) }
+    ensures written { OnOk result (IsWritten seat.old.s.number (shown seat.old.wire)
+        (shown seat.new.wire) book.old.lines book.new.lines) }
+    ensures over { seat.new.over ≡ seat.old.over }
     ensures due { IfOk result (λ step. step ≡ steps.Did (Some marks.Order)) }
     ensures stopped { IfErr result (λ e. e ≡ Stopped → IsFull book.old.events
         ⊎ (IsGarbled (shown seat.old.wire).output
@@ -270,6 +304,9 @@ fn note_order(
     order: &Order,
     book: &mut Book,
 ) -> Result<(), StepFault>
+    ensures written { OnOk result (IsWritten seat.old.s.number (shown seat.old.wire)
+        (shown seat.new.wire) book.old.lines book.new.lines) }
+    ensures over { seat.new.over ≡ seat.old.over }
     ensures may { OnOk result (MayHappen (machine_in seat.new.core) (events.Ordered order.now)) }
     ensures ready { OnOk result (IsReady setting.entry.tables.now order.now.body) }
     ensures line { OnOk result (book.new.journal ≡ added book.old.journal (told_of
@@ -317,6 +354,14 @@ fn call_gate<B: Backend>(
     ensures tables { world.new.tables ≡ world.old.tables }
     ensures count { world.new.count ≡ world.old.count }
     ensures boxes { length world.new.shelf.items ≡ length world.old.shelf.items }
+    ensures quiet { IfOk result (λ step. IsQuietStep setting.entry.tables.now seat.old.s
+        (at (shared_of B.meaning world.old.gate.state world.old.tables world.old.count
+        world.old.shelf.items) (machine_in seat.old.core) book.old.journal) step
+        (at (shared_of B.meaning world.new.gate.state world.new.tables world.new.count
+        world.new.shelf.items) (machine_in seat.new.core) book.new.journal)) }
+    ensures wire { seat.new.wire ≡ seat.old.wire }
+    ensures over { seat.new.over ≡ seat.old.over }
+    ensures lines { book.new.lines ≡ book.old.lines }
     ensures due { IfOk result (λ step. step
         ≡ called call (gates.step world.old.gate.state call).1) }
     ensures stopped { IfErr result (λ e. e ≡ Stopped → IsFull book.old.events
@@ -330,35 +375,6 @@ fn call_gate<B: Backend>(
     book.note(setting, Event::Gate { s, call, answer })?;
     seat.core.gate_answer(answer);
     Ok(Step::Did(mark_of(call, answer)))
-}
-
-/// At which mark a call of the gate stops a session: the entries that are granted have one.
-pub fn mark_of(call: GateCall, answer: GateAnswer) -> Option<Mark>
-    ensures { result ≡ mark_of call answer }
-{
-    match answer {
-        GateAnswer::Granted(_) => entry_mark(call),
-        GateAnswer::Seen(_) | GateAnswer::Held(_) | GateAnswer::Spent => None,
-    }
-}
-
-fn entry_mark(call: GateCall) -> Option<Mark>
-    ensures { result ≡ entry_mark call }
-{
-    match call {
-        GateCall::EnterSnapshot => Some(Mark::Snapshot),
-        GateCall::EnterCommit { .. } => Some(Mark::Commit),
-        GateCall::Look
-        | GateCall::LeaveSnapshot
-        | GateCall::LeaveCommit
-        | GateCall::Finish
-        | GateCall::Detach { .. }
-        | GateCall::StartCopy
-        | GateCall::AskQuiet
-        | GateCall::EnterQuiet
-        | GateCall::Attach { .. }
-        | GateCall::LeaveQuiet => None,
-    }
 }
 
 /// Posts the request that is due.
@@ -384,6 +400,14 @@ fn post<B: Backend>(
     ensures tables { world.new.tables ≡ world.old.tables }
     ensures count { world.new.count ≡ world.old.count }
     ensures boxes { length world.new.shelf.items ≡ length world.old.shelf.items }
+    ensures quiet { IfOk result (λ step. IsQuietStep setting.entry.tables.now seat.old.s
+        (at (shared_of B.meaning world.old.gate.state world.old.tables world.old.count
+        world.old.shelf.items) (machine_in seat.old.core) book.old.journal) step
+        (at (shared_of B.meaning world.new.gate.state world.new.tables world.new.count
+        world.new.shelf.items) (machine_in seat.new.core) book.new.journal)) }
+    ensures wire { seat.new.wire ≡ seat.old.wire }
+    ensures over { seat.new.over ≡ seat.old.over }
+    ensures lines { book.new.lines ≡ book.old.lines }
     ensures due { IfOk result (λ step. step ≡ steps.Did (Some (marks.Post b))) }
     ensures stopped { IfErr result (λ e. e ≡ Stopped → IsFull book.old.events
         ⊎ StopsAtPost world.old.tables world.old.count world.old.rolls (machine_in seat.old.core)
@@ -431,6 +455,9 @@ fn send<B: Backend>(
     ensures tables { world.new.tables ≡ world.old.tables }
     ensures count { world.new.count ≡ world.old.count }
     ensures boxes { length world.new.shelf.items ≡ length world.old.shelf.items }
+    ensures wire { seat.new.wire ≡ seat.old.wire }
+    ensures over { seat.new.over ≡ seat.old.over }
+    ensures lines { book.new.lines ≡ book.old.lines }
     ensures due { IfOk result (λ step. step ≡ steps.Did (Some (marks.Post b))) }
     ensures stopped { IfErr result (λ e. e ≡ Stopped → IsFull book.old.events
         ⊎ (MayPostAt world.old.tables world.old.count world.old.rolls seat.old.s.number b.number
@@ -453,6 +480,12 @@ fn reply(setting: Setting, seat: &mut Seat, book: &mut Book) -> Result<Step, Ste
     ensures events { book.old.events ≤ book.new.events }
     ensures s { seat.new.s ≡ seat.old.s }
     ensures turn { seat.new.turn ≡ seat.old.turn }
+    ensures speaks { (shared : Shared) → IfOk result (λ step. Speaks
+        setting.entry.tables.now setting.entry.moment setting.entry.config.now.nodes
+        (policy_in setting.entry.config.now) seat.old.s
+        (at shared (machine_in seat.old.core) book.old.journal) (speech seat.old book.old.lines)
+        step (at shared (machine_in seat.new.core) book.new.journal)
+        (speech seat.new book.new.lines)) }
     ensures due { IfOk result (λ step. step ≡ steps.Did (Some marks.Reply)) }
     ensures stopped { IfErr result (λ e. e ≡ Stopped → IsFull book.old.events
         ⊎ StopsAtReply setting.entry.config.now.nodes (machine_in seat.old.core)
@@ -471,6 +504,10 @@ pub fn tell(
     status: Status,
     book: &mut Book,
 ) -> Result<(), StepFault>
+    // The wire hears it, and what that puts out has its lines.
+    ensures hears { OnOk result (Hears setting.entry.config.now.nodes seat.old.s.number
+        (speech seat.old book.old.lines) outcome (status_byte status)
+        (speech seat.new book.new.lines)) }
     ensures line { OnOk result (book.new.journal ≡ added book.old.journal (told_of
         setting.entry.tables.now seat.old.s (events.Replied outcome status))) }
     ensures did { OnOk result (book.old.events < book.new.events) }
@@ -499,6 +536,7 @@ fn note_reply(
     book: &mut Book,
 ) -> Result<(), StepFault>
     ensures may { OnOk result (MayAnswer outcome.now) }
+    ensures lines { book.new.lines ≡ book.old.lines }
     ensures line { OnOk result (book.new.journal ≡ added book.old.journal (told_of
         setting.entry.tables.now seat.now.s (events.Replied outcome.now status))) }
     ensures did { OnOk result (book.old.events < book.new.events) }
@@ -530,6 +568,12 @@ fn end(setting: Setting, seat: &mut Seat, book: &mut Book) -> Result<Step, StepF
     ensures events { book.old.events ≤ book.new.events }
     ensures s { seat.new.s ≡ seat.old.s }
     ensures turn { seat.new.turn ≡ seat.old.turn }
+    ensures speaks { (shared : Shared) → IfOk result (λ step. Speaks
+        setting.entry.tables.now setting.entry.moment setting.entry.config.now.nodes
+        (policy_in setting.entry.config.now) seat.old.s
+        (at shared (machine_in seat.old.core) book.old.journal) (speech seat.old book.old.lines)
+        step (at shared (machine_in seat.new.core) book.new.journal)
+        (speech seat.new book.new.lines)) }
     ensures due { IfOk result (λ step. step ≡ steps.Did None) }
     ensures stopped { IfErr result (λ e. e ≡ Stopped → IsFull book.old.events) }
 {

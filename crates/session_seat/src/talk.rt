@@ -1,5 +1,5 @@
 //! What a session hears of a backend, and its detachment.
-ghost use Rattle.std.specs.Prelude.{◌≡◌, ◌+◌, ◌<◌, ◌≤◌, ◌⊎◌, length, Some, None, IfOk, IfErr, OnOk, if◌then◌else◌};
+ghost use Rattle.std.specs.Prelude.{◌≡◌, ◌+◌, ◌++◌, ◌<◌, ◌≤◌, ◌⊎◌, length, string_bytes, Some, None, IfOk, IfErr, OnOk, if◌then◌else◌};
 ghost use Rattle.pgproto.specs.declared.line.Mark.TheVariants as marks;
 ghost use Rattle.session_machine.specs.Allowed.{MayHappen};
 ghost use Rattle.session_machine.specs.Rules.{next_action};
@@ -15,6 +15,7 @@ ghost use Rattle.session_seat.specs.Schedule.{led};
 ghost use Rattle.session_seat.specs.Steps.{IsDid, IsStep, at};
 ghost use Rattle.session_seat.specs.Dues.{WaitsFor};
 ghost use Rattle.session_seat.specs.Stops.{IsFull, IsUnfit, MayLookAt};
+ghost use Rattle.session_seat.specs.Speech.{IsQuietStep, Speaks, detached_line, speech, told_detached};
 ghost use Rattle.session_seat.specs.declared.fault.StepFault.TheVariants.{Stopped};
 ghost use Rattle.session_seat.specs.declared.step.Step.TheVariants as steps;
 
@@ -54,6 +55,14 @@ pub(crate) fn hear<B: Backend>(
     ensures tables { world.new.tables ≡ world.old.tables }
     ensures count { world.new.count ≡ world.old.count }
     ensures boxes { length world.new.shelf.items ≡ length world.old.shelf.items }
+    ensures quiet { IfOk result (λ step. IsQuietStep setting.entry.tables.now seat.old.s
+        (at (shared_of B.meaning world.old.gate.state world.old.tables world.old.count
+        world.old.shelf.items) (machine_in seat.old.core) book.old.journal) step
+        (at (shared_of B.meaning world.new.gate.state world.new.tables world.new.count
+        world.new.shelf.items) (machine_in seat.new.core) book.new.journal)) }
+    ensures wire { seat.new.wire ≡ seat.old.wire }
+    ensures over { seat.new.over ≡ seat.old.over }
+    ensures lines { book.new.lines ≡ book.old.lines }
     ensures due { IfOk result (λ step. WaitsFor B.meaning B.is_prompt world.old.shelf.items
         seat.old.s b step) }
     ensures stopped { IfErr result (λ e. e ≡ Stopped → IsFull book.old.events
@@ -96,6 +105,14 @@ fn take(
     ensures events { book.old.events ≤ book.new.events }
     ensures s { seat.new.s ≡ seat.old.s }
     ensures turn { seat.new.turn ≡ seat.old.turn }
+    ensures quiet { (old new : Shared) → new.gate ≡ old.gate
+        → Serves setting.entry.tables.now old.stores seat.old.s.number (events.Taken b answer)
+        new.stores → IfOk result (λ step. IsQuietStep setting.entry.tables.now seat.old.s
+        (at old (machine_in seat.old.core) book.old.journal) step
+        (at new (machine_in seat.new.core) book.new.journal)) }
+    ensures wire { seat.new.wire ≡ seat.old.wire }
+    ensures over { seat.new.over ≡ seat.old.over }
+    ensures lines { book.new.lines ≡ book.old.lines }
     ensures due { IfOk result (λ step. step ≡ steps.Did (Some (marks.Answer b))) }
     ensures stopped { IfErr result (λ e. e ≡ Stopped → IsFull book.old.events
         ⊎ (MayHappen (machine_in seat.old.core) (events.Taken b answer) → ⊥)) }
@@ -117,6 +134,7 @@ fn note_answer(
     book: &mut Book,
 ) -> Result<(), StepFault>
     ensures may { OnOk result (MayHappen (machine_in seat.now.core) (events.Taken b answer.now)) }
+    ensures still { book.new.lines ≡ book.old.lines }
     ensures lines { OnOk result (book.new.journal ≡ added book.old.journal (told_of
         setting.entry.tables.now seat.now.s (events.Taken b answer.now))) }
     ensures did { OnOk result (book.old.events < book.new.events) }
@@ -143,6 +161,7 @@ pub fn note_loss(
         ≡ (if is_new then added book.old.journal (told_lost b) else book.old.journal)) }
     ensures events { book.old.events ≤ book.new.events }
     ensures one { OnOk result (book.new.events ≤ book.old.events + 1) }
+    ensures lines { book.new.lines ≡ book.old.lines }
     ensures stopped { IfErr result (λ e. e ≡ Stopped → IsFull book.old.events) }
 {
     if !is_new {
@@ -170,6 +189,9 @@ fn miss(
     ensures events { book.old.events ≤ book.new.events }
     ensures s { seat.new.s ≡ seat.old.s }
     ensures turn { seat.new.turn ≡ seat.old.turn }
+    ensures wire { seat.new.wire ≡ seat.old.wire }
+    ensures over { seat.new.over ≡ seat.old.over }
+    ensures lines { book.new.lines ≡ book.old.lines }
     ensures due { IfOk result (λ step. step ≡ steps.Did None) }
     ensures stopped { IfErr result (λ e. e ≡ Stopped → 18446744073709551615 ≤ book.old.events) }
 {
@@ -209,6 +231,15 @@ pub(crate) fn detach<B: Backend>(
     ensures tables { world.new.tables ≡ world.old.tables }
     ensures count { world.new.count ≡ world.old.count }
     ensures boxes { length world.new.shelf.items ≡ length world.old.shelf.items }
+    ensures speaks { IfOk result (λ step. Speaks
+        setting.entry.tables.now setting.entry.moment setting.entry.config.now.nodes
+        (policy_in setting.entry.config.now) seat.old.s
+        (at (shared_of B.meaning world.old.gate.state world.old.tables world.old.count
+        world.old.shelf.items) (machine_in seat.old.core) book.old.journal)
+        (speech seat.old book.old.lines) step
+        (at (shared_of B.meaning world.new.gate.state world.new.tables world.new.count
+        world.new.shelf.items) (machine_in seat.new.core) book.new.journal)
+        (speech seat.new book.new.lines)) }
     ensures due { IfOk result (λ step. step ≡ steps.Did None) }
     ensures stopped { IfErr result (λ e. e ≡ Stopped → IsFull book.old.events) }
 {
@@ -230,6 +261,8 @@ fn note_detached(
     ensures line { OnOk result ((cause : Cause) × Detaches (next_action (machine_in seat.now.core))
         cause × (book.new.journal ≡ added book.old.journal (told_of setting.entry.tables.now
         seat.now.s (events.Detached b cause answer)))) }
+    ensures told { OnOk result ((cause : Cause) × Detaches (next_action (machine_in seat.now.core))
+        cause × (book.new.lines ≡ book.old.lines ++ told_detached b.number cause answer)) }
     ensures did { OnOk result (book.old.events < book.new.events) }
     ensures events { book.old.events ≤ book.new.events }
     ensures stopped { IfErr result (λ e. e ≡ Stopped → IsFull book.old.events) }
@@ -256,15 +289,24 @@ pub fn put_detached(
     cause: &Cause,
     book: &mut Book,
 ) -> Result<(), NoMemory>
+    ensures lines { OnOk result (book.new.lines
+        ≡ book.old.lines ++ detached_line b.number cause.now) }
     ensures events { book.new.events ≡ book.old.events }
     ensures journal { book.new.journal ≡ book.old.journal }
 {
-    let number = b.number;
-    let line = match cause {
-        Cause::Fault { before, after } => {
-            format!(in alloc; "pool detach {number} fault {before} {after}\n")?
-        }
-        Cause::Differs { .. } => format!(in alloc; "pool detach {number} differs\n")?,
-    };
+    let line = detached_text(alloc, b, cause)?;
     book.say(line.as_bytes())
+}
+
+/// The line of a detachment.
+fn detached_text(alloc: Global, b: BackendId, cause: &Cause) -> Result<String, NoMemory>
+    ensures { IfOk result (λ text. string_bytes text ≡ detached_line b.number cause.now) }
+{
+    let number = b.number;
+    match cause {
+        Cause::Fault { before, after } => {
+            Ok(format!(in alloc; "pool detach {number} fault {before} {after}\n")?)
+        }
+        Cause::Differs { .. } => Ok(format!(in alloc; "pool detach {number} differs\n")?),
+    }
 }

@@ -1,3 +1,4 @@
+use Rattle.std.proofs.Common.{ℕ, List, ◌++◌, ◌∙◌, ap}
 use Rattle.session_seat.proofs.DueLemmas.{none_other, none_whole, not_whole}
 use Rattle.session_seat.proofs.replies.put_reply.Goals as goal
 
@@ -11,3 +12,10 @@ returns-in_ok-say-in-Whole-clause-none c =
 pub returns-in-More-clause-none : goal.returns-in-More-clause-none
 returns-in-More-clause-none c =
     λ zero. none_other c.in_ok-message.field-0 c.args.bytes.now (not_whole c.in_ok-message.field-0 c.in-More.is) c.in_ok-message.ensures.whole
+
+pub returns-in_ok-say-in-Whole-clause-shows : goal.returns-in_ok-say-in-Whole-clause-shows
+returns-in_ok-say-in-Whole-clause-shows c = λ some. (
+  c.in-Whole.message,
+  (c.in_ok-message.ensures.whole c.in-Whole.message c.in-Whole.length).0 c.in-Whole.is,
+  c.in_ok-say-in-Whole.ensures.lines ∙ ap (λ (z : List ℕ). c.args.book.now.lines ++ z) (c.as_bytes.ensures ∙ c.in_ok-line-in-Whole.ensures),
+)

@@ -20,3 +20,20 @@ returns-clause-noted c = λ shared. record {
   };
   tells = c.in_default.ensures.line;
 }
+
+pub returns-clause-ordered : goal.returns-clause-ordered
+returns-clause-ordered c = λ shared. (
+  record {
+    event = events.Ordered c.args.order;
+    between = at shared (machine_in c.args.seat.now.core) c.args.book.now.journal;
+    first = refl;
+    moves = record {
+      may = subst (λ (core : Core). MayHappen (machine_in core) (events.Ordered c.args.order)) c.note_order.ensures.core c.in_default.ensures.may;
+      answered = refl;
+      serves = (c.in_default.ensures.ready, refl);
+      leads = c.in_ok-order.ensures.state ∙ ap (λ (core : Core). after (machine_in core) (events.Ordered c.args.order)) c.note_order.ensures.core;
+    };
+    tells = c.in_default.ensures.line;
+  },
+  refl,
+)

@@ -24,14 +24,20 @@ returns-in-Held-clause-noted g c =
       journal = refl;
     }
 
-pub returns-clause-noted : goal.returns-clause-noted
-returns-clause-noted g c =
+pub returns-in-Held-clause-quiet : goal.returns-in-Held-clause-quiet
+returns-in-Held-clause-quiet g c = returns-in-Held-clause-noted g c
+
+pub returns-clause-quiet : goal.returns-clause-quiet
+returns-clause-quiet g c =
     let world = c.args.world.now in
     let new = c.call.new.self in
     called_place c.args.setting.tables.now c.args.seat.now.s (machine_in c.args.seat.now.core) (machine_in c.gate_answer.new.self)
     (shared_of g.B.Backend.meaning world.gate.state world.tables world.count world.shelf.items) (shared_of g.B.Backend.meaning new.gate.state new.tables new.count new.shelf.items)
     c.args.book.now.journal c.note.new.self.journal c.args.call c.in_ok-answer.answer c.requires.asked c.in_ok-answer.ensures.may c.in_ok-answer.ensures.answered c.call.ensures.stores
     (not_held c.in_ok-answer.answer c.in_default.not-Held) c.gate_answer.ensures c.in_ok-note.ensures.line
+
+pub returns-clause-noted : goal.returns-clause-noted
+returns-clause-noted g c = (returns-clause-quiet g c).0
 
 pub returns-clause-due : goal.returns-clause-due
 returns-clause-due g c =

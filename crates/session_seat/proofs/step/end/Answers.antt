@@ -1,4 +1,5 @@
-use Rattle.std.proofs.Common.{◌∙◌, refl}
+use Rattle.std.proofs.Common.{ℕ, true, List, ◌∙◌, ap, refl}
+use Rattle.session_wire.specs.Shown.{shown}
 use Rattle.session_machine.specs.declared.action.SessionEvent.TheVariants as events
 use Rattle.session_engine.specs.Cores.{machine_in}
 use Rattle.session_seat.specs.Steps.{at}
@@ -13,3 +14,15 @@ returns-clause-noted c = λ shared. record {
   moves = record { may = c.requires.due; answered = refl; serves = refl; leads = c.end.ensures ∙ ended (machine_in c.args.seat.now.core) c.requires.due };
   tells = c.in_ok-note.ensures.line;
 }
+
+pub returns-clause-speaks : goal.returns-clause-speaks
+returns-clause-speaks c = λ shared. (
+  record {
+    event = events.Ended;
+    between = at shared (machine_in c.args.seat.now.core) c.args.book.now.journal;
+    first = refl;
+    moves = record { may = c.requires.due; answered = refl; serves = refl; leads = c.end.ensures ∙ ended (machine_in c.args.seat.now.core) c.requires.due };
+    tells = c.in_ok-note.ensures.line;
+  },
+  ap (λ (lines : List ℕ). record { view = shown c.args.seat.now.wire; over = true; lines = lines }) c.note.ensures.lines,
+)

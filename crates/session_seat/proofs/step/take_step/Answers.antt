@@ -2,6 +2,12 @@ use Rattle.std.proofs.Common.{◌∙◌, sym}
 use Rattle.session_engine.specs.declared.ask.Ask.TheVariants as asks
 use Rattle.session_seat.specs.Policy.{policy_in}
 use Rattle.session_seat.specs.Stops.{world_view}
+use Rattle.session_engine.specs.Cores.{machine_in}
+use Rattle.session_wire.specs.Shown.{shown}
+use Rattle.session_seat.specs.Shared.{shared_of}
+use Rattle.session_seat.specs.Speech.{speech}
+use Rattle.session_seat.specs.Steps.{at}
+use Rattle.session_seat.proofs.SpeechLemmas.{over_told, quiet_told}
 use Rattle.session_seat.proofs.DueLemmas.{due_by, due_over, full_stop, stops_by, stops_over}
 use Rattle.session_seat.proofs.step.take_step.Goals as goal
 
@@ -90,3 +96,45 @@ returns-in-End-clause-stopped g c =
     stops_by g.B.Backend.meaning g.B.Backend.is_prompt c.args.setting.tables.now c.args.setting.moment (policy_in c.args.setting.config.now) c.args.book.now.events c.args.seat.now
     (world_view c.args.world.now.gate.state c.args.world.now.tables c.args.world.now.count c.args.world.now.shelf.items c.args.world.now.rolls c.args.setting.config.now.nodes) asks.End c.end.result c.if-seat.false
     (sym c.asks.ensures.is ∙ c.in-End.is) (full_stop c.args.book.now.events ⊥ c.end.result c.end.ensures.stopped)
+
+pub returns-then-seat-clause-speaks : goal.returns-then-seat-clause-speaks
+returns-then-seat-clause-speaks g c =
+    let world = c.args.world.now in
+    over_told c.args.setting.tables.now c.args.setting.moment c.args.setting.config.now.nodes (policy_in c.args.setting.config.now) c.args.seat.now.s (shared_of g.B.Backend.meaning world.gate.state world.tables world.count world.shelf.items) (machine_in c.args.seat.now.core)
+    c.args.book.now.journal c.close.new.book.journal (speech c.args.seat.now c.args.book.now.lines) c.close.new.book.lines c.close.result (c.close.ensures.noted (shared_of g.B.Backend.meaning world.gate.state world.tables world.count world.shelf.items)) c.close.ensures.closed c.if-seat.true c.close.ensures.lines
+
+pub returns-in-Rest-clause-speaks : goal.returns-in-Rest-clause-speaks
+returns-in-Rest-clause-speaks g c = let world = c.args.world.now in c.take_order.ensures.speaks c.if-seat.false (shared_of g.B.Backend.meaning world.gate.state world.tables world.count world.shelf.items)
+
+pub returns-in-Reply-clause-speaks : goal.returns-in-Reply-clause-speaks
+returns-in-Reply-clause-speaks g c = let world = c.args.world.now in c.reply.ensures.speaks (shared_of g.B.Backend.meaning world.gate.state world.tables world.count world.shelf.items)
+
+pub returns-in-End-clause-speaks : goal.returns-in-End-clause-speaks
+returns-in-End-clause-speaks g c = let world = c.args.world.now in c.end.ensures.speaks (shared_of g.B.Backend.meaning world.gate.state world.tables world.count world.shelf.items)
+
+pub returns-in-Gate-clause-speaks : goal.returns-in-Gate-clause-speaks
+returns-in-Gate-clause-speaks g c =
+    let world = c.args.world.now in
+    let new = c.call_gate.new.world in
+    quiet_told c.args.setting.tables.now c.args.setting.moment c.args.setting.config.now.nodes (policy_in c.args.setting.config.now) c.args.seat.now.s
+    (at (shared_of g.B.Backend.meaning world.gate.state world.tables world.count world.shelf.items) (machine_in c.args.seat.now.core) c.args.book.now.journal) (at (shared_of g.B.Backend.meaning new.gate.state new.tables new.count new.shelf.items) (machine_in c.call_gate.new.seat.core) c.call_gate.new.book.journal)
+    (speech c.args.seat.now c.args.book.now.lines) (speech c.call_gate.new.seat c.call_gate.new.book.lines) c.call_gate.result
+    (λ i. record { view = shown (c.call_gate.ensures.wire i); over = c.call_gate.ensures.over i; lines = c.call_gate.ensures.lines i }) c.call_gate.ensures.quiet
+
+pub returns-in-Post-clause-speaks : goal.returns-in-Post-clause-speaks
+returns-in-Post-clause-speaks g c =
+    let world = c.args.world.now in
+    let new = c.post.new.world in
+    quiet_told c.args.setting.tables.now c.args.setting.moment c.args.setting.config.now.nodes (policy_in c.args.setting.config.now) c.args.seat.now.s
+    (at (shared_of g.B.Backend.meaning world.gate.state world.tables world.count world.shelf.items) (machine_in c.args.seat.now.core) c.args.book.now.journal) (at (shared_of g.B.Backend.meaning new.gate.state new.tables new.count new.shelf.items) (machine_in c.post.new.seat.core) c.post.new.book.journal)
+    (speech c.args.seat.now c.args.book.now.lines) (speech c.post.new.seat c.post.new.book.lines) c.post.result
+    (λ i. record { view = shown (c.post.ensures.wire i); over = c.post.ensures.over i; lines = c.post.ensures.lines i }) c.post.ensures.quiet
+
+pub returns-in-WaitFor-clause-speaks : goal.returns-in-WaitFor-clause-speaks
+returns-in-WaitFor-clause-speaks g c =
+    let world = c.args.world.now in
+    let new = c.hear.new.world in
+    quiet_told c.args.setting.tables.now c.args.setting.moment c.args.setting.config.now.nodes (policy_in c.args.setting.config.now) c.args.seat.now.s
+    (at (shared_of g.B.Backend.meaning world.gate.state world.tables world.count world.shelf.items) (machine_in c.args.seat.now.core) c.args.book.now.journal) (at (shared_of g.B.Backend.meaning new.gate.state new.tables new.count new.shelf.items) (machine_in c.hear.new.seat.core) c.hear.new.book.journal)
+    (speech c.args.seat.now c.args.book.now.lines) (speech c.hear.new.seat c.hear.new.book.lines) c.hear.result
+    (λ i. record { view = shown (c.hear.ensures.wire i); over = c.hear.ensures.over i; lines = c.hear.ensures.lines i }) c.hear.ensures.quiet
