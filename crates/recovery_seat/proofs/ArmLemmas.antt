@@ -39,8 +39,10 @@ use Rattle.session_seat.specs.Shared.{Shared, shared_of}
 use Rattle.session_seat.specs.Steps.{IsDid, IsOutside}
 use Rattle.session_seat.proofs.ServedLemmas.{IsLostAt, not_lost, lost_before, stores_lost, lost_now, still_waits, lost_again}
 use Rattle.recovery_seat.specs.Places.{standing_at}
-use Rattle.recovery_seat.specs.Schedule.{IsOutside as IsApart}
-use Rattle.recovery_seat.specs.Steps.{at, IsAt, RecoversAt, Fits, TookPlace, GoesOn}
+use Rattle.session_seat.specs.Speech.{recovering}
+use Rattle.recovery_seat.specs.Schedule.{IsOutside as IsApart, Recovers}
+use Rattle.recovery_seat.specs.Speech.{DidAs}
+use Rattle.recovery_seat.specs.Steps.{at, IsAt, RecoversAt, Fits, TookPlace}
 use Rattle.recovery_seat.proofs.Among.{is_that, itself}
 use Rattle.recovery_seat.proofs.StepLemmas.{proceeded}
 
@@ -95,7 +97,7 @@ post_due actions.End b request asked is = absurd is
 
 pub called_place : (tables : List TableDef) (s : SessionId) (others : ℕ) (machine : Machine) (old new : Shared) (r q : Standing) (j k : Journal) (call : GateCall) (answer : GateAnswer)
     → asked_of (next_action r) ≡ asks.Gate call → gates.MayCall old.gate call → (new.gate, answer) ≡ gates.step old.gate call → new.stores ≡ old.stores → MayHappen r (gate_event (next_action r) answer)
-    → q ≡ after r (gate_event (next_action r) answer) → k ≡ added j (told_of tables s (events.Called call answer)) → TookPlace tables s others (at old machine r j) (at new machine q k)
+    → q ≡ after r (gate_event (next_action r) answer) → k ≡ added j (told_of tables s (events.Called call answer)) → (took : TookPlace tables s others (at old machine r j) (at new machine q k)) × (took.entry ≡ Recovers s (events.Called call answer))
 called_place tables s others machine old new r q j k call answer asked may is stores happens leads tells =
     let event : gate_event (next_action r) answer ≡ events.Called call answer = ap (λ (a : RecoveryAction). gate_event a answer) (called_due (next_action r) call asked) in
     proceeded tables s others (events.Called call answer) (at old machine r j) (at old machine r j) (at new machine q k) (inl refl) (subst (MayHappen r) event happens) (λ machines recoveries own stands fits. tt)
@@ -103,19 +105,20 @@ called_place tables s others machine old new r q j k call answer asked may is st
 
 pub detached_place : (tables : List TableDef) (s : SessionId) (others : ℕ) (machine : Machine) (old new : Shared) (r q : Standing) (j k : Journal) (b : BackendId) (answer : GateAnswer)
     → asked_of (next_action r) ≡ asks.Detach b → (new.gate, answer) ≡ gates.step old.gate (calls.Detach b) → new.stores ≡ old.stores → MayHappen r (gate_event (next_action r) answer)
-    → q ≡ after r (gate_event (next_action r) answer) → (cause : Cause) × Detaches (next_action r) cause × (k ≡ added j (told_of tables s (events.Detached b cause answer)))
-    → TookPlace tables s others (at old machine r j) (at new machine q k)
-detached_place tables s others machine old new r q j k b answer asked is stores happens leads (cause, detaches, tells) =
-    let event : gate_event (next_action r) answer ≡ events.Detached b cause answer = ap (λ (a : RecoveryAction). gate_event a answer) (detached_due (next_action r) b cause asked detaches) in
+    → q ≡ after r (gate_event (next_action r) answer) → (tells : (cause : Cause) × Detaches (next_action r) cause × (k ≡ added j (told_of tables s (events.Detached b cause answer))))
+    → (took : TookPlace tables s others (at old machine r j) (at new machine q k)) × (took.entry ≡ Recovers s (events.Detached b tells.0 answer))
+detached_place tables s others machine old new r q j k b answer asked is stores happens leads tells =
+    let cause = tells.0 in
+    let event : gate_event (next_action r) answer ≡ events.Detached b cause answer = ap (λ (a : RecoveryAction). gate_event a answer) (detached_due (next_action r) b cause asked tells.1) in
     proceeded tables s others (events.Detached b cause answer) (at old machine r j) (at old machine r j) (at new machine q k) (inl refl) (subst (MayHappen r) event happens)
-    (λ machines recoveries own stands fits. tt) is stores refl (leads ∙ ap (after r) event) tells
+    (λ machines recoveries own stands fits. tt) is stores refl (leads ∙ ap (after r) event) tells.2
 
 -- A post, an answer and a loss.
 
 pub posted_place : (tables : List TableDef) (s : SessionId) (others : ℕ) (machine : Machine) (old new : Shared) (r q : Standing) (j k : Journal) (b : BackendId) (request : Request)
     → asked_of (next_action r) ≡ asks.Post b → Posts (next_action r) request → new.gate ≡ old.gate → (old.stores b.number).pending s.number ≡ None
     → new.stores ≡ with_at old.stores b.number (posted (old.stores b.number) s.number request) → q ≡ after r (events.Posted b request) → k ≡ added j (told_of tables s (events.Posted b request))
-    → TookPlace tables s others (at old machine r j) (at new machine q k)
+    → (took : TookPlace tables s others (at old machine r j) (at new machine q k)) × (took.entry ≡ Recovers s (events.Posted b request))
 posted_place tables s others machine old new r q j k b request asked posts gate idle stores leads tells =
     proceeded tables s others (events.Posted b request) (at old machine r j) (at old machine r j) (at new machine q k) (inl refl) (post_due (next_action r) b request asked posts)
     (λ machines recoveries own stands fits. tt) gate (idle, stores) refl leads tells
@@ -124,7 +127,7 @@ posted_place tables s others machine old new r q j k b request asked posts gate 
 pub missed_place : {E : Type 0} (tables : List TableDef) (s : SessionId) (others : ℕ) (machine : Machine) (old new : Shared) (r q : Standing) (j mid k : Journal) (b : BackendId) (before later : ℕ) (is_new : Bool)
     (result : Result Step E) → mid ≡ (if is_new then added j (told_lost b) else j) → IfOk result IsDid → OnOk result (MayHappen r (events.Faulted b before later))
     → OnOk result (q ≡ after r (events.Faulted b before later)) → OnOk result (k ≡ added mid (told_of tables s (events.Faulted b before later))) → new.gate ≡ old.gate
-    → IsLostAt old.stores b.number s.number is_new new.stores → IfOk result (λ step. GoesOn tables s others (at old machine r j) step (at new machine q k))
+    → IsLostAt old.stores b.number s.number is_new new.stores → IfOk result (λ step. DidAs tables s others (events.Faulted b before later) (at old machine r j) step (at new machine q k))
 missed_place tables s others machine old new r q j mid k b before later true (Ok (steps.Did mark)) seen is may leads line gate lost =
     let was = old.stores in
     let now = new.stores in
@@ -176,7 +179,7 @@ no_recovery_at others s o b r machines recoveries stands fits none due false is 
 
 pub swapped_place : (tables : List TableDef) (s : SessionId) (others : ℕ) (machine : Machine) (old new : Shared) (r q : Standing) (j k : Journal) (b : BackendId) → asked_of (next_action r) ≡ asks.Swap b
     → new.gate ≡ old.gate → has old.gate.attached.bits b.number ≡ false → has others b.number ≡ false → ¬ (IsAt b (session_action machine)) → new.stores ≡ with_at old.stores b.number (prepared tables)
-    → q ≡ after r (events.Swapped b) → k ≡ added j (told_of tables s (events.Swapped b)) → TookPlace tables s others (at old machine r j) (at new machine q k)
+    → q ≡ after r (events.Swapped b) → k ≡ added j (told_of tables s (events.Swapped b)) → (took : TookPlace tables s others (at old machine r j) (at new machine q k)) × (took.entry ≡ Recovers s (events.Swapped b))
 swapped_place tables s others machine old new r q j k b asked gate detached none itself stores leads tells =
     let due : next_action r ≡ actions.Swap b = swapped_due (next_action r) b asked in
     proceeded tables s others (events.Swapped b) (at old machine r j) (at old machine r j) (at new machine q k) (inl refl) due
@@ -199,7 +202,7 @@ apart m n same (rests, (idle, out)) = subst IsApart (sym same) (record { rests =
 
 pub ordered_place : (tables : List TableDef) (s : SessionId) (others : ℕ) (machine : Machine) (old new : Shared) (r q : Standing) (j k : Journal) (layout made : Layout) (moment : ℤ) (number : ℕ)
     → r ≡ new_standing s layout → made ≡ layout → IsOutside machine → new ≡ old → q ≡ after (new_standing s made) (events.Ordered (record { moment = moment; body = orders.Recover number }))
-    → k ≡ added j (told_of tables s (events.Ordered (record { moment = moment; body = orders.Recover number }))) → TookPlace tables s others (at old machine r j) (at new machine q k)
+    → k ≡ added j (told_of tables s (events.Ordered (record { moment = moment; body = orders.Recover number }))) → (took : TookPlace tables s others (at old machine r j) (at new machine q k)) × (took.entry ≡ Recovers s (events.Ordered (recovering moment number)))
 ordered_place tables s others machine old new r q j k layout made moment number rests same outside kept leads tells =
     let event = events.Ordered (record { moment = moment; body = orders.Recover number }) in
     proceeded tables s others event (at old machine r j) (at old machine r j) (at new machine q k) (inl refl) (subst (λ (z : Standing). MayHappen z event) (sym rests) refl)
@@ -207,7 +210,7 @@ ordered_place tables s others machine old new r q j k layout made moment number 
     (leads ∙ (ap (λ (l : Layout). after (new_standing s l) event) same ∙ ap (λ (z : Standing). after z event) (sym rests))) tells
 
 pub replied_place : (tables : List TableDef) (s : SessionId) (others : ℕ) (machine next : Machine) (old new : Shared) (r q : Standing) (j k : Journal) (outcome : Outcome) (status : Status) → MayHappen r (events.Replied outcome status)
-    → next ≡ machine → new ≡ old → q ≡ after r (events.Replied outcome status) → k ≡ added j (told_of tables s (events.Replied outcome status)) → TookPlace tables s others (at old machine r j) (at new next q k)
+    → next ≡ machine → new ≡ old → q ≡ after r (events.Replied outcome status) → k ≡ added j (told_of tables s (events.Replied outcome status)) → (took : TookPlace tables s others (at old machine r j) (at new next q k)) × (took.entry ≡ Recovers s (events.Replied outcome status))
 replied_place tables s others machine next old new r q j k outcome status may same kept leads tells =
     proceeded tables s others (events.Replied outcome status) (at old machine r j) (at old machine r j) (at new next q k) (inl refl) may (λ machines recoveries own stands fits. tt)
     (ap (λ (z : Shared). z.gate) kept) (ap (λ (z : Shared). z.stores) kept) same leads tells

@@ -4,3 +4,4 @@ mod ArmLemmas
 mod LayoutLemmas
 pub mod Sessions
 mod DueLemmas
+mod SpeechLemmas

@@ -45,31 +45,34 @@ own_first s (events.Swapped b) rest old mid same = inl (ap (beside rest) same)
 own_first s (events.Replied outcome status) rest old mid same = inl (ap (beside rest) same)
 own_first s events.Ended rest old mid same = inl (ap (beside rest) same)
 
-own_place : (tables : List TableDef) (s : SessionId) (others : ℕ) (rest : Standing) (old new : seats.Stand) → rest.due ≡ Resting → seats.TookPlace tables s old new
-    → TookPlace tables s others (beside rest old) (beside rest new)
-own_place tables s others rest old new resting is = record {
-  entry = Of s is.event;
-  between = beside rest is.between;
-  first = own_first s is.event rest old is.between is.first;
-  comes = λ machines recoveries own stands fits.
-      let here : with_machine machines s new.machine s ≡ new.machine = machine_here machines s new.machine in
-      record {
-        rests = ap (λ (r : Standing). r.due) stands ∙ resting;
-        moves = subst (λ (m : Machine). Moves tables s is.between.shared m is.event new.shared (with_machine machines s new.machine s)) (sym own)
-            (subst (λ (m : Machine). Moves tables s is.between.shared is.between.machine is.event new.shared m) (sym here) is.moves);
-        machines = ap (with_machine machines s) (sym here);
-        recoveries = standing_self recoveries s rest stands;
-      };
-  tells = is.tells;
-}
+pub own_place : (tables : List TableDef) (s : SessionId) (others : ℕ) (rest : Standing) (old new : seats.Stand) → rest.due ≡ Resting → (is : seats.TookPlace tables s old new)
+    → (took : TookPlace tables s others (beside rest old) (beside rest new)) × (took.entry ≡ Of s is.event)
+own_place tables s others rest old new resting is = (
+  record {
+    entry = Of s is.event;
+    between = beside rest is.between;
+    first = own_first s is.event rest old is.between is.first;
+    comes = λ machines recoveries own stands fits.
+        let here : with_machine machines s new.machine s ≡ new.machine = machine_here machines s new.machine in
+        record {
+          rests = ap (λ (r : Standing). r.due) stands ∙ resting;
+          moves = subst (λ (m : Machine). Moves tables s is.between.shared m is.event new.shared (with_machine machines s new.machine s)) (sym own)
+              (subst (λ (m : Machine). Moves tables s is.between.shared is.between.machine is.event new.shared m) (sym here) is.moves);
+          machines = ap (with_machine machines s) (sym here);
+          recoveries = standing_self recoveries s rest stands;
+        };
+    tells = is.tells;
+  },
+  refl,
+)
 
-own_stays : (rest : Standing) (old new : seats.Stand) → seats.Stays old new → Stays (beside rest old) (beside rest new)
+pub own_stays : (rest : Standing) (old new : seats.Stand) → seats.Stays old new → Stays (beside rest old) (beside rest new)
 own_stays rest old new is = record { shared = is.shared; machine = is.machine; standing = refl; journal = is.journal }
 
 -- but the order of a recovery
 pub own_step : (tables : List TableDef) (policy : ReadPolicy) (layout : Layout) (s : SessionId) (others : ℕ) (old new : seats.Stand) (step : Step) → ((moment : ℤ) (number : ℕ) → step ≢ steps.Recovers moment number)
     → seats.IsStep tables policy s old step new → IsStep tables policy layout s others (beside (new_standing s layout) old) step (beside (new_standing s layout) new)
-own_step tables policy layout s others old new (steps.Did mark) other is = own_place tables s others (new_standing s layout) old new refl is
+own_step tables policy layout s others old new (steps.Did mark) other is = (own_place tables s others (new_standing s layout) old new refl is).0
 own_step tables policy layout s others old new steps.Waits other is = own_stays (new_standing s layout) old new is
 own_step tables policy layout s others old new steps.Idle other is = own_stays (new_standing s layout) old new is
 own_step tables policy layout s others old new steps.Closed other is = (own_stays (new_standing s layout) old new is.0, is.1, refl)
@@ -90,21 +93,24 @@ pub proceeded : (tables : List TableDef) (s : SessionId) (others : ℕ) (event :
     → ((machines : SessionId → Machine) (recoveries : SessionId → Standing) → machines s ≡ mid.machine → recoveries s ≡ mid.standing → Fits others s machines recoveries
     → LetsRecovery (state mid.shared machines recoveries) s event)
     → IsAnswered mid.shared.gate event new.shared.gate → ServesRecovery tables mid.shared.stores s.number event new.shared.stores → new.machine ≡ mid.machine → new.standing ≡ after mid.standing event
-    → new.journal ≡ added mid.journal (told_of tables s event) → TookPlace tables s others old new
-proceeded tables s others event old mid new first may lets answered serves same leads tells = record {
-  entry = Recovers s event;
-  between = mid;
-  first = first;
-  comes = λ machines recoveries own stands fits. record {
-    may = subst (λ (r : Standing). RecoveryMay r event) (sym stands) may;
-    lets = lets machines recoveries own stands fits;
-    answered = answered;
-    serves = serves;
-    machines = machine_self machines s new.machine (own ∙ sym same);
-    recoveries = ap (with_standing recoveries s) (leads ∙ ap (λ (r : Standing). after r event) (sym stands));
-  };
-  tells = tells;
-}
+    → new.journal ≡ added mid.journal (told_of tables s event) → (took : TookPlace tables s others old new) × (took.entry ≡ Recovers s event)
+proceeded tables s others event old mid new first may lets answered serves same leads tells = (
+  record {
+    entry = Recovers s event;
+    between = mid;
+    first = first;
+    comes = λ machines recoveries own stands fits. record {
+      may = subst (λ (r : Standing). RecoveryMay r event) (sym stands) may;
+      lets = lets machines recoveries own stands fits;
+      answered = answered;
+      serves = serves;
+      machines = machine_self machines s new.machine (own ∙ sym same);
+      recoveries = ap (with_standing recoveries s) (leads ∙ ap (λ (r : Standing). after r event) (sym stands));
+    };
+    tells = tells;
+  },
+  refl,
+)
 
 -- behind the order of a recovery, which has moved nothing, that begins
 pub stand_same : (old new : seats.Stand) → seats.Stays old new → new ≡ old

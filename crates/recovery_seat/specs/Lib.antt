@@ -3,3 +3,4 @@ pub mod Places
 pub mod Steps
 pub mod Sessions
 pub mod Dues
+pub mod Speech

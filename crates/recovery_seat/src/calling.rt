@@ -1,5 +1,5 @@
 //! The calls of the gate that a recovery makes, and its detachment of a source.
-ghost use Rattle.std.specs.Prelude.{◌≡◌, ◌<◌, ◌≤◌, ℕ, length, IfOk, OnOk, true};
+ghost use Rattle.std.specs.Prelude.{◌≡◌, ◌++◌, ◌<◌, ◌≤◌, ℕ, length, IfOk, OnOk, true};
 ghost use Rattle.pool_base.specs.declared.gate_call.GateAnswer.TheVariants.{Held};
 ghost use Rattle.session_machine.specs.declared.action.Cause.{Cause as Reason};
 ghost use Rattle.session_machine.specs.declared.action.SessionEvent.TheVariants as events;
@@ -10,6 +10,8 @@ ghost use Rattle.online_recovery.specs.Rules.{next_action};
 ghost use Rattle.session_seat.specs.Shared.{shared_of};
 ghost use Rattle.session_seat.specs.Steps.{IsDid};
 ghost use Rattle.session_seat.specs.Told.{added, told_of};
+ghost use Rattle.session_seat.specs.Speech.{Speech, told_detached};
+ghost use Rattle.recovery_seat.specs.Speech.{SpeaksOn, told_called};
 ghost use Rattle.recovery_seat.specs.Steps.{GoesOn, at};
 
 use backend_trait::Backend;
@@ -36,6 +38,14 @@ pub(crate) fn call_gate<B: Backend>(
         world.old.shelf.items) machine (standing_in recovery.old) book.old.journal) step
         (at (shared_of B.meaning world.new.gate.state world.new.tables world.new.count
         world.new.shelf.items) machine (standing_in recovery.new) book.new.journal)) }
+    ensures speaks { (machine : Machine) → (others : ℕ) → (was : Speech)
+        → was.lines ≡ book.old.lines → IfOk result (λ step. SpeaksOn setting.entry.tables.now
+        setting.entry.moment setting.entry.config.now.nodes s others
+        (at (shared_of B.meaning world.old.gate.state world.old.tables world.old.count
+        world.old.shelf.items) machine (standing_in recovery.old) book.old.journal) was step
+        (at (shared_of B.meaning world.new.gate.state world.new.tables world.new.count
+        world.new.shelf.items) machine (standing_in recovery.new) book.new.journal)
+        (record was { lines = book.new.lines })) }
     ensures did { IfOk result (λ step. IsDid step → book.old.events < book.new.events) }
     ensures events { book.old.events ≤ book.new.events }
     ensures tables { world.new.tables ≡ world.old.tables }
@@ -72,6 +82,7 @@ fn put_attached(
     answer: GateAnswer,
     book: &mut Book,
 ) -> Result<(), NoMemory>
+    ensures lines { OnOk result (book.new.lines ≡ book.old.lines ++ told_called call answer) }
     ensures events { book.new.events ≡ book.old.events }
     ensures journal { book.new.journal ≡ book.old.journal }
 {
@@ -100,6 +111,14 @@ pub(crate) fn detach<B: Backend>(
         world.old.shelf.items) machine (standing_in recovery.old) book.old.journal) step
         (at (shared_of B.meaning world.new.gate.state world.new.tables world.new.count
         world.new.shelf.items) machine (standing_in recovery.new) book.new.journal)) }
+    ensures speaks { (machine : Machine) → (others : ℕ) → (was : Speech)
+        → was.lines ≡ book.old.lines → IfOk result (λ step. SpeaksOn setting.entry.tables.now
+        setting.entry.moment setting.entry.config.now.nodes s others
+        (at (shared_of B.meaning world.old.gate.state world.old.tables world.old.count
+        world.old.shelf.items) machine (standing_in recovery.old) book.old.journal) was step
+        (at (shared_of B.meaning world.new.gate.state world.new.tables world.new.count
+        world.new.shelf.items) machine (standing_in recovery.new) book.new.journal)
+        (record was { lines = book.new.lines })) }
     ensures did { IfOk result (λ step. IsDid step → book.old.events < book.new.events) }
     ensures events { book.old.events ≤ book.new.events }
     ensures tables { world.new.tables ≡ world.old.tables }
@@ -128,6 +147,8 @@ fn note_detached(
     ensures line { OnOk result ((cause : Reason) × Detaches (next_action (standing_in recovery.now))
         cause × (book.new.journal ≡ added book.old.journal (told_of setting.entry.tables.now
         s (events.Detached b cause answer)))) }
+    ensures told { OnOk result ((cause : Reason) × Detaches (next_action (standing_in recovery.now))
+        cause × (book.new.lines ≡ book.old.lines ++ told_detached b.number cause answer)) }
     ensures did { OnOk result (book.old.events < book.new.events) }
     ensures events { book.old.events ≤ book.new.events }
 {

@@ -10,6 +10,8 @@ ghost use Rattle.online_recovery.specs.State.{new_standing};
 ghost use Rattle.session_seat.specs.Shared.{shared_of};
 ghost use Rattle.session_seat.specs.Steps.{IsDid};
 ghost use Rattle.recovery_seat.specs.Places.{IsLayout, standing_of};
+ghost use Rattle.session_seat.specs.Speech.{speech};
+ghost use Rattle.recovery_seat.specs.Speech.{SpeaksOn};
 ghost use Rattle.recovery_seat.specs.Steps.{GoesOn, at};
 
 use crate::layout::is_own;
@@ -40,6 +42,16 @@ pub(crate) fn end<B: Backend>(
         (at (shared_of B.meaning world.new.gate.state world.new.tables world.new.count
         world.new.shelf.items) (machine_in place.new.seat.core) (standing_of layout place.new)
         book.new.journal)) }
+    ensures speaks { (layout : Layout) → (others : ℕ) → IsLayout setting.entry.config.now
+        setting.entry.tables.now layout → IfOk result (λ step. SpeaksOn
+        setting.entry.tables.now setting.entry.moment setting.entry.config.now.nodes
+        place.old.seat.s others
+        (at (shared_of B.meaning world.old.gate.state world.old.tables world.old.count
+        world.old.shelf.items) (machine_in place.old.seat.core) (standing_of layout place.old)
+        book.old.journal) (speech place.old.seat book.old.lines) step
+        (at (shared_of B.meaning world.new.gate.state world.new.tables world.new.count
+        world.new.shelf.items) (machine_in place.new.seat.core) (standing_of layout place.new)
+        book.new.journal) (speech place.new.seat book.new.lines)) }
     ensures did { IfOk result (λ step. IsDid step → book.old.events < book.new.events) }
     ensures events { book.old.events ≤ book.new.events }
     ensures s { place.new.seat.s ≡ place.old.seat.s }

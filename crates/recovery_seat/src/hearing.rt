@@ -8,6 +8,8 @@ ghost use Rattle.online_recovery.specs.Rules.{after as led};
 ghost use Rattle.session_seat.specs.Shared.{Serves, Shared, shared_of};
 ghost use Rattle.session_seat.specs.Steps.{IsDid};
 ghost use Rattle.session_seat.specs.Told.{added, told_of};
+ghost use Rattle.session_seat.specs.Speech.{Speech};
+ghost use Rattle.recovery_seat.specs.Speech.{SpeaksOn};
 ghost use Rattle.recovery_seat.specs.Steps.{GoesOn, at};
 
 use backend_trait::{Answer, Backend, Polled};
@@ -32,6 +34,14 @@ pub(crate) fn hear<B: Backend>(
         world.old.shelf.items) machine (standing_in recovery.old) book.old.journal) step
         (at (shared_of B.meaning world.new.gate.state world.new.tables world.new.count
         world.new.shelf.items) machine (standing_in recovery.new) book.new.journal)) }
+    ensures speaks { (machine : Machine) → (others : ℕ) → (was : Speech)
+        → was.lines ≡ book.old.lines → IfOk result (λ step. SpeaksOn setting.entry.tables.now
+        setting.entry.moment setting.entry.config.now.nodes s others
+        (at (shared_of B.meaning world.old.gate.state world.old.tables world.old.count
+        world.old.shelf.items) machine (standing_in recovery.old) book.old.journal) was step
+        (at (shared_of B.meaning world.new.gate.state world.new.tables world.new.count
+        world.new.shelf.items) machine (standing_in recovery.new) book.new.journal)
+        (record was { lines = book.new.lines })) }
     ensures did { IfOk result (λ step. IsDid step → book.old.events < book.new.events) }
     ensures events { book.old.events ≤ book.new.events }
     ensures tables { world.new.tables ≡ world.old.tables }
@@ -70,6 +80,14 @@ fn take(
         → IfOk result (λ step. GoesOn setting.entry.tables.now s others
         (at old machine (standing_in recovery.old) book.old.journal) step
         (at new machine (standing_in recovery.new) book.new.journal)) }
+    ensures speaks { (machine : Machine) → (others : ℕ) → (old new : Shared) → (was : Speech)
+        → new.gate ≡ old.gate
+        → Serves setting.entry.tables.now old.stores s.number (events.Taken b answer) new.stores
+        → was.lines ≡ book.old.lines → IfOk result (λ step. SpeaksOn setting.entry.tables.now
+        setting.entry.moment setting.entry.config.now.nodes s others
+        (at old machine (standing_in recovery.old) book.old.journal) was step
+        (at new machine (standing_in recovery.new) book.new.journal)
+        (record was { lines = book.new.lines })) }
     ensures did { IfOk result (λ step. IsDid step → book.old.events < book.new.events) }
     ensures events { book.old.events ≤ book.new.events }
 {
@@ -93,6 +111,7 @@ fn note_answer(
     ensures may { OnOk result (MayHappen (standing_in recovery.now) (events.Taken b answer.now)) }
     ensures lines { OnOk result (book.new.journal ≡ added book.old.journal (told_of
         setting.entry.tables.now s (events.Taken b answer.now))) }
+    ensures still { book.new.lines ≡ book.old.lines }
     ensures did { OnOk result (book.old.events < book.new.events) }
     ensures events { book.old.events ≤ book.new.events }
 {
@@ -121,6 +140,7 @@ fn miss(
         led (standing_in recovery.old) (events.Faulted b before after)) }
     ensures line { OnOk result (book.new.journal ≡ added book.old.journal (told_of
         setting.entry.tables.now s (events.Faulted b before after))) }
+    ensures still { book.new.lines ≡ book.old.lines }
     ensures did { OnOk result (book.old.events < book.new.events) }
     ensures events { book.old.events ≤ book.new.events }
 {

@@ -10,6 +10,8 @@ ghost use Rattle.session_seat.specs.Shared.{shared_of};
 ghost use Rattle.session_seat.specs.Steps.{IsDid, IsOutside};
 ghost use Rattle.session_seat.specs.declared.step.Step.TheVariants as steps;
 ghost use Rattle.session_seat.specs.Told.{added, told_of};
+ghost use Rattle.session_seat.specs.Speech.{recovering};
+ghost use Rattle.recovery_seat.specs.Speech.{DidAs};
 ghost use Rattle.recovery_seat.specs.Places.{IsLayout, standing_of};
 ghost use Rattle.recovery_seat.specs.Steps.{GoesOn, at};
 
@@ -45,6 +47,17 @@ pub(crate) fn begin<B: Backend>(
         (at (shared_of B.meaning world.new.gate.state world.new.tables world.new.count
         world.new.shelf.items) (machine_in place.new.seat.core) (standing_of layout place.new)
         book.new.journal)) }
+    ensures ordered { (layout : Layout) → (others : ℕ) → IsLayout setting.entry.config.now
+        setting.entry.tables.now layout → IfOk result (λ step. DidAs
+        setting.entry.tables.now place.old.seat.s others (events.Ordered (recovering moment number))
+        (at (shared_of B.meaning world.old.gate.state world.old.tables world.old.count
+        world.old.shelf.items) (machine_in place.old.seat.core) (standing_of layout place.old)
+        book.old.journal) step
+        (at (shared_of B.meaning world.new.gate.state world.new.tables world.new.count
+        world.new.shelf.items) (machine_in place.new.seat.core) (standing_of layout place.new)
+        book.new.journal)) }
+    ensures seat { place.new.seat ≡ place.old.seat }
+    ensures still { book.new.lines ≡ book.old.lines }
     ensures due { IfOk result (λ step. step ≡ steps.Did (Some marks.Order)) }
     ensures did { IfOk result (λ step. IsDid step → book.old.events < book.new.events) }
     ensures events { book.old.events ≤ book.new.events }
@@ -77,6 +90,7 @@ fn note_order(
           moment = moment;
           body = orders.Recover number;
         })))) }
+    ensures still { book.new.lines ≡ book.old.lines }
     ensures did { OnOk result (book.old.events < book.new.events) }
     ensures events { book.old.events ≤ book.new.events }
 {

@@ -4,6 +4,7 @@ ghost use Rattle.pool_base.specs.Sets.{has};
 ghost use Rattle.pool_base.specs.declared.backend_id.BackendId.{BackendId as Backend};
 ghost use Rattle.session_machine.specs.Rules.{new_machine, next_action};
 ghost use Rattle.session_engine.specs.Cores.{machine_in};
+ghost use Rattle.session_wire.specs.Shown.{IsFresh, shown};
 ghost use Rattle.session_seat.specs.declared.seat.Turn.TheVariants as turns;
 ghost use Rattle.online_recovery.specs.declared.layout.Layout.{Layout};
 ghost use Rattle.online_recovery.specs.Rules.{next_action as recovery_action};
@@ -33,6 +34,7 @@ impl Place {
         ensures core { IfOk result (λ place. machine_in place.seat.core ≡ new_machine s policy) }
         ensures turn { IfOk result (λ place. place.seat.turn ≡ turns.Free) }
         ensures begins { IfOk result (λ place. place.seat.over ≡ false) }
+        ensures fresh { IfOk result (λ place. IsFresh s.number (shown place.seat.wire)) }
         ensures recovery { IfOk result (λ place. place.recovery ≡ None) }
     {
         Ok(Place {

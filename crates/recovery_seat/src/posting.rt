@@ -6,6 +6,8 @@ ghost use Rattle.online_recovery.specs.Asking.{IsPost, asked_of, standing_in};
 ghost use Rattle.online_recovery.specs.Rules.{next_action};
 ghost use Rattle.session_seat.specs.Shared.{shared_of};
 ghost use Rattle.session_seat.specs.Steps.{IsDid};
+ghost use Rattle.session_seat.specs.Speech.{Speech};
+ghost use Rattle.recovery_seat.specs.Speech.{SpeaksOn};
 ghost use Rattle.recovery_seat.specs.Steps.{GoesOn, at};
 
 use backend_trait::Backend;
@@ -32,6 +34,14 @@ pub(crate) fn post<B: Backend>(
         world.old.shelf.items) machine (standing_in recovery.old) book.old.journal) step
         (at (shared_of B.meaning world.new.gate.state world.new.tables world.new.count
         world.new.shelf.items) machine (standing_in recovery.new) book.new.journal)) }
+    ensures speaks { (machine : Machine) → (others : ℕ) → (was : Speech)
+        → was.lines ≡ book.old.lines → IfOk result (λ step. SpeaksOn setting.entry.tables.now
+        setting.entry.moment setting.entry.config.now.nodes s others
+        (at (shared_of B.meaning world.old.gate.state world.old.tables world.old.count
+        world.old.shelf.items) machine (standing_in recovery.old) book.old.journal) was step
+        (at (shared_of B.meaning world.new.gate.state world.new.tables world.new.count
+        world.new.shelf.items) machine (standing_in recovery.new) book.new.journal)
+        (record was { lines = book.new.lines })) }
     ensures did { IfOk result (λ step. IsDid step → book.old.events < book.new.events) }
     ensures events { book.old.events ≤ book.new.events }
     ensures tables { world.new.tables ≡ world.old.tables }

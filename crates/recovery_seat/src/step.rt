@@ -26,6 +26,8 @@ ghost use Rattle.session_seat.specs.Steps.{IsDid};
 ghost use Rattle.recovery_seat.specs.declared.step.Pace.TheVariants.{Own};
 ghost use Rattle.recovery_seat.specs.Dues.{IsOwn};
 ghost use Rattle.recovery_seat.specs.Places.{IsLayout, standing_of};
+ghost use Rattle.session_seat.specs.Speech.{Speech, speech};
+ghost use Rattle.recovery_seat.specs.Speech.{Speaks, SpeaksOn};
 ghost use Rattle.recovery_seat.specs.Steps.{GoesOn, IsStep, at};
 
 use crate::calling::{call_gate, detach};
@@ -73,6 +75,16 @@ pub fn take_step<B: Backend>(
         (at (shared_of B.meaning world.new.gate.state world.new.tables world.new.count
         world.new.shelf.items) (machine_in place.new.seat.core) (standing_of layout place.new)
         book.new.journal)) }
+    // And its client is told what that says.
+    ensures speaks { (layout : Layout) → IsLayout setting.entry.config.now setting.entry.tables.now
+        layout → IfOk result (λ step. Speaks setting.entry.tables.now setting.entry.moment
+        setting.entry.config.now.nodes (policy_in setting.entry.config.now) layout place.old.seat.s
+        others.bits (at (shared_of B.meaning world.old.gate.state world.old.tables world.old.count
+        world.old.shelf.items) (machine_in place.old.seat.core) (standing_of layout place.old)
+        book.old.journal) (speech place.old.seat book.old.lines) step
+        (at (shared_of B.meaning world.new.gate.state world.new.tables world.new.count
+        world.new.shelf.items) (machine_in place.new.seat.core) (standing_of layout place.new)
+        book.new.journal) (speech place.new.seat book.new.lines)) }
     // Which step it is, of a session that has ordered no recovery.
     ensures due { place.old.recovery ≡ None → IfOk result (λ step. IsOwn B.meaning B.is_prompt
         setting.entry.tables.now setting.entry.moment place.old.seat world.old.gate.state
@@ -127,6 +139,16 @@ fn take_own<B: Backend>(
         (at (shared_of B.meaning world.new.gate.state world.new.tables world.new.count
         world.new.shelf.items) (machine_in place.new.seat.core) (standing_of layout place.new)
         book.new.journal)) }
+    ensures speaks { (layout : Layout) → (others : ℕ) → IsLayout setting.entry.config.now
+        setting.entry.tables.now layout → IfOk result (λ step. Speaks setting.entry.tables.now
+        setting.entry.moment setting.entry.config.now.nodes (policy_in setting.entry.config.now)
+        layout place.old.seat.s others
+        (at (shared_of B.meaning world.old.gate.state world.old.tables world.old.count
+        world.old.shelf.items) (machine_in place.old.seat.core) (standing_of layout place.old)
+        book.old.journal) (speech place.old.seat book.old.lines) step
+        (at (shared_of B.meaning world.new.gate.state world.new.tables world.new.count
+        world.new.shelf.items) (machine_in place.new.seat.core) (standing_of layout place.new)
+        book.new.journal) (speech place.new.seat book.new.lines)) }
     ensures due { IfOk result (λ step. IsOwn B.meaning B.is_prompt
         setting.entry.tables.now setting.entry.moment place.old.seat world.old.gate.state
         world.old.shelf.items step) }
@@ -163,6 +185,17 @@ fn go_on<B: Backend>(
         (at (shared_of B.meaning world.new.gate.state world.new.tables world.new.count
         world.new.shelf.items) (machine_in place.new.seat.core) (standing_of layout place.new)
         book.new.journal)) }
+    ensures speaks { (layout : Layout) → (was : Speech) → was.lines ≡ book.old.lines
+        → IfOk result (λ step. SpeaksOn setting.entry.tables.now setting.entry.moment
+        setting.entry.config.now.nodes place.old.seat.s others.bits
+        (at (shared_of B.meaning world.old.gate.state world.old.tables world.old.count
+        world.old.shelf.items) (machine_in place.old.seat.core) (standing_of layout place.old)
+        book.old.journal) was step
+        (at (shared_of B.meaning world.new.gate.state world.new.tables world.new.count
+        world.new.shelf.items) (machine_in place.new.seat.core) (standing_of layout place.new)
+        book.new.journal) (record was { lines = book.new.lines })) }
+    ensures wire { place.new.seat.wire ≡ place.old.seat.wire }
+    ensures over { place.new.seat.over ≡ place.old.seat.over }
     ensures did { IfOk result (λ step. IsDid step → book.old.events < book.new.events) }
     ensures events { book.old.events ≤ book.new.events }
     ensures s { place.new.seat.s ≡ place.old.seat.s }
@@ -205,6 +238,14 @@ fn advance<B: Backend>(
         (at (shared_of B.meaning world.new.gate.state world.new.tables world.new.count
         world.new.shelf.items) (machine_in seat.now.core) (standing_in recovery.new)
         book.new.journal)) }
+    ensures speaks { (was : Speech) → was.lines ≡ book.old.lines → IfOk result (λ step. SpeaksOn
+        setting.entry.tables.now setting.entry.moment setting.entry.config.now.nodes seat.now.s
+        others.bits (at (shared_of B.meaning world.old.gate.state world.old.tables world.old.count
+        world.old.shelf.items) (machine_in seat.now.core) (standing_in recovery.old)
+        book.old.journal) was step
+        (at (shared_of B.meaning world.new.gate.state world.new.tables world.new.count
+        world.new.shelf.items) (machine_in seat.now.core) (standing_in recovery.new)
+        book.new.journal) (record was { lines = book.new.lines })) }
     ensures did { IfOk result (λ step. IsDid step → book.old.events < book.new.events) }
     ensures events { book.old.events ≤ book.new.events }
     ensures tables { world.new.tables ≡ world.old.tables }

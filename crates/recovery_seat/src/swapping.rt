@@ -9,6 +9,8 @@ ghost use Rattle.online_recovery.specs.Asking.{IsSwap, asked_of, standing_in};
 ghost use Rattle.online_recovery.specs.Rules.{next_action};
 ghost use Rattle.session_seat.specs.Shared.{shared_of};
 ghost use Rattle.session_seat.specs.Steps.{IsDid};
+ghost use Rattle.session_seat.specs.Speech.{Speech};
+ghost use Rattle.recovery_seat.specs.Speech.{SpeaksOn};
 ghost use Rattle.recovery_seat.specs.Steps.{GoesOn, IsAt, at};
 
 use crate::place::backend_of;
@@ -43,6 +45,14 @@ pub(crate) fn swap<B: Backend>(
         (at (shared_of B.meaning world.new.gate.state world.new.tables world.new.count
         world.new.shelf.items) (machine_in seat.now.core) (standing_in recovery.new)
         book.new.journal)) }
+    ensures speaks { (was : Speech) → was.lines ≡ book.old.lines → IfOk result (λ step. SpeaksOn
+        setting.entry.tables.now setting.entry.moment setting.entry.config.now.nodes seat.now.s
+        others.bits (at (shared_of B.meaning world.old.gate.state world.old.tables world.old.count
+        world.old.shelf.items) (machine_in seat.now.core) (standing_in recovery.old)
+        book.old.journal) was step
+        (at (shared_of B.meaning world.new.gate.state world.new.tables world.new.count
+        world.new.shelf.items) (machine_in seat.now.core) (standing_in recovery.new)
+        book.new.journal) (record was { lines = book.new.lines })) }
     ensures did { IfOk result (λ step. IsDid step → book.old.events < book.new.events) }
     ensures events { book.old.events ≤ book.new.events }
     ensures tables { world.new.tables ≡ world.old.tables }
