@@ -52,15 +52,15 @@ pub added_none : (journal : Journal) → journal ≡ added journal []
 added_none Off = refl
 added_none (On kept) = ap On (sym (append-nil kept))
 
-added_on : (journal : Journal) (a b : List ℕ) → added (added journal a) b ≡ added journal (a ++ b)
+pub added_on : (journal : Journal) (a b : List ℕ) → added (added journal a) b ≡ added journal (a ++ b)
 added_on Off a b = refl
 added_on (On kept) a b = ap On (append_assoc kept a b)
 
-lines_on : (tables : List TableDef) (xs ys : List Entry) → lines tables (xs ++ ys) ≡ lines tables xs ++ lines tables ys
+pub lines_on : (tables : List TableDef) (xs ys : List Entry) → lines tables (xs ++ ys) ≡ lines tables xs ++ lines tables ys
 lines_on tables [] ys = refl
 lines_on tables (x ∷ xs) ys = ap (λ z. told tables x ++ z) (lines_on tables xs ys) ∙ sym (append_assoc (told tables x) (lines tables xs) (lines tables ys))
 
-schedule_on : (tables : List TableDef) (a b c : State) (xs ys : List Entry) → IsSchedule tables a xs b → IsSchedule tables b ys c → IsSchedule tables a (xs ++ ys) c
+pub schedule_on : (tables : List TableDef) (a b c : State) (xs ys : List Entry) → IsSchedule tables a xs b → IsSchedule tables b ys c → IsSchedule tables a (xs ++ ys) c
 schedule_on tables a b c [] ys is more = subst (λ z. IsSchedule tables z ys c) is more
 schedule_on tables a b c (x ∷ xs) ys (mid, comes, is) more = (mid, comes, schedule_on tables mid b c xs ys is more)
 
@@ -101,17 +101,17 @@ self_at : {V : Type 0} (all : SessionId → V) (s t : SessionId) (own : V) → a
 self_at all s t own is true same = sym is ∙ ap all (sym (same refl))
 self_at all s t own is false same = refl
 
-with_self : {V : Type 0} (all : SessionId → V) (s : SessionId) (own : V) → all s ≡ own → with_own all s own ≡ all
+pub with_self : {V : Type 0} (all : SessionId → V) (s : SessionId) (own : V) → all s ≡ own → with_own all s own ≡ all
 with_self all s own is = λ i t. self_at all s t own is (t.number == s.number) (λ e. same_session t s (same_number t.number s.number e)) i
 
 twice_at : {V : Type 0} (b : Bool) (m n o : V) → (if b then n else if b then m else o) ≡ (if b then n else o)
 twice_at true m n o = refl
 twice_at false m n o = refl
 
-with_twice : {V : Type 0} (all : SessionId → V) (s : SessionId) (m n : V) → with_own (with_own all s m) s n ≡ with_own all s n
+pub with_twice : {V : Type 0} (all : SessionId → V) (s : SessionId) (m n : V) → with_own (with_own all s m) s n ≡ with_own all s n
 with_twice all s m n = λ i t. twice_at (t.number == s.number) m n (all t) i
 
-with_here : {V : Type 0} (all : SessionId → V) (s : SessionId) (m : V) → with_own all s m s ≡ m
+pub with_here : {V : Type 0} (all : SessionId → V) (s : SessionId) (m : V) → with_own all s m s ≡ m
 with_here all s m = ap (λ (b : Bool). if b then m else all s) (itself s.number)
 
 with_other : {V : Type 0} (all : SessionId → V) (s o : SessionId) (m : V) → (o.number == s.number) ≡ false → with_own all s m o ≡ all o
@@ -120,7 +120,7 @@ with_other all s o m other = ap (λ (b : Bool). if b then m else all o) other
 -- What a step did, wherever the other sessions stand.
 
 -- the others stand as they did
-fits_on : (others : ℕ) (s : SessionId) (machines : SessionId → Machine) (recoveries : SessionId → Standing) (m : Machine) (r : Standing) → Fits others s machines recoveries
+pub fits_on : (others : ℕ) (s : SessionId) (machines : SessionId → Machine) (recoveries : SessionId → Standing) (m : Machine) (r : Standing) → Fits others s machines recoveries
     → Fits others s (with_machine machines s m) (with_standing recoveries s r)
 fits_on others s machines recoveries m r fits = record {
   sessions = λ o b other due. fits.sessions o b other (subst (λ (z : Machine). IsAt b (next_action z)) (with_other machines s o m other) due);
@@ -150,7 +150,7 @@ goes_on tables s others a b c one two machines recoveries is stands fits =
     (subst (λ (z : SessionId → Standing). Went tables (state b.shared mid amid) b.journal (state c.shared (with_machine mid s c.machine) z) c.journal) (with_twice recoveries s b.standing c.standing) last))
 
 -- one entry comes, wherever the others stand
-abbrev ComesAlone : List TableDef → SessionId → ℕ → Stand → Entry → Stand → Type 0
+abbrev pub ComesAlone : List TableDef → SessionId → ℕ → Stand → Entry → Stand → Type 0
 ComesAlone tables s others old entry new =
     (machines : SessionId → Machine) (recoveries : SessionId → Standing) → machines s ≡ old.machine → recoveries s ≡ old.standing → Fits others s machines recoveries
     → Comes tables (state old.shared machines recoveries) entry (state new.shared (with_machine machines s new.machine) (with_standing recoveries s new.standing))
@@ -231,7 +231,7 @@ elsewhere : (slots : List Slot) (i : ℕ) (slot : Slot) (t : SessionId) → (t.n
 elsewhere slots i slot t other = get_or-set_other slots i (t.number - 1) slot Free (λ e. other (omega (arith, e, t.from_one)))
 
 -- a slot is another, and what is its session's with it
-set_at : {V : Type 0} (own_in : SessionId → Slot → V) (slots : List Slot) (i : ℕ) (slot : Slot) (s t : SessionId) → s.number ≡ suc i → i < length slots
+pub set_at : {V : Type 0} (own_in : SessionId → Slot → V) (slots : List Slot) (i : ℕ) (slot : Slot) (s t : SessionId) → s.number ≡ suc i → i < length slots
     → own_in t (get_or (set slots i slot) (t.number - 1) Free) ≡ with_own (λ u. own_in u (get_or slots (u.number - 1) Free)) s (own_in s slot) t
 set_at {V} own_in slots i slot s t is below =
     let all : SessionId → V = λ u. own_in u (get_or slots (u.number - 1) Free) in
@@ -245,7 +245,7 @@ set_at {V} own_in slots i slot s t is below =
     ]
 
 -- what is a session's where its slot is read
-own_here : {V : Type 0} (own_in : SessionId → Slot → V) (slots : List Slot) (i : ℕ) (slot : Slot) (s : SessionId) → s.number ≡ suc i → i < length slots → slot ≡ get_or slots i slot
+pub own_here : {V : Type 0} (own_in : SessionId → Slot → V) (slots : List Slot) (i : ℕ) (slot : Slot) (s : SessionId) → s.number ≡ suc i → i < length slots → slot ≡ get_or slots i slot
     → own_in s (get_or slots (s.number - 1) Free) ≡ own_in s slot
 own_here own_in slots i slot s is below read =
     let place : s.number - 1 ≡ i = omega (arith, is) in

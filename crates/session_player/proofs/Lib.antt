@@ -4,3 +4,7 @@ pub mod Telling
 pub mod Fed
 pub mod Going
 pub mod Fitting
+pub mod Speaking
+pub mod Parts
+pub mod Counting
+pub mod Losing

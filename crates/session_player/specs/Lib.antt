@@ -8,3 +8,5 @@ pub mod Turns
 pub mod Written
 pub mod Journals
 pub mod Others
+pub mod Speaking
+pub mod Transcript

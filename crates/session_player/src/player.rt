@@ -17,6 +17,10 @@ ghost use Rattle.recovery_seat.specs.Places.{IsLayout};
 ghost use Rattle.session_player.specs.Journals.{IsJournaled, IsPut, Went, machine_in_slot, machines_of, standing_in_slot, standings_of, state_of};
 ghost use Rattle.session_player.specs.Slots.{ArePlaced, IsPlaced};
 ghost use Rattle.session_player.specs.Times.{IsMomentRead};
+ghost use Rattle.session_player.specs.Deeds.{IsDeedOf};
+ghost use Rattle.session_player.specs.declared.deed.Deed.{Deed as Doing};
+ghost use Rattle.session_player.specs.Speaking.{Board, Happening, hearer_in, hearers_of};
+ghost use Rattle.session_player.specs.Transcript.{AreTold, Does, IsEnd, IsTold, IsTranscript, Part, Sets, input_ended, scene_of};
 ghost use Rattle.session_player.specs.Written.{ArePlayed, AreParts, Grew, IsPart};
 
 use crate::connecting::{Then, address, connect, lose};
@@ -69,9 +73,21 @@ pub fn play<B: Backend, O: Sink>(
         world.old.shelf.items)
         (shared_of B.meaning world.new.gate.state world.new.tables world.new.count
         world.new.shelf.items) (O.taken out.old) (O.taken out.new)) }
+    // And behind each echo stands what is told of such a schedule: each client is told what its
+    // wire puts out, led to its orders by what the lines have sent, and by the replies; and each
+    // detachment, attachment and closing. With its journal it is this very schedule.
+    ensures transcript { (layout : Layout) → IsLayout setting.entry.config.now
+        setting.entry.tables.now layout → OnOk result (IsTranscript setting.entry.config.now
+        setting.entry.tables.now layout world.old.count (map line_of script.now)
+        setting.entry.moment journal
+        (shared_of B.meaning world.old.gate.state world.old.tables world.old.count
+        world.old.shelf.items)
+        (shared_of B.meaning world.new.gate.state world.new.tables world.new.count
+        world.new.shelf.items) (O.taken out.old) (O.taken out.new)) }
     // What was taken begins with what had been taken, whatever the answer.
     ensures grows { Grew (O.taken out.old) (O.taken out.new) }
     ensures tables { world.new.tables ≡ world.old.tables }
+    ensures count { world.new.count ≡ world.old.count }
     ensures boxes { length world.new.shelf.items ≡ length world.old.shelf.items }
 
     // The sink's fault comes only where its count rose.
@@ -112,8 +128,19 @@ fn play_lines<B: Backend, O: Sink>(
         world.new.shelf.items) scene.new.seats.slots.items) scene.new.book.journal) }
     ensures parts { OnOk result (AreParts (map line_of script.now) (O.taken out.old)
         (O.taken out.new)) }
+    ensures told { (layout : Layout) → IsLayout setting.entry.config.now setting.entry.tables.now
+        layout → OnOk result ((happenings : Sequence Happening) × AreTold
+        setting.entry.tables.now setting.entry.config.now.nodes
+        setting.entry.config.now.children world.old.count (map line_of script.now)
+        (scene_of (policy_in setting.entry.config.now) layout (shared_of B.meaning
+        world.old.gate.state world.old.tables world.old.count world.old.shelf.items)
+        scene.old.moment scene.old.seats.slots.items scene.old.book) (O.taken out.old) happenings
+        (scene_of (policy_in setting.entry.config.now) layout (shared_of B.meaning
+        world.new.gate.state world.new.tables world.new.count world.new.shelf.items)
+        scene.new.moment scene.new.seats.slots.items scene.new.book) (O.taken out.new)) }
     ensures grows { Grew (O.taken out.old) (O.taken out.new) }
     ensures tables { world.new.tables ≡ world.old.tables }
+    ensures count { world.new.count ≡ world.old.count }
     ensures boxes { length world.new.shelf.items ≡ length world.old.shelf.items }
     ensures sink { IfErr result (λ e. e ≡ faults.SinkFailed
         → Rose (O.fault_count out.old) (O.fault_count out.new)) }
@@ -146,8 +173,19 @@ fn play_part<B: Backend, O: Sink>(
         (shared_of B.meaning world.new.gate.state world.new.tables world.new.count
         world.new.shelf.items) scene.new.seats.slots.items) scene.new.book.journal) }
     ensures part { OnOk result (IsPart (line_of line.now) (O.taken out.old) (O.taken out.new)) }
+    ensures told { (layout : Layout) → IsLayout setting.entry.config.now setting.entry.tables.now
+        layout → OnOk result ((happenings : Sequence Happening) × IsTold
+        setting.entry.tables.now setting.entry.config.now.nodes
+        setting.entry.config.now.children world.old.count (line_of line.now)
+        (scene_of (policy_in setting.entry.config.now) layout (shared_of B.meaning
+        world.old.gate.state world.old.tables world.old.count world.old.shelf.items)
+        scene.old.moment scene.old.seats.slots.items scene.old.book) (O.taken out.old) happenings
+        (scene_of (policy_in setting.entry.config.now) layout (shared_of B.meaning
+        world.new.gate.state world.new.tables world.new.count world.new.shelf.items)
+        scene.new.moment scene.new.seats.slots.items scene.new.book) (O.taken out.new)) }
     ensures grows { Grew (O.taken out.old) (O.taken out.new) }
     ensures tables { world.new.tables ≡ world.old.tables }
+    ensures count { world.new.count ≡ world.old.count }
     ensures boxes { length world.new.shelf.items ≡ length world.old.shelf.items }
     ensures sink { IfErr result (λ e. e ≡ faults.SinkFailed
         → Rose (O.fault_count out.old) (O.fault_count out.new)) }
@@ -160,6 +198,7 @@ fn play_part<B: Backend, O: Sink>(
 
 /// What a step reads, at that moment.
 fn at_moment(setting: Setting, moment: i64) -> Setting
+    ensures moment { result.moment ≡ moment }
     ensures tables { result.tables.now ≡ setting.entry.tables.now }
     ensures config { result.config.now ≡ setting.entry.config.now }
 {
@@ -190,7 +229,18 @@ fn play_line<B: Backend>(
         (state_of (policy_in setting.entry.config.now) layout
         (shared_of B.meaning world.new.gate.state world.new.tables world.new.count
         world.new.shelf.items) scene.new.seats.slots.items) scene.new.book.journal) }
+    ensures part { (layout : Layout) → IsLayout setting.entry.config.now setting.entry.tables.now
+        layout → OnOk result ((happenings : Sequence Happening) × Part
+        setting.entry.tables.now setting.entry.config.now.nodes
+        setting.entry.config.now.children world.old.count (line_of line.now)
+        (scene_of (policy_in setting.entry.config.now) layout (shared_of B.meaning
+        world.old.gate.state world.old.tables world.old.count world.old.shelf.items)
+        scene.old.moment scene.old.seats.slots.items scene.old.book) happenings
+        (scene_of (policy_in setting.entry.config.now) layout (shared_of B.meaning
+        world.new.gate.state world.new.tables world.new.count world.new.shelf.items)
+        scene.new.moment scene.new.seats.slots.items scene.new.book)) }
     ensures tables { world.new.tables ≡ world.old.tables }
+    ensures count { world.new.count ≡ world.old.count }
     ensures boxes { length world.new.shelf.items ≡ length world.old.shelf.items }
 {
     let then = do_line(setting, line, scene, world)?;
@@ -220,7 +270,18 @@ fn do_line<B: Backend>(
         (state_of (policy_in setting.entry.config.now) layout
         (shared_of B.meaning world.new.gate.state world.new.tables world.new.count
         world.new.shelf.items) scene.new.seats.slots.items) scene.new.book.journal) }
+    ensures does { (layout : Layout) → IsLayout setting.entry.config.now setting.entry.tables.now
+        layout → OnOk result ((deed : Doing) × IsDeedOf (line_of line.now) deed
+        × (happenings : Sequence Happening) × Does setting.entry.tables.now
+        setting.entry.config.now.nodes setting.entry.config.now.children world.old.count deed
+        (scene_of (policy_in setting.entry.config.now) layout (shared_of B.meaning
+        world.old.gate.state world.old.tables world.old.count world.old.shelf.items)
+        scene.old.moment scene.old.seats.slots.items scene.old.book) happenings
+        (scene_of (policy_in setting.entry.config.now) layout (shared_of B.meaning
+        world.new.gate.state world.new.tables world.new.count world.new.shelf.items)
+        scene.new.moment scene.new.seats.slots.items scene.new.book)) }
     ensures tables { world.new.tables ≡ world.old.tables }
+    ensures count { world.new.count ≡ world.old.count }
     ensures boxes { length world.new.shelf.items ≡ length world.old.shelf.items }
 {
     match deed_of(line) {
@@ -231,9 +292,7 @@ fn do_line<B: Backend>(
             Ok(Then::Rounds)
         }
         Deed::SetMoment(text) => {
-            if let Some(moment) = moment_of(setting.alloc, text) {
-                scene.moment = moment;
-            }
+            scene.moment = moment_behind(setting.alloc, text, scene.moment);
             Ok(Then::Rounds)
         }
         Deed::Of(s, wish) => {
@@ -246,6 +305,16 @@ fn do_line<B: Backend>(
                 &mut scene.book,
             )
         }
+    }
+}
+
+/// What the clock shows behind a line that sets this moment.
+fn moment_behind(alloc: Global, text: &[u8], moment: i64) -> i64
+    ensures { Sets text.now moment result }
+{
+    match moment_of(alloc, text) {
+        Some(other) => other,
+        None => moment,
     }
 }
 
@@ -285,8 +354,20 @@ fn play_end<B: Backend, O: Sink>(
     ensures put { OnOk result ((told : Maybe (Sequence ℕ)) × Grew (O.taken out.old) told
         × IsPut setting.entry.config.now setting.entry.tables.now scene.new.book.journal told
         (O.taken out.new)) }
+    ensures ends { (layout : Layout) → IsLayout setting.entry.config.now setting.entry.tables.now
+        layout → OnOk result ((happenings : Sequence Happening) × (last : Board)
+        × (told : Maybe (Sequence ℕ)) × IsEnd setting.entry.tables.now
+        setting.entry.config.now.nodes (scene_of (policy_in setting.entry.config.now) layout
+        (shared_of B.meaning
+        world.old.gate.state world.old.tables world.old.count world.old.shelf.items)
+        scene.old.moment scene.old.seats.slots.items scene.old.book)
+        (O.taken out.old) happenings last told × IsPut setting.entry.config.now
+        setting.entry.tables.now last.journal told (O.taken out.new)
+        × (last.state.shared ≡ shared_of B.meaning world.new.gate.state world.new.tables
+        world.new.count world.new.shelf.items)) }
     ensures grows { Grew (O.taken out.old) (O.taken out.new) }
     ensures tables { world.new.tables ≡ world.old.tables }
+    ensures count { world.new.count ≡ world.old.count }
     ensures boxes { length world.new.shelf.items ≡ length world.old.shelf.items }
     ensures sink { IfErr result (λ e. e ≡ faults.SinkFailed
         → Rose (O.fault_count out.old) (O.fault_count out.new)) }
@@ -305,6 +386,8 @@ fn end_all(seats: &mut Seats)
         ≡ machines_of policy seats.old.slots.items }
     ensures standings { (layout : Layout) → standings_of layout seats.new.slots.items
         ≡ standings_of layout seats.old.slots.items }
+    ensures hearers { (n : ℕ) → hearers_of seats.new.slots.items n
+        ≡ input_ended (hearers_of seats.old.slots.items n) }
 {
     end_each(seats.slots.as_mut_slice());
 }
@@ -316,6 +399,7 @@ fn end_each(slots: &mut [Slot])
         ≡ machines_of policy slots.old }
     ensures standings { (layout : Layout) → standings_of layout slots.new
         ≡ standings_of layout slots.old }
+    ensures hearers { (n : ℕ) → hearers_of slots.new n ≡ input_ended (hearers_of slots.old n) }
 {
     for slot in slots.iter_mut() {
         end_input(slot);
@@ -328,6 +412,7 @@ fn end_input(slot: &mut Slot)
         ≡ machine_in_slot policy s slot.old }
     ensures standing { (layout : Layout) → (s : SessionId) → standing_in_slot layout s slot.new
         ≡ standing_in_slot layout s slot.old }
+    ensures hearer { hearer_in slot.new ≡ input_ended (hearer_in slot.old) }
 {
     match slot {
         Slot::Free => {}

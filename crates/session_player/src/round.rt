@@ -8,7 +8,7 @@
 //!
 //! A turn goes on behind an event alone, and rounds go on behind a round with an event. A play has
 //! fewer than 2^64 events, so turns and rounds end.
-ghost use Rattle.std.specs.Prelude.{◌≡◌, ◌↔◌, ◌<◌, ◌≤◌, ℕ, suc, length, IsTrue, IfOk, OnOk, false, slice_index_or};
+ghost use Rattle.std.specs.Prelude.{◌≡◌, ◌↔◌, ◌<◌, ◌≤◌, ℕ, suc, length, Some, IsTrue, IfOk, OnOk, false, slice_index_or};
 ghost use Rattle.pool_base.specs.declared.session_id.SessionId.{SessionId};
 ghost use Rattle.schema_print.specs.Allowed.{AreAllowed};
 ghost use Rattle.schema_print.specs.Printed.{AreInRange};
@@ -25,6 +25,7 @@ ghost use Rattle.session_player.specs.declared.round.TurnEnd.TheVariants.{Closed
 ghost use Rattle.session_player.specs.declared.slots.Slot.TheVariants.{Free};
 ghost use Rattle.session_player.specs.Journals.{Goes, Went, machine_in_slot, standing_in_slot, state_of};
 ghost use Rattle.session_player.specs.Slots.{ArePlaced, IsPlaced, IsHeld, IsHeldOrFree};
+ghost use Rattle.session_player.specs.Speaking.{Spoke, SpokeAlone, board_of, hearer_in, hearer_of, left_at, spot};
 ghost use Rattle.session_player.specs.Turns.{EndsBehind, IsTaken};
 
 use crate::marks::stops;
@@ -90,6 +91,15 @@ fn take_steps<B: Backend>(
         (at (shared_of B.meaning world.new.gate.state world.new.tables world.new.count
         world.new.shelf.items) (machine_in place.new.seat.core) (standing_of layout place.new)
         book.new.journal)) }
+    ensures speaks { (layout : Layout) → IsLayout setting.entry.config.now setting.entry.tables.now
+        layout → IfOk result (λ end. SpokeAlone setting.entry.tables.now setting.entry.moment
+        setting.entry.config.now.nodes place.old.seat.s others.bits
+        (spot (at (shared_of B.meaning world.old.gate.state world.old.tables world.old.count
+        world.old.shelf.items) (machine_in place.old.seat.core) (standing_of layout place.old)
+        book.old.journal) (Some (hearer_of place.old.seat)) book.old.lines)
+        (spot (at (shared_of B.meaning world.new.gate.state world.new.tables world.new.count
+        world.new.shelf.items) (machine_in place.new.seat.core) (standing_of layout place.new)
+        book.new.journal) (left_at end (hearer_of place.new.seat)) book.new.lines)) }
     ensures closed { IfOk result (λ end. end ≡ Closed → machine_in place.new.seat.core ≡
         new_machine place.old.seat.s (policy_in setting.entry.config.now)) }
     ensures at_rest { (layout : Layout) → IsLayout setting.entry.config.now
@@ -98,6 +108,7 @@ fn take_steps<B: Backend>(
     ensures same { place.new.seat.s ≡ place.old.seat.s }
     ensures turn { place.new.seat.turn ≡ place.old.seat.turn }
     ensures tables { world.new.tables ≡ world.old.tables }
+    ensures count { world.new.count ≡ world.old.count }
     ensures boxes { length world.new.shelf.items ≡ length world.old.shelf.items }
 {
     'steps: loop {
@@ -141,6 +152,16 @@ fn turn_of<B: Backend>(
         (at (shared_of B.meaning world.new.gate.state world.new.tables world.new.count
         world.new.shelf.items) (machine_in client.new.place.seat.core)
         (standing_of layout client.new.place) book.new.journal)) }
+    ensures speaks { (layout : Layout) → IsLayout setting.entry.config.now setting.entry.tables.now
+        layout → IfOk result (λ end. SpokeAlone setting.entry.tables.now setting.entry.moment
+        setting.entry.config.now.nodes client.old.place.seat.s others.bits
+        (spot (at (shared_of B.meaning world.old.gate.state world.old.tables world.old.count
+        world.old.shelf.items) (machine_in client.old.place.seat.core) (standing_of layout
+        client.old.place) book.old.journal) (Some (hearer_of client.old.place.seat)) book.old.lines)
+        (spot (at (shared_of B.meaning world.new.gate.state world.new.tables world.new.count
+        world.new.shelf.items) (machine_in client.new.place.seat.core) (standing_of layout
+        client.new.place)
+        book.new.journal) (left_at end (hearer_of client.new.place.seat)) book.new.lines)) }
     ensures closed { IfOk result (λ end. end ≡ Closed → machine_in client.new.place.seat.core ≡
         new_machine client.old.place.seat.s (policy_in setting.entry.config.now)) }
     ensures at_rest { (layout : Layout) → IsLayout setting.entry.config.now
@@ -148,6 +169,7 @@ fn turn_of<B: Backend>(
         → standing_of layout client.new.place ≡ new_standing client.old.place.seat.s layout) }
     ensures same { client.new.place.seat.s ≡ client.old.place.seat.s }
     ensures tables { world.new.tables ≡ world.old.tables }
+    ensures count { world.new.count ≡ world.old.count }
     ensures boxes { length world.new.shelf.items ≡ length world.old.shelf.items }
 {
     let end = take_steps(setting, &mut client.place, others, None, world, book)?;
@@ -175,8 +197,20 @@ fn turn<B: Backend>(
         (at (shared_of B.meaning world.new.gate.state world.new.tables world.new.count
         world.new.shelf.items) (machine_in_slot (policy_in setting.entry.config.now) s slot.new)
         (standing_in_slot layout s slot.new) book.new.journal)) }
+    ensures speaks { (layout : Layout) → IsLayout setting.entry.config.now setting.entry.tables.now
+        layout → (before : ℕ) → (s : SessionId) → s.number ≡ suc before
+        → IsPlaced before slot.old → OnOk result (SpokeAlone setting.entry.tables.now
+        setting.entry.moment setting.entry.config.now.nodes s others.bits
+        (spot (at (shared_of B.meaning world.old.gate.state world.old.tables world.old.count
+        world.old.shelf.items) (machine_in_slot (policy_in setting.entry.config.now) s slot.old)
+        (standing_in_slot layout s slot.old) book.old.journal) (hearer_in slot.old) book.old.lines)
+        (spot (at (shared_of B.meaning world.new.gate.state world.new.tables world.new.count
+        world.new.shelf.items) (machine_in_slot (policy_in setting.entry.config.now) s slot.new)
+        (standing_in_slot layout s slot.new) book.new.journal) (hearer_in slot.new)
+        book.new.lines)) }
     ensures placed { (before : ℕ) → IsPlaced before slot.old → IsPlaced before slot.new }
     ensures tables { world.new.tables ≡ world.old.tables }
+    ensures count { world.new.count ≡ world.old.count }
     ensures boxes { length world.new.shelf.items ≡ length world.old.shelf.items }
 {
     let end = match slot {
@@ -224,11 +258,21 @@ fn turn_at<B: Backend>(
         (shared_of B.meaning world.new.gate.state
         world.new.tables world.new.count world.new.shelf.items) slots.new)
         book.new.journal) }
+    ensures speaks { (layout : Layout) → IsLayout setting.entry.config.now setting.entry.tables.now
+        layout → OnOk result (Spoke setting.entry.tables.now setting.entry.moment
+        setting.entry.config.now.nodes
+        (board_of (policy_in setting.entry.config.now) layout (shared_of B.meaning
+        world.old.gate.state world.old.tables world.old.count
+        world.old.shelf.items) slots.old book.old)
+        (board_of (policy_in setting.entry.config.now) layout (shared_of B.meaning
+        world.new.gate.state world.new.tables world.new.count
+        world.new.shelf.items) slots.new book.new)) }
     ensures held { IsHeld (slice_index_or slots.old at Free) → slots.new ≡ slots.old }
     ensures quiet { IsHeld (slice_index_or slots.old at Free) → book.new ≡ book.old }
     ensures placed { ArePlaced 0 slots.new }
     ensures slots { length slots.new ≡ length slots.old }
     ensures tables { world.new.tables ≡ world.old.tables }
+    ensures count { world.new.count ≡ world.old.count }
     ensures boxes { length world.new.shelf.items ≡ length world.old.shelf.items }
 {
     if !is_due(&slots[at]) {
@@ -260,9 +304,19 @@ fn round<B: Backend>(
         (shared_of B.meaning world.new.gate.state
         world.new.tables world.new.count world.new.shelf.items) slots.new)
         book.new.journal) }
+    ensures speaks { (layout : Layout) → IsLayout setting.entry.config.now setting.entry.tables.now
+        layout → OnOk result (Spoke setting.entry.tables.now setting.entry.moment
+        setting.entry.config.now.nodes
+        (board_of (policy_in setting.entry.config.now) layout (shared_of B.meaning
+        world.old.gate.state world.old.tables world.old.count
+        world.old.shelf.items) slots.old book.old)
+        (board_of (policy_in setting.entry.config.now) layout (shared_of B.meaning
+        world.new.gate.state world.new.tables world.new.count
+        world.new.shelf.items) slots.new book.new)) }
     ensures placed { ArePlaced 0 slots.new }
     ensures slots { length slots.new ≡ length slots.old }
     ensures tables { world.new.tables ≡ world.old.tables }
+    ensures count { world.new.count ≡ world.old.count }
     ensures boxes { length world.new.shelf.items ≡ length world.old.shelf.items }
 {
     for at in 0..slots.len() {
@@ -291,7 +345,17 @@ pub(crate) fn rounds<B: Backend>(
         (shared_of B.meaning world.new.gate.state
         world.new.tables world.new.count world.new.shelf.items) seats.new.slots.items)
         book.new.journal) }
+    ensures speaks { (layout : Layout) → IsLayout setting.entry.config.now setting.entry.tables.now
+        layout → OnOk result (Spoke setting.entry.tables.now setting.entry.moment
+        setting.entry.config.now.nodes
+        (board_of (policy_in setting.entry.config.now) layout (shared_of B.meaning
+        world.old.gate.state world.old.tables world.old.count
+        world.old.shelf.items) seats.old.slots.items book.old)
+        (board_of (policy_in setting.entry.config.now) layout (shared_of B.meaning
+        world.new.gate.state world.new.tables world.new.count
+        world.new.shelf.items) seats.new.slots.items book.new)) }
     ensures tables { world.new.tables ≡ world.old.tables }
+    ensures count { world.new.count ≡ world.old.count }
     ensures boxes { length world.new.shelf.items ≡ length world.old.shelf.items }
 {
     'rounds: loop {
@@ -324,9 +388,21 @@ fn turn_until<B: Backend>(
         (at (shared_of B.meaning world.new.gate.state world.new.tables world.new.count
         world.new.shelf.items) (machine_in_slot (policy_in setting.entry.config.now) s slot.new)
         (standing_in_slot layout s slot.new) book.new.journal)) }
+    ensures speaks { (layout : Layout) → IsLayout setting.entry.config.now setting.entry.tables.now
+        layout → (before : ℕ) → (s : SessionId) → s.number ≡ suc before
+        → IsPlaced before slot.old → OnOk result (SpokeAlone setting.entry.tables.now
+        setting.entry.moment setting.entry.config.now.nodes s others.bits
+        (spot (at (shared_of B.meaning world.old.gate.state world.old.tables world.old.count
+        world.old.shelf.items) (machine_in_slot (policy_in setting.entry.config.now) s slot.old)
+        (standing_in_slot layout s slot.old) book.old.journal) (hearer_in slot.old) book.old.lines)
+        (spot (at (shared_of B.meaning world.new.gate.state world.new.tables world.new.count
+        world.new.shelf.items) (machine_in_slot (policy_in setting.entry.config.now) s slot.new)
+        (standing_in_slot layout s slot.new) book.new.journal) (hearer_in slot.new)
+        book.new.lines)) }
     ensures held { OnOk result (IsHeldOrFree slot.new) }
     ensures placed { (before : ℕ) → IsPlaced before slot.old → IsPlaced before slot.new }
     ensures tables { world.new.tables ≡ world.old.tables }
+    ensures count { world.new.count ≡ world.old.count }
     ensures boxes { length world.new.shelf.items ≡ length world.old.shelf.items }
 {
     let end = match slot {
@@ -365,7 +441,17 @@ pub(crate) fn go_until<B: Backend>(
         (shared_of B.meaning world.new.gate.state
         world.new.tables world.new.count world.new.shelf.items) seats.new.slots.items)
         book.new.journal) }
+    ensures speaks { (layout : Layout) → IsLayout setting.entry.config.now setting.entry.tables.now
+        layout → OnOk result (Spoke setting.entry.tables.now setting.entry.moment
+        setting.entry.config.now.nodes
+        (board_of (policy_in setting.entry.config.now) layout (shared_of B.meaning
+        world.old.gate.state world.old.tables world.old.count
+        world.old.shelf.items) seats.old.slots.items book.old)
+        (board_of (policy_in setting.entry.config.now) layout (shared_of B.meaning
+        world.new.gate.state world.new.tables world.new.count
+        world.new.shelf.items) seats.new.slots.items book.new)) }
     ensures tables { world.new.tables ≡ world.old.tables }
+    ensures count { world.new.count ≡ world.old.count }
     ensures boxes { length world.new.shelf.items ≡ length world.old.shelf.items }
 {
     let place = place_of(s);

@@ -1,6 +1,8 @@
 //! The sessions that are connected, by their numbers.
 ghost use Rattle.std.specs.Prelude.{◌≡◌, ◌+◌, ◌<◌, ◌≤◌, ℕ, IfOk, length, slice_index_or};
 ghost use Rattle.session_player.specs.Slots.{ArePlaced, ArePlaced-prop, is_taken};
+ghost use Rattle.session_player.specs.Speaking.{hearers_of};
+ghost use Rattle.session_player.specs.Transcript.{count_to};
 ghost use Rattle.session_player.specs.declared.slots.Slot.TheVariants.{Free, Taken};
 
 use pool_base::{NoMemory, SessionId};
@@ -46,7 +48,9 @@ impl Seats {
     }
 
     /// How many sessions are connected.
-    pub(crate) fn taken(&self) -> usize {
+    pub(crate) fn taken(&self) -> usize
+        ensures { result ≡ count_to (hearers_of self.now.slots.items) 64 }
+    {
         count_taken(self.slots.as_slice())
     }
 }
@@ -62,8 +66,10 @@ pub(crate) fn is_taken(slot: &Slot) -> bool
 }
 
 /// At how many of the slots a session is connected.
+#[tactic(auto, using(crate::proofs::Counting::one_more, crate::proofs::Counting::none_more, crate::proofs::Counting::all_counted))]
 fn count_taken(slots: &[Slot]) -> usize
-    ensures { result ≤ length slots.now }
+    ensures few { result ≤ length slots.now }
+    ensures is { result ≡ count_to (hearers_of slots.now) (length slots.now) }
 {
     let mut count: usize = 0;
     for slot in slots {

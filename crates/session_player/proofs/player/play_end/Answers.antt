@@ -1,9 +1,12 @@
-use Rattle.std.proofs.Common.{refl, sym, subst}
+use Rattle.std.proofs.Common.{refl, sym, subst, ◌∙◌, w64, rules}
+use Rattle.std.proofs.lemmas.Int.{to_z-of_z}
 use Rattle.std.proofs.lemmas.Result.{on_ok_weaker}
 use Rattle.session_seat.specs.declared.book.Journal.{Journal}
 use Rattle.session_seat.specs.Policy.{policy_in}
 use Rattle.session_seat.specs.Shared.{shared_of}
-use Rattle.session_player.specs.Journals.{Went, state_of}
+use Rattle.session_player.specs.Journals.{IsPut, Went, state_of}
+use Rattle.session_player.specs.Speaking.{board_of}
+use Rattle.session_player.proofs.Parts.{end_rounds}
 use Rattle.session_player.proofs.Going.{layout_there, on_ok_always, went_behind, went_kept}
 use Rattle.session_player.proofs.Telling.{grew_on}
 use Rattle.session_player.proofs.player.play_end.Goals as goal
@@ -33,3 +36,29 @@ returns-clause-went g c = λ layout is.
 pub returns-clause-put : goal.returns-clause-put
 returns-clause-put g c =
     on_ok_weaker c.put_journal.result (λ put. (g.O.Sink.taken c.put_told.new.out, c.put_told.ensures.grows, put)) c.put_journal.ensures.put
+
+pub returns-clause-ends : goal.returns-clause-ends
+returns-clause-ends g c = λ layout is.
+    let had = g.O.Sink.taken in
+    let tables = c.args.setting.tables.now in
+    let config = c.args.setting.config.now in
+    let policy = policy_in config in
+    let old = shared_of g.B.Backend.meaning c.args.world.now.gate.state c.args.world.now.tables c.args.world.now.count c.args.world.now.shelf.items in
+    let new = shared_of g.B.Backend.meaning c.rounds.new.world.gate.state c.rounds.new.world.tables c.rounds.new.world.count c.rounds.new.world.shelf.items in
+    let scene = c.args.scene.now in
+    let freed = c.end_all.new.seats in
+    let used = c.at_moment-last.result in
+    let there = layout_there config used.config.now tables used.tables.now layout c.at_moment-last.ensures.config c.at_moment-last.ensures.tables is in
+    let rounds = end_rounds tables used.tables.now config used.config.now layout old new scene.moment used.moment scene.seats.slots.items freed.slots.items c.rounds.new.seats.slots.items scene.book c.rounds.new.book
+    c.at_moment-last.ensures.tables c.at_moment-last.ensures.config (c.at_moment-last.ensures.moment ∙ to_z-of_z w64 scene.moment (search rules)) (c.end_all.ensures.machines policy) (c.end_all.ensures.standings layout) c.end_all.ensures.hearers (c.in_ok-rounds.ensures.speaks layout there) in
+    let last = board_of policy layout new c.rounds.new.seats.slots.items c.rounds.new.book in
+    on_ok_weaker c.put_journal.result
+    (λ put. (
+      rounds.0,
+      last,
+      had c.put_told.new.out,
+      record { rounds = rounds.1; wrote = c.in_ok-put_told.ensures.all },
+      subst (λ (j : Journal). IsPut config tables j (had c.put_told.new.out) (had c.put_journal.new.out)) c.put_told.ensures.journal put,
+      refl,
+    ))
+    c.put_journal.ensures.put

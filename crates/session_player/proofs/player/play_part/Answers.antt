@@ -7,6 +7,8 @@ use Rattle.session_player.proofs.Going.{on_ok_always}
 use Rattle.pgproto.specs.Line.{line_of}
 use Rattle.std.proofs.lemmas.Result.{on_ok_weaker}
 use Rattle.session_player.proofs.Telling.{grew_on, part_of}
+use Rattle.session_player.specs.Transcript.{scene_of}
+use Rattle.session_player.proofs.Parts.{on_ok_both, told_part}
 use Rattle.session_player.proofs.player.play_part.Goals as goal
 
 pub returns-clause-part : goal.returns-clause-part
@@ -30,3 +32,23 @@ returns-clause-went g c = λ layout is.
     on_ok_always c.put_told.result
     (subst (λ (j : Journal). Went c.args.setting.tables.now (state_of policy layout old scene.seats.slots.items) scene.book.journal (state_of policy layout new played.seats.slots.items) j)
     (sym c.put_told.ensures.journal) (c.in_ok-play_line.ensures.went layout is))
+
+pub returns-clause-told : goal.returns-clause-told
+returns-clause-told g c = λ layout is.
+    let had = g.O.Sink.taken in
+    let config = c.args.setting.config.now in
+    let policy = policy_in config in
+    let old = shared_of g.B.Backend.meaning c.args.world.now.gate.state c.args.world.now.tables c.args.world.now.count c.args.world.now.shelf.items in
+    let new = shared_of g.B.Backend.meaning c.play_line.new.world.gate.state c.play_line.new.world.tables c.play_line.new.world.count c.play_line.new.world.shelf.items in
+    let scene = c.args.scene.now in
+    let played = c.play_line.new.scene in
+    let last = scene_of policy layout new played.moment played.seats.slots.items played.book in
+    let book = c.put_told.new.book in
+    on_ok_weaker c.put_told.result
+    (λ wrote. told_part c.args.setting.tables.now config.nodes config.children c.args.world.now.count (line_of c.args.line.now) (scene_of policy layout old scene.moment scene.seats.slots.items scene.book) last
+    (scene_of policy layout new played.moment played.seats.slots.items book) (had c.args.out.now) (had c.put_echo.new.out) (had c.put_told.new.out) (c.in_ok-play_line.ensures.part layout is) c.in_ok-put_echo.ensures.all wrote.0
+    (λ i. record {
+      moment = played.moment;
+      board = record { state = last.board.state; hearers = last.board.hearers; journal = c.put_told.ensures.journal i; lines = wrote.1 i };
+    }))
+    (on_ok_both _ _ c.put_told.result c.put_told.ensures.all c.put_told.ensures.emptied)

@@ -1,4 +1,5 @@
-use Rattle.std.proofs.Common.{refl, ◌∙◌, subst}
+use Rattle.std.proofs.Common.{refl, ◌∙◌, subst, rules}
+use Rattle.std.specs.Prelude.{Some}
 use Rattle.session_engine.specs.Cores.{machine_in}
 use Rattle.session_seat.specs.Policy.{policy_in}
 use Rattle.session_seat.specs.Shared.{shared_of}
@@ -6,6 +7,9 @@ use Rattle.recovery_seat.specs.Places.{standing_of}
 use Rattle.recovery_seat.specs.Steps.{at}
 use Rattle.session_player.specs.Turns.{EndsBehind}
 use Rattle.session_player.proofs.Going.{closed_behind, goes_more, goes_none, is_layout, layout_of, taken_whole}
+use Rattle.session_seat.specs.Speech.{speech}
+use Rattle.session_player.specs.Speaking.{hearer_of, left_at, spot}
+use Rattle.session_player.proofs.Speaking.{alone_more, alone_none, left_behind, left_on}
 use Rattle.session_player.proofs.round.take_steps.Goals as goal
 
 pub steps-init : goal.steps-init
@@ -13,9 +17,13 @@ steps-init g c =
     let old = shared_of g.B.Backend.meaning c.args.world.now.gate.state c.args.world.now.tables c.args.world.now.count c.args.world.now.shelf.items in
     record {
       goes = λ layout is. goes_none c.args.setting.tables.now c.args.place.now.seat.s c.args.others.bits (at old (machine_in c.args.place.now.seat.core) (standing_of layout c.args.place.now) c.args.book.now.journal);
+      speaks = λ layout is.
+          let place = c.args.place.now in
+          alone_none c.args.setting.tables.now c.args.setting.moment c.args.setting.config.now.nodes place.seat.s c.args.others.bits (at old (machine_in place.seat.core) (standing_of layout place) c.args.book.now.journal) (Some (hearer_of place.seat)) c.args.book.now.lines;
       same = refl;
       turn = refl;
       tables = refl;
+      count = refl;
       boxes = refl;
     }
 
@@ -31,9 +39,21 @@ steps-preserved g c =
           (at mid (machine_in c.steps.place.seat.core) (standing_of layout c.steps.place) c.steps.book.journal)
           (at new (machine_in c.take_step.new.place.seat.core) (standing_of layout c.take_step.new.place) c.take_step.new.book.journal)
           c.in_ok-did.did c.steps.invariant.same (c.steps.invariant.goes layout is) (c.in_ok-did.ensures.noted layout is);
+      speaks = λ layout is.
+          let first = c.args.place.now in
+          let place = c.steps.place in
+          let last = c.take_step.new.place in
+          let lines = c.take_step.new.book.lines in
+          alone_more c.args.setting.tables.now c.args.setting.moment c.args.setting.config.now.nodes (policy_in c.args.setting.config.now) layout first.seat.s place.seat.s c.args.others.bits
+          (spot (at old (machine_in first.seat.core) (standing_of layout first) c.args.book.now.journal) (Some (hearer_of first.seat)) c.args.book.now.lines)
+          (at mid (machine_in place.seat.core) (standing_of layout place) c.steps.book.journal)
+          (at new (machine_in last.seat.core) (standing_of layout last) c.take_step.new.book.journal)
+          (speech place.seat c.steps.book.lines) (speech last.seat lines) c.in_ok-did.did (Some (hearer_of last.seat)) c.steps.invariant.same
+          (left_on c.args.until c.in_ok-did.did (hearer_of last.seat) (subst (EndsBehind c.args.until c.in_ok-did.did) (search rules) c.end_behind.ensures)) (c.steps.invariant.speaks layout is) (c.in_ok-did.ensures.speaks layout is);
       same = c.take_step.ensures.s ∙ c.steps.invariant.same;
       turn = c.take_step.ensures.turn ∙ c.steps.invariant.turn;
       tables = c.take_step.ensures.tables ∙ c.steps.invariant.tables;
+      count = c.take_step.ensures.count ∙ c.steps.invariant.count;
       boxes = c.take_step.ensures.boxes ∙ c.steps.invariant.boxes;
     }
 
@@ -68,3 +88,18 @@ returns-in-Some-clause-closed g c = λ closed.
     closed_behind tables (policy_in config) layout c.steps.place.seat.s c.args.place.now.seat.s c.args.others.bits (at mid (machine_in c.steps.place.seat.core) (standing_of layout c.steps.place) c.steps.book.journal)
     (at new (machine_in c.take_step.new.place.seat.core) (standing_of layout c.take_step.new.place) c.take_step.new.book.journal) c.args.until c.in_ok-did.did c.in-Some.end
     (c.in_ok-did.ensures.noted layout (is_layout config tables c.requires.allowed)) (subst (EndsBehind c.args.until c.in_ok-did.did) c.in-Some.is c.end_behind.ensures) closed c.steps.invariant.same
+
+pub returns-in-Some-clause-speaks : goal.returns-in-Some-clause-speaks
+returns-in-Some-clause-speaks g c = λ layout is.
+    let old = shared_of g.B.Backend.meaning c.args.world.now.gate.state c.args.world.now.tables c.args.world.now.count c.args.world.now.shelf.items in
+    let mid = shared_of g.B.Backend.meaning c.steps.world.gate.state c.steps.world.tables c.steps.world.count c.steps.world.shelf.items in
+    let new = shared_of g.B.Backend.meaning c.take_step.new.world.gate.state c.take_step.new.world.tables c.take_step.new.world.count c.take_step.new.world.shelf.items in
+    let first = c.args.place.now in
+    let place = c.steps.place in
+    let last = c.take_step.new.place in
+    alone_more c.args.setting.tables.now c.args.setting.moment c.args.setting.config.now.nodes (policy_in c.args.setting.config.now) layout first.seat.s place.seat.s c.args.others.bits
+    (spot (at old (machine_in first.seat.core) (standing_of layout first) c.args.book.now.journal) (Some (hearer_of first.seat)) c.args.book.now.lines)
+    (at mid (machine_in place.seat.core) (standing_of layout place) c.steps.book.journal)
+    (at new (machine_in last.seat.core) (standing_of layout last) c.take_step.new.book.journal)
+    (speech place.seat c.steps.book.lines) (speech last.seat c.take_step.new.book.lines) c.in_ok-did.did (left_at c.in-Some.end (hearer_of last.seat)) c.steps.invariant.same
+    (left_behind c.args.until c.in_ok-did.did c.in-Some.end (hearer_of last.seat) (subst (EndsBehind c.args.until c.in_ok-did.did) c.in-Some.is c.end_behind.ensures)) (c.steps.invariant.speaks layout is) (c.in_ok-did.ensures.speaks layout is)
