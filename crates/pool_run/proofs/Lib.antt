@@ -11,3 +11,4 @@ pub mod DrawingLemmas
 pub mod ServingLemmas
 pub mod PlayedOut
 pub mod OneStore
+pub mod Replying

@@ -20,7 +20,7 @@ use Rattle.pool_run.specs.Ends.{Outside, RefusedEnds, UnreadEnds, UnbuiltEnds, S
 use Rattle.pool_run.specs.Ends.{RestEnds, schema_unread, schema_read, ConfigEnds, configured, faulty, unparsed, CommandEnds, unread, long, read, WordsEnd, Returns, config_too_long, fault_line}
 
 -- the statuses of a script that was played to its end
-abbrev IsPlayed : Status → Type 0
+abbrev pub IsPlayed : Status → Type 0
 IsPlayed Done = Unit {0}
 IsPlayed NoneLeft = Unit {0}
 IsPlayed NoCommand = ⊥
@@ -32,7 +32,7 @@ IsPlayed NoMemory = ⊥
 IsPlayed NotBuilt = ⊥
 IsPlayed Stopped = ⊥
 
-is_played : (s : Status) → (code_of s ≡ 0) ⊎ (code_of s ≡ 6) → IsPlayed s
+pub is_played : (s : Status) → (code_of s ≡ 0) ⊎ (code_of s ≡ 6) → IsPlayed s
 is_played Done h = tt
 is_played NoneLeft h = tt
 is_played NoCommand (inl h) = cc
@@ -52,10 +52,10 @@ is_played NotBuilt (inr h) = cc
 is_played Stopped (inl h) = cc
 is_played Stopped (inr h) = cc
 
-no_memory : (s : Status) → IsPlayed s → s ≡ NoMemory → ⊥
+pub no_memory : (s : Status) → IsPlayed s → s ≡ NoMemory → ⊥
 no_memory s played is = subst IsPlayed is played
 
-not_refused : (wanted : Status) (bytes : List ℕ) (s : Status) (o : Outside) → IsPlayed s → RefusedEnds wanted bytes s o → ⊥
+pub not_refused : (wanted : Status) (bytes : List ℕ) (s : Status) (o : Outside) → IsPlayed s → RefusedEnds wanted bytes s o → ⊥
 not_refused wanted bytes Done o played e = e
 not_refused wanted bytes NoneLeft o played e = e
 not_refused wanted bytes NoCommand o played e = e
@@ -67,7 +67,7 @@ not_refused wanted bytes NoMemory o played e = played
 not_refused wanted bytes NotBuilt o played e = e
 not_refused wanted bytes Stopped o played e = e
 
-not_unread : (x y : ℕ) (s : Status) (o : Outside) → IsPlayed s → UnreadEnds x y s o → ⊥
+pub not_unread : (x y : ℕ) (s : Status) (o : Outside) → IsPlayed s → UnreadEnds x y s o → ⊥
 not_unread x y Done o played e = e
 not_unread x y NoneLeft o played e = e
 not_unread x y NoCommand o played e = e
@@ -79,7 +79,7 @@ not_unread x y NoMemory o played e = played
 not_unread x y NotBuilt o played e = e
 not_unread x y Stopped o played e = e
 
-not_unbuilt : (s : Status) (o : Outside) → IsPlayed s → UnbuiltEnds s o → ⊥
+pub not_unbuilt : (s : Status) (o : Outside) → IsPlayed s → UnbuiltEnds s o → ⊥
 not_unbuilt Done o played e = e
 not_unbuilt NoneLeft o played e = e
 not_unbuilt NoCommand o played e = e

@@ -1,5 +1,5 @@
 -- How a script of sessions ends.
-use Rattle.std.proofs.Common.{◌≡◌, ℕ, Bool, true, List, [], ◌∷◌, ◌++◌, length, map, get_or, inl, inr, refl, sym, ◌∙◌, subst, ap}
+use Rattle.std.proofs.Common.{◌≡◌, ℕ, pos, Bool, true, List, [], ◌∷◌, ◌++◌, length, map, get_or, inl, inr, refl, sym, ◌∙◌, subst, ap}
 use Rattle.std.specs.Prelude.{All, ◌⊎◌, Option, drop, take, if◌then◌else◌}
 use Rattle.std.proofs.lemmas.List.{take-append-drop}
 use Rattle.std.proofs.lemmas.List.Elements.{All-append}
@@ -16,6 +16,8 @@ use Rattle.session_seat.specs.declared.book.Journal.TheVariants.{On}
 use Rattle.online_recovery.specs.declared.layout.Layout.{Layout}
 use Rattle.recovery_seat.specs.Schedule.{Entry, IsSchedule, State, first_state, lines}
 use Rattle.session_player.specs.Journals.{IsJournaled, IsPut}
+use Rattle.session_player.specs.Transcript.{IsTranscript}
+use Rattle.pool_run.specs.Replies.{kept_at}
 use Rattle.journal.specs.Header.{IsHeader}
 use Rattle.journal_reader.specs.Runs.{IsRunOfOneStore}
 use Rattle.world_plays.specs.Following.{started}
@@ -84,3 +86,13 @@ first_of tables these count many shared same so_many first = subst (λ (n : ℕ)
 -- those of a shelf that are honest in front of some and behind them are all
 pub all_of : {X : Type 0} (P : X → Type 0) (n : ℕ) (xs : List X) → All P (take n xs) → All P (drop n xs) → All P xs
 all_of P n xs front back = subst (All P) (take-append-drop n xs) (All-append P (take n xs) (drop n xs) front back)
+
+-- the transcript of the lines that the slice has, from where each backend of the configuration is attached
+pub transcript_at : (config : Config) (tables : List TableDef) (layout : Layout) (journal : Bool) (kept : Journal) (slice script : List ScriptLine) (count : ℕ) (first last : Shared) (old new : Option (List ℕ)) → slice ≡ script
+    → count ≡ length config.nodes → kept ≡ kept_at journal → (begins : IsFirst tables (length config.nodes) first) → IsTranscript config tables layout count (map line_of slice) (pos 0) kept first last old new
+    → IsTranscript config tables layout (length config.nodes) (map line_of script) (pos 0) (kept_at journal) (first_shared tables begins.attached) last old new
+transcript_at config tables layout journal kept slice script count first last old new same all is begins told =
+    subst (λ (shared : Shared). IsTranscript config tables layout (length config.nodes) (map line_of script) (pos 0) (kept_at journal) shared last old new) begins.is
+    (subst (λ (j : Journal). IsTranscript config tables layout (length config.nodes) (map line_of script) (pos 0) j first last old new) is
+    (subst (λ (n : ℕ). IsTranscript config tables layout n (map line_of script) (pos 0) kept first last old new) all
+    (subst (λ (ls : List ScriptLine). IsTranscript config tables layout count (map line_of ls) (pos 0) kept first last old new) same told)))

@@ -25,6 +25,7 @@ use Rattle.pool_run.specs.Schemas.{IsSchemaRead, SchemaCause, schema_too_long, b
 use Rattle.pool_run.specs.Scripts.{ScriptCause, Stands}
 use Rattle.pool_run.specs.Shelf.{HaveRows}
 use Rattle.pool_run.specs.Journals.{HasJournal}
+use Rattle.pool_run.specs.Replies.{IsReplied}
 use Rattle.pool_run.specs.Texts.{config_name, schema_name, IsRead, IsScriptRead, IsBuilt, IsSeveral, keeps_journal, line}
 
 abbrev pub no_command : List ℕ
@@ -129,9 +130,10 @@ abbrev pub Grows : Outside → Type 0
 Grows o = Grew o.had o.has
 
 -- a script of sessions was played to its end: each line has its echo, in order, and behind it what is told; behind all stands the journal, where
--- it is kept
+-- it is kept; and what is told is the transcript of a schedule of one store
 abbrev pub IsSpoken : Bool → Config → List TableDef → List Line → Outside → Type 0
-IsSpoken journal config tables lines o = AreSpoken lines o.had o.has × (journal ≡ true → HasJournal config tables lines o.had o.has)
+IsSpoken journal config tables lines o =
+    AreSpoken lines o.had o.has × (journal ≡ true → HasJournal config tables lines o.had o.has) × IsReplied config tables lines journal o.had o.has
 
 -- a script of sessions is played, with its journal or without; where a check inside the pool fails, the pool stops itself
 abbrev pub SeveralEnds : Bool → Config → List TableDef → List Line → Status → Outside → Type 0

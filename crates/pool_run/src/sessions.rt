@@ -4,6 +4,7 @@ ghost use Rattle.backend_trait.specs.Store.{Store};
 ghost use Rattle.pool_run.specs.declared.status.Status.TheVariants.{Done, NoneLeft};
 ghost use Rattle.pool_run.specs.Ends.{outside};
 ghost use Rattle.pool_run.specs.Plan.{IsSound, SessionsEnd};
+ghost use Rattle.pool_run.specs.Replies.{kept_at};
 ghost use Rattle.pool_run.specs.Shelf.{AreFresh, ArePrepared};
 ghost use Rattle.session_seat.specs.Shared.{IsFirst, shared_of};
 ghost use Rattle.session_seat.specs.declared.book.Journal.TheVariants.{On};
@@ -52,7 +53,8 @@ pub(crate) fn run_sessions<O: Sink, B: Backend>(
 
 /// The journal, where one is to be kept.
 fn journal_at(alloc: Global, is_kept: bool) -> Journal
-    ensures { is_kept ≡ true → result ≡ On [] }
+    ensures kept { is_kept ≡ true → result ≡ On [] }
+    ensures is { result ≡ kept_at is_kept }
 {
     if is_kept {
         Journal::On(List::new(alloc))
@@ -104,6 +106,7 @@ fn play_in<O: Sink, B: Backend>(
 ) -> Status
     requires sound { IsSound plan.now }
     requires tables { world.old.tables ≡ plan.now.catalogue }
+    requires count { world.old.count ≡ length plan.now.config.nodes }
     requires first { IsFirst plan.now.catalogue (length plan.now.config.nodes) (shared_of B.meaning
         world.old.gate.state world.old.tables world.old.count world.old.shelf.items) }
     ensures { (before after : Sequence Store) → SessionsEnd journal plan.now result

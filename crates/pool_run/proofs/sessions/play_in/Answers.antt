@@ -10,9 +10,11 @@ use Rattle.recovery_plays.specs.Following.{steps_of}
 use Rattle.recovery_seat.specs.Sessions.{sessions_in, sessions_of}
 use Rattle.world_plays.specs.Following.{events_of}
 use Rattle.pool_run.specs.Ends.{outside}
+use Rattle.session_player.specs.Speaking.{entries_of}
 use Rattle.pool_run.specs.Journals.{HasJournal}
+use Rattle.pool_run.specs.Replies.{IsReplied}
 use Rattle.session_player.proofs.Going.{is_layout, layout_of}
-use Rattle.pool_run.proofs.PlayedOut.{journal_of_lines, of_sessions, tables_in, played_out, put_alone, schedule_at_first}
+use Rattle.pool_run.proofs.PlayedOut.{journal_of_lines, of_sessions, tables_in, played_out, put_alone, schedule_at_first, transcript_at}
 use Rattle.pool_run.proofs.sessions.play_in.Goals as goal
 
 pub returns-in-Ok : goal.returns-in-Ok
@@ -35,7 +37,7 @@ returns-in-Ok g c before after =
     let last = state behind told.machines told.recoveries in
     let schedule = schedule_at_first config tables layout first told.entries last begins told.schedule in
     let kept : c.args.journal ≡ true → HasJournal config tables script had has = λ is.
-    let put = put_alone config tables c.journal_at.result (lines tables told.entries) told.transcript has (c.journal_at.ensures is) told.put in
+    let put = put_alone config tables c.journal_at.result (lines tables told.entries) told.transcript has (c.journal_at.ensures.kept is) told.put in
     record {
       transcript = told.transcript;
       spoken = told.played;
@@ -69,4 +71,32 @@ returns-in-Ok g c before after =
       };
       wrote = put.2;
     } in
-    played_out c.args.journal config tables script c.ended.result o c.ended.ensures (spoken, kept)
+    let there = transcript_at config tables layout c.args.journal c.journal_at.result c.as_slice-script.result.now plan.lines.script c.args.world.now.count first behind had has c.as_slice-script.ensures c.requires.count c.journal_at.ensures.is begins
+    (c.in-Ok.ensures.transcript layout of_layout) in
+    let entries = entries_of (there.happenings ++ there.at_end) in
+    let replied : IsReplied config tables script c.args.journal had has = record {
+      layout = layout;
+      of_layout = of_layout;
+      attached = begins.attached;
+      are_first = begins.are_first;
+      last = behind;
+      transcript = there;
+      one_run = record {
+        sessions_alone = λ alone header printed.
+            of_sessions config tables begins.attached entries (sessions_of entries) header (length (events_of (sessions_of entries))) begins.are_first printed
+            (c.without_recoveries.ensures.told tables entries alone)
+            (c.plays_are_runs.ensures tables (policy_in config) begins.attached (sessions_of entries) (sessions_in there.board.state) sound.allowed begins.few
+            (c.without_recoveries.ensures.plays tables (policy_in config) layout (first_shared tables begins.attached) entries there.board.state alone there.schedule));
+        with_recoveries = λ short.
+            let allowed = tables_in tables layout (λ ts. AreAllowed ts) of_layout.of_tables sound.allowed in
+            let within = tables_in tables layout (λ ts. length (lines ts entries) < 18446744073709551616) of_layout.of_tables short in
+            let plays = tables_in tables layout (λ ts. IsSchedule ts (first_state (policy_in config) layout (first_shared ts begins.attached)) entries there.board.state) of_layout.of_tables there.schedule in
+            let played = (c.plays_are_steps.ensures.steps (policy_in config) layout begins.attached entries there.board.state allowed begins.few within plays).0 in
+            record {
+              played = played;
+              all_hold = c.plays_are_steps.ensures.one_store (policy_in config) layout begins.attached entries there.board.state allowed begins.few within plays;
+              agree = c.replicas_agree.ensures layout (policy_in config) begins.attached (steps_of entries) allowed begins.few played;
+            };
+      };
+    } in
+    played_out c.args.journal config tables script c.ended.result o c.ended.ensures (spoken, kept, replied)

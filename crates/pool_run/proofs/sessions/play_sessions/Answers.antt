@@ -30,3 +30,9 @@ play_in-status-requires-clause-first g c =
     let only = only_put (is_ok c.push.result) c.new-worlds.result.items c.push.new.self.items c.new-world.result c.push.ensures.items put c.new-worlds.ensures.items in
     only_first (λ w. IsFirst plan.catalogue (length plan.config.nodes) (shared_of g.B.Backend.meaning w.gate.state w.tables w.count w.shelf.items)) c.push.new.self.items c.new-world.result c.index_mut.result.now
     c.index_mut.ensures.value only (first_of c.args.tables plan.catalogue c.len.result _ _ c.requires.same c.len.ensures c.new-world.ensures.first)
+
+pub play_in-status-requires-clause-count : goal.play_in-status-requires-clause-count
+play_in-status-requires-clause-count g c =
+    let put : is_ok c.push.result ≡ true = c.is_err.ensures.negation ∙ ap not c.if-is_err.false in
+    let only = only_put (is_ok c.push.result) c.new-worlds.result.items c.push.new.self.items c.new-world.result c.push.ensures.items put c.new-worlds.ensures.items in
+    only_first (λ w. w.count ≡ length c.args.plan.now.config.nodes) c.push.new.self.items c.new-world.result c.index_mut.result.now c.index_mut.ensures.value only (c.new-world.ensures.count ∙ c.len.ensures)

@@ -1,6 +1,7 @@
 use Rattle.pool_run.proofs.Numbers.{played, no_command_is, no_command_always, refused_is, refused_text, refuses, schema_refuses, files_rose, sink_rose}
 use Rattle.pool_run.proofs.ScriptNumbers.{script_refused_is, script_refused_text, script_refuses}
 use Rattle.pool_run.proofs.OneStore.{one_store}
+use Rattle.pool_run.proofs.Replying.{replies}
 use Rattle.pool_run.proofs.Touching.{untouched}
 use Rattle.pool_run.proofs.top.pool_run.Goals as goal
 
@@ -12,6 +13,9 @@ returns-clause-played g c = played _ _ _ _ _ _ c.run.ensures
 
 pub returns-clause-one_store : goal.returns-clause-one_store
 returns-clause-one_store g c = one_store _ _ _ _ _ _ c.run.ensures
+
+pub returns-clause-replies : goal.returns-clause-replies
+returns-clause-replies g c = replies _ _ _ _ _ _ c.run.ensures
 
 pub returns-clause-no_command : goal.returns-clause-no_command
 returns-clause-no_command g c = no_command_is _ _ _ _ _ _ c.run.ensures
