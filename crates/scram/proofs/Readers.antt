@@ -1,15 +1,12 @@
 -- What the readers answer, from what they found in a text.
 use Rattle.std.proofs.Common.{◌≡◌, ◌≢◌, ℕ, List, [], ◌∷◌, ◌++◌, sym, ap, ◌∙◌, subst, arith, codes, append_assoc, decimal, Option, None, Some, Result, Ok, Err, IfOk}
 use Rattle.std.proofs.lemmas.List.{append_cancel_left}
-use Rattle.base64.specs.GeneralPurpose.{IsBytes}
-use Rattle.scram.specs.declared.binding.Binding.{Binding}
-use Rattle.scram.specs.declared.binding.Binding.TheVariants.{Unable, Unoffered}
 use Rattle.scram.specs.declared.verifier.Verifier.{Verifier}
-use Rattle.scram.specs.Words.{IsName, IsNonce, IsRounds, Lacks, Reads, in_base64}
-use Rattle.scram.specs.Messages.{header_of, client_first_bare, IsClientFirst, challenge_of, Extends, IsServerFirst}
+use Rattle.scram.specs.Words.{IsName, IsNonce, Lacks, Reads, in_base64}
+use Rattle.scram.specs.Messages.{client_first_bare, challenge_of, IsServerFirst}
 use Rattle.scram.specs.Verifiers.{verifier_text, IsTextOf}
 use Rattle.scram.proofs.Coded.{base64_no_comma, base64_no_colon, base64_no_dollar, decimal_no_colon, nonce_no_comma, name_no_comma}
-use Rattle.scram.proofs.Parts.{bare_parts, bare_split, header_unique, challenge_parts, challenge_split, challenge_unique, field_unique, verifier_parts, verifier_split, verifier_unique}
+use Rattle.scram.proofs.Parts.{bare_parts, bare_split, challenge_split, challenge_unique, field_unique, verifier_parts, verifier_split, verifier_unique}
 
 -- ---- of what is read as one thing
 
@@ -22,11 +19,6 @@ ok_reads_through P Q (Ok r) to from h = reads_through P Q r to from h
 ok_reads_through P Q (Err e) to from h = tt
 
 -- ---- the client's first message
-
-pub no_header : (message : List ℕ) → ((rest : List ℕ) → message ≢ codes "n,," ++ rest) → ((rest : List ℕ) → message ≢ codes "y,," ++ rest)
-    → (binding : Binding) (rest : List ℕ) → message ≢ header_of binding ++ rest
-no_header message n y Unable rest = n rest
-no_header message n y Unoffered rest = y rest
 
 -- what is no first message without a header
 abbrev pub NoBare : List ℕ → Type 0
@@ -44,29 +36,11 @@ bare_not bare v rest w lacks is behind none user nonce name printable e =
     let same = append_cancel_left (codes "r=") w nonce (sym behind ∙ split.1) in
     none (subst IsName (sym split.0) name) (subst IsNonce (sym same) printable)
 
-pub bare_is : (bare v rest w : List ℕ) → bare ≡ codes "n=" ++ (v ++ 44 ∷ rest) → rest ≡ codes "r=" ++ w → bare ≡ client_first_bare v w
-bare_is bare v rest w is behind = is ∙ (ap (λ (r : List ℕ). codes "n=" ++ (v ++ 44 ∷ r)) behind ∙ sym (bare_parts v w))
-
--- what is no first message
-abbrev pub NoFirst : List ℕ → Type 0
-NoFirst message = (binding : Binding) (user nonce : List ℕ) → IsClientFirst message binding user nonce → ⊥
-
-pub first_no_header : (message : List ℕ) → ((binding : Binding) (rest : List ℕ) → message ≢ header_of binding ++ rest) → NoFirst message
-first_no_header message none binding user nonce is = none binding (client_first_bare user nonce) is.2
-
-pub first_no_bare : (message rest : List ℕ) (binding : Binding) → message ≡ header_of binding ++ rest → NoBare rest → NoFirst message
-first_no_bare message rest binding is none other user nonce said =
-    let split = header_unique binding other rest (client_first_bare user nonce) (sym is ∙ said.2) in
-    none user nonce said.0 said.1 split.1
-
 -- ---- the server's first message
 
 -- what has no three texts
 abbrev pub NoTexts : List ℕ → Type 0
 NoTexts message = (nonce salt rounds : List ℕ) → Lacks 44 nonce → Lacks 44 salt → message ≢ challenge_of nonce salt rounds
-
-pub texts_no_nonce : (message : List ℕ) → ((value rest : List ℕ) → Lacks 44 value → message ≢ codes "r=" ++ (value ++ 44 ∷ rest)) → NoTexts message
-texts_no_nonce message none nonce salt rounds a b e = none nonce _ a (e ∙ challenge_parts nonce salt rounds)
 
 pub texts_no_salt : (message v rest : List ℕ) → Lacks 44 v → message ≡ codes "r=" ++ (v ++ 44 ∷ rest)
     → ((value behind : List ℕ) → Lacks 44 value → rest ≢ codes "s=" ++ (value ++ 44 ∷ behind)) → NoTexts message
@@ -79,11 +53,6 @@ texts_no_rounds message v rest w more lacks is also behind none nonce salt round
     let one = challenge_split message v rest nonce salt rounds lacks is a e in
     let two = field_unique 44 (codes "s=") w more salt (codes "i=" ++ rounds) also b (sym behind ∙ one.1) in
     none rounds two.1
-
-pub texts_are : (message v rest w more last : List ℕ) → message ≡ codes "r=" ++ (v ++ 44 ∷ rest) → rest ≡ codes "s=" ++ (w ++ 44 ∷ more) → more ≡ codes "i=" ++ last
-    → message ≡ challenge_of v w last
-texts_are message v rest w more last is behind end =
-    is ∙ (ap (λ (r : List ℕ). codes "r=" ++ (v ++ 44 ∷ r)) (behind ∙ ap (λ (r : List ℕ). codes "s=" ++ (w ++ 44 ∷ r)) end) ∙ sym (challenge_parts v w last))
 
 -- the texts of a message are those of its values
 pub record TextsAre (n s d nonce salt : List ℕ) (rounds : ℕ) : Type 0 where
@@ -100,16 +69,6 @@ texts_of_first own message n s d nonce salt rounds a b e is =
 pub first_no_texts : (own message nonce salt : List ℕ) (rounds : ℕ) → NoTexts message → IsServerFirst own message nonce salt rounds → ⊥
 first_no_texts own message nonce salt rounds none is =
     none nonce (in_base64 salt) (decimal rounds) (nonce_no_comma nonce is.printable) (base64_no_comma salt) is.is
-
-pub first_is : (own message n s d : List ℕ) (salt : List ℕ) (rounds : ℕ) → message ≡ challenge_of n s d → Extends own n → IsNonce n → IsBytes salt → s ≡ in_base64 salt
-    → IsRounds rounds → d ≡ decimal rounds → IsServerFirst own message n salt rounds
-first_is own message n s d salt rounds e longer printable bytes salt_is range rounds_are = record {
-  extends = longer;
-  printable = printable;
-  bytes = bytes;
-  range = range;
-  is = e ∙ (ap (λ (x : List ℕ). challenge_of n x d) salt_is ∙ ap (λ (x : List ℕ). challenge_of n (in_base64 salt) x) rounds_are);
-}
 
 -- ---- the last messages
 
@@ -147,11 +106,6 @@ verifier_no_stored text v rest w more lacks is also behind none rounds salt stor
     let one = verifier_split text v rest rounds salt stored server lacks is a e in
     let two = field_unique 36 [] w more salt (stored ++ 58 ∷ server) also b (sym behind ∙ one.1) in
     none stored server c two.1
-
-pub verifier_is : (text v rest w more x last : List ℕ) → text ≡ codes "SCRAM-SHA-256$" ++ (v ++ 58 ∷ rest) → rest ≡ w ++ 36 ∷ more → more ≡ x ++ 58 ∷ last
-    → text ≡ verifier_text v w x last
-verifier_is text v rest w more x last is behind end =
-    is ∙ (ap (λ (r : List ℕ). codes "SCRAM-SHA-256$" ++ (v ++ 58 ∷ r)) (behind ∙ ap (λ (r : List ℕ). w ++ 36 ∷ r) end) ∙ sym (verifier_parts v w x last))
 
 -- the texts of a verifier are those of its values
 pub record ValuesAre (rounds salt stored server : List ℕ) (verifier : Verifier) : Type 0 where
