@@ -10,3 +10,4 @@ pub mod SideLemmas
 pub mod ServerLemmas
 pub mod StartLemmas
 pub mod CallLemmas
+pub mod LoginLemmas

@@ -1,18 +1,19 @@
 -- Bodies of a server's messages: what is read is what is spelled, and what is spelled is read.
-use Rattle.std.proofs.Common.{◌≡◌, ℕ, ℤ, ◌+◌, ◌^◌, ◌<◌, ◌≤◌, true, eqb, List, [], ◌∷◌, length, Option, Some, None, refl, sym, ap, subst, ◌∙◌, arith, inl, inr}
+use Rattle.std.proofs.Common.{◌≡◌, ℕ, ℤ, ◌+◌, ◌^◌, ◌<◌, ◌≤◌, true, eqb, List, [], ◌∷◌, ◌++◌, length, Option, Some, None, refl, sym, ap, ap₂, subst, lit<, bytes_eq, ◌∙◌, arith, inl, inr}
 use Rattle.std.specs.Prelude.{All, ◌||◌}
 use Rattle.std.specs.Int.{w32}
 use Rattle.std.specs.Int.RustNames.{FitsSigned}
 use Rattle.std.proofs.lemmas.Bool.{eqb-true, eq-eqb}
+use Rattle.std.proofs.lemmas.Slice.Eq.{bytes_eq-Decides}
 use Rattle.pg_messages.specs.declared.server.Field.{Field}
 use Rattle.pg_messages.specs.declared.server.Part.{Part}
 use Rattle.pg_messages.specs.declared.server.ServerMessage.{ServerMessage}
-use Rattle.pg_messages.specs.declared.server.ServerMessage.TheVariants.{AuthOk, ParameterStatus, BackendKey, Ready, RowDescription, DataRow, Complete, Error, Notice, ParameterDescription, Empty, ParseComplete, BindComplete, CloseComplete, NoData, Suspended}
+use Rattle.pg_messages.specs.declared.server.ServerMessage.TheVariants.{AuthOk, AuthSasl, AuthContinue, AuthFinal, ParameterStatus, BackendKey, Ready, RowDescription, DataRow, Complete, Error, Notice, ParameterDescription, Empty, ParseComplete, BindComplete, CloseComplete, NoData, Suspended}
 use Rattle.pg_messages.specs.Fields.{int32, signed32, string, counted, zero_ended, value, field, part, IsCountable, AreBytes, FieldFits, PartFits, ValueInRange, ValueFits, FieldInRange, PartInRange}
-use Rattle.pg_messages.specs.Server.{tag_of, body_of, IsClean, InRange, IsStatus, IsServerType}
+use Rattle.pg_messages.specs.Server.{sasl_names, tag_of, body_of, IsClean, InRange, IsStatus, IsServerType}
 use Rattle.pg_messages.specs.Reading.{◌>>=◌, signed_at, whole}
-use Rattle.pg_messages.specs.Bodies.{auth_in, status_in, key_in, ready_in, columns_in, row_in, complete_in, error_in, notice_in, kinds_in, is_server_type, server_in}
-use Rattle.pg_messages.proofs.FieldLemmas.{chosen, IsText, IsValue, number32, number32_signed, string_field, value_field}
+use Rattle.pg_messages.specs.Bodies.{sasl_in, auth_in, status_in, key_in, ready_in, columns_in, row_in, complete_in, error_in, notice_in, kinds_in, is_server_type, server_in}
+use Rattle.pg_messages.proofs.FieldLemmas.{chosen, some_is, IsText, IsValue, number32, number32_signed, string_field, value_field}
 use Rattle.pg_messages.proofs.EntryLemmas.{step, then_some, if_true, IsPart, IsColumn, column_field, part_field, part_leads, counted_field, zero_ended_field}
 use Rattle.pg_messages.proofs.BodyLemmas.{whole_is, at_end, one, two, both, each, or_to, or_from}
 use Rattle.pg_messages.proofs.Lengths.{counted_fit}
@@ -24,15 +25,37 @@ pub record IsBodyOf (tag : ℕ) (body : List ℕ) (m : ServerMessage) : Type 0 w
   pub clean : IsClean m
   pub in_range : InRange m
 
+-- the names of the ways in which a password may be shown
+sasl_takes : (names : List ℕ) (m : ServerMessage) → sasl_in names ≡ Some m → (names ≡ sasl_names) × (AuthSasl ≡ m)
+unfolding sasl_in
+sasl_takes names m e =
+    elim (chosen (bytes_eq names sasl_names) (Some AuthSasl) None (Some m) e) [
+      | inl h ↦ ((bytes_eq-Decides names sasl_names).0 h.0, some_is AuthSasl m h.1)
+      | inr h ↦ let wrong = h.1 in absurd cc
+    ]
+
 auth_takes : (body : List ℕ) (m : ServerMessage) → AreBytes body → auth_in body ≡ Some m → IsBodyOf 82 body m
 unfolding auth_in
 auth_takes body m fits e =
     let a = step number32 body _ m fits e in
-    elim (chosen (eqb a.value 0) (whole (AuthOk, a.rest)) None (Some m) a.next) [
+    elim (chosen (eqb a.value 0) _ _ (Some m) a.next) [
       | inl h ↦
           let w = whole_is AuthOk a.rest m h.1 in
           subst (IsBodyOf 82 body) w.1 (record { type = refl; body_is = one body (int32 a.value) a.rest a.parts w.0 ∙ ap int32 (eqb-true _ _ h.0); clean = tt; in_range = tt })
-      | inr h ↦ let wrong = h.1 in absurd cc
+      | inr h ↦ elim (chosen (eqb a.value 10) _ _ (Some m) h.1) [
+        | inl k ↦
+            let w = sasl_takes a.rest m k.1 in
+            subst (IsBodyOf 82 body) w.1 (record { type = refl; body_is = a.parts ∙ ap₂ (λ (n : ℕ) (r : List ℕ). int32 n ++ r) (eqb-true _ _ k.0) w.0; clean = tt; in_range = tt })
+        | inr k ↦ elim (chosen (eqb a.value 11) _ _ (Some m) k.1) [
+          | inl i ↦
+              subst (IsBodyOf 82 body) (some_is (AuthContinue a.rest) m i.1) (record { type = refl; body_is = a.parts ∙ ap (λ (n : ℕ). int32 n ++ a.rest) (eqb-true _ _ i.0); clean = tt; in_range = a.rest_fits })
+          | inr i ↦ elim (chosen (eqb a.value 12) _ _ (Some m) i.1) [
+            | inl j ↦
+                subst (IsBodyOf 82 body) (some_is (AuthFinal a.rest) m j.1) (record { type = refl; body_is = a.parts ∙ ap (λ (n : ℕ). int32 n ++ a.rest) (eqb-true _ _ j.0); clean = tt; in_range = a.rest_fits })
+            | inr j ↦ let wrong = j.1 in absurd cc
+          ]
+        ]
+      ]
     ]
 
 status_takes : (body : List ℕ) (m : ServerMessage) → AreBytes body → status_in body ≡ Some m → IsBodyOf 83 body m
@@ -143,6 +166,9 @@ typed_is tag = or_from _ _ (eq-eqb tag 82) (or_from _ _ (eq-eqb tag 83) (or_from
 
 pub has_type : (m : ServerMessage) → is_server_type (tag_of m) ≡ true
 has_type AuthOk = refl
+has_type AuthSasl = refl
+has_type (AuthContinue body) = refl
+has_type (AuthFinal body) = refl
 has_type (ParameterStatus name setting) = refl
 has_type (BackendKey process secret) = refl
 has_type (Ready status) = refl
@@ -192,6 +218,18 @@ auth_again : auth_in (body_of AuthOk) ≡ Some AuthOk
 unfolding auth_in
 auth_again = refl
 
+sasl_again : auth_in (body_of AuthSasl) ≡ Some AuthSasl
+unfolding auth_in sasl_in
+sasl_again = refl
+
+continue_again : (body : List ℕ) → auth_in (body_of (AuthContinue body)) ≡ Some (AuthContinue body)
+unfolding auth_in
+continue_again body = then_some (number32.again 11 body (lit< tt)) _
+
+final_again : (body : List ℕ) → auth_in (body_of (AuthFinal body)) ≡ Some (AuthFinal body)
+unfolding auth_in
+final_again body = then_some (number32.again 12 body (lit< tt)) _
+
 status_again : (name setting : List ℕ) → IsText name → IsText setting → status_in (body_of (ParameterStatus name setting)) ≡ Some (ParameterStatus name setting)
 unfolding status_in
 status_again name setting is also = then_some (string_field.again name (string setting) is) _ ∙ then_some (at_end string_field setting also) _
@@ -233,6 +271,9 @@ kinds_again kinds few range = then_some (at_end (counted_field number32) kinds (
 pub server_again : (m : ServerMessage) → IsClean m → InRange m → length (body_of m) + 4 ≤ 1048576 → server_in (tag_of m) (body_of m) ≡ Some m
 unfolding server_in
 server_again AuthOk clean range short = auth_again
+server_again AuthSasl clean range short = sasl_again
+server_again (AuthContinue body) clean range short = continue_again body
+server_again (AuthFinal body) clean range short = final_again body
 server_again (ParameterStatus name setting) clean range short = status_again name setting (clean.0, range.0) (clean.1, range.1)
 server_again (BackendKey process secret) clean range short = key_again process secret range.0 range.1
 server_again (Ready status) clean range short = ready_again status clean

@@ -1,5 +1,5 @@
 -- Reading bodies: the message that a type and a body spell, if they spell one.
-use Rattle.std.specs.Prelude.{ℕ, List, [], ◌∷◌, Option, Some, None, Bool, ◌==◌, ◌||◌, if◌then◌else◌}
+use Rattle.std.specs.Prelude.{ℕ, List, [], ◌∷◌, Option, Some, None, Bool, ◌==◌, ◌||◌, if◌then◌else◌, bytes_eq}
 use Rattle.std.specs.Int.{w16, w32}
 use Rattle.pg_messages.specs.declared.client.ClientMessage.{ClientMessage}
 use Rattle.pg_messages.specs.declared.client.ClientMessage.TheVariants as client
@@ -7,6 +7,7 @@ use Rattle.pg_messages.specs.declared.server.ServerMessage.{ServerMessage}
 use Rattle.pg_messages.specs.declared.server.ServerMessage.TheVariants as server
 use Rattle.pg_messages.specs.declared.start.StartMessage.{StartMessage}
 use Rattle.pg_messages.specs.declared.start.StartMessage.TheVariants as start
+use Rattle.pg_messages.specs.Server.{sasl_names}
 use Rattle.pg_messages.specs.Reading.{◌>>=◌, number_at, signed_at, string_at, value_at, field_at, part_at, pair_at, target_at, counted_at, zero_ended_at, whole}
 
 -- ---- a client's
@@ -71,10 +72,17 @@ client_in tag bytes =
 
 -- ---- a server's
 
+unfoldable pub sasl_in : List ℕ → Option ServerMessage
+sasl_in bytes = if bytes_eq bytes sasl_names then Some server.AuthSasl else None
+
 unfoldable pub auth_in : List ℕ → Option ServerMessage
 auth_in bytes = do
   n ← number_at w32 bytes
-  if n.0 == 0 then whole (server.AuthOk, n.1) else None
+  if n.0 == 0 then whole (server.AuthOk, n.1)
+      else if n.0 == 10 then sasl_in n.1
+      else if n.0 == 11 then Some (server.AuthContinue n.1)
+      else if n.0 == 12 then Some (server.AuthFinal n.1)
+      else None
 
 unfoldable pub status_in : List ℕ → Option ServerMessage
 status_in bytes = do

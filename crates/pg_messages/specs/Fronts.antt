@@ -8,6 +8,7 @@ use Rattle.pg_messages.specs.declared.server.ServerMessage.{ServerMessage}
 use Rattle.pg_messages.specs.declared.start.StartMessage.{StartMessage}
 use Rattle.pg_messages.specs.declared.frame.Layout.{Layout}
 use Rattle.pg_messages.specs.Frame.{message_layout, start_layout}
+use Rattle.pg_messages.specs.Login.{is_login_type, login_in}
 use Rattle.pg_messages.specs.Bodies.{is_client_type, client_in, is_server_type, server_in, start_in}
 
 -- with the length n read, and the bytes behind it: the body
@@ -42,6 +43,9 @@ client_front bytes = typed is_client_type client_in bytes
 
 unfoldable pub server_front : List ℕ → Read ServerMessage
 server_front bytes = typed is_server_type server_in bytes
+
+unfoldable pub login_front : List ℕ → Read (List ℕ)
+login_front bytes = typed is_login_type login_in bytes
 
 unfoldable pub start_front : List ℕ → Read StartMessage
 start_front bytes = opened start_layout start_in (frame_at start_layout bytes)

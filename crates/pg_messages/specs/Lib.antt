@@ -5,6 +5,7 @@ pub mod Server
 pub mod Start
 pub mod Reading
 pub mod Bodies
+pub mod Login
 pub mod Fronts
 pub mod Calls
 pub mod Kept

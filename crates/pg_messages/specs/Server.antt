@@ -1,15 +1,18 @@
 -- The messages of a server as bytes.
-use Rattle.std.specs.Prelude.{◌≡◌, ℕ, ◌+◌, ◌<◌, ◌≤◌, ◌^◌, ◌⊎◌, List, [], ◌∷◌, ◌++◌, length, All}
+use Rattle.std.specs.Prelude.{◌≡◌, ℕ, ◌+◌, ◌<◌, ◌≤◌, ◌^◌, ◌⊎◌, List, [], ◌∷◌, ◌++◌, length, All, codes}
 use Rattle.std.specs.Int.{w32}
 use Rattle.std.specs.Int.RustNames.{FitsSigned}
 use Rattle.pg_messages.specs.declared.server.ServerMessage.{ServerMessage}
-use Rattle.pg_messages.specs.declared.server.ServerMessage.TheVariants.{AuthOk, ParameterStatus, BackendKey, Ready, RowDescription, DataRow, Complete, Error, Notice, ParameterDescription, Empty, ParseComplete, BindComplete, CloseComplete, NoData, Suspended}
+use Rattle.pg_messages.specs.declared.server.ServerMessage.TheVariants.{AuthOk, AuthSasl, AuthContinue, AuthFinal, ParameterStatus, BackendKey, Ready, RowDescription, DataRow, Complete, Error, Notice, ParameterDescription, Empty, ParseComplete, BindComplete, CloseComplete, NoData, Suspended}
 use Rattle.pg_messages.specs.Fields.{int32, signed32, string, counted, zero_ended, value, field, part, IsString, IsCountable, FieldFits, PartFits, AreBytes, ValueInRange, FieldInRange, PartInRange}
 use Rattle.pg_messages.specs.Frame.{framed}
 
 -- the type: R, S, K, Z, T, D, C, E, N, t, I, 1, 2, 3, n or s
 abbrev pub tag_of : ServerMessage → ℕ
 tag_of AuthOk = 82
+tag_of AuthSasl = 82
+tag_of (AuthContinue body) = 82
+tag_of (AuthFinal body) = 82
 tag_of (ParameterStatus name value) = 83
 tag_of (BackendKey process secret) = 75
 tag_of (Ready status) = 90
@@ -26,8 +29,15 @@ tag_of CloseComplete = 51
 tag_of NoData = 110
 tag_of Suspended = 115
 
+-- the names of the ways in which a password may be shown: one, and the zero byte that ends the list
+abbrev pub sasl_names : List ℕ
+sasl_names = codes "SCRAM-SHA-256" ++ 0 ∷ 0 ∷ []
+
 abbrev pub body_of : ServerMessage → List ℕ
 body_of AuthOk = int32 0
+body_of AuthSasl = int32 10 ++ sasl_names
+body_of (AuthContinue body) = int32 11 ++ body
+body_of (AuthFinal body) = int32 12 ++ body
 body_of (ParameterStatus name setting) = string name ++ string setting
 body_of (BackendKey process secret) = signed32 process ++ signed32 secret
 body_of (Ready status) = status ∷ []
@@ -55,6 +65,9 @@ IsStatus status = (status ≡ 73) ⊎ ((status ≡ 84) ⊎ (status ≡ 69))
 -- strings hold no zero byte, each list behind a count can be counted, a status is one, and no part has the tag 0
 abbrev pub IsClean : ServerMessage → Type 0
 IsClean AuthOk = Unit {0}
+IsClean AuthSasl = Unit {0}
+IsClean (AuthContinue body) = Unit {0}
+IsClean (AuthFinal body) = Unit {0}
 IsClean (ParameterStatus name setting) = IsString name × IsString setting
 IsClean (BackendKey process secret) = Unit {0}
 IsClean (Ready status) = IsStatus status
@@ -84,6 +97,9 @@ Fits m = IsClean m × HasFewParts m × (length (body_of m) + 4 ≤ 1048576)
 -- the numbers are of their types
 abbrev pub InRange : ServerMessage → Type 0
 InRange AuthOk = Unit {0}
+InRange AuthSasl = Unit {0}
+InRange (AuthContinue body) = AreBytes body
+InRange (AuthFinal body) = AreBytes body
 InRange (ParameterStatus name setting) = AreBytes name × AreBytes setting
 InRange (BackendKey process secret) = FitsSigned w32 process × FitsSigned w32 secret
 InRange (Ready status) = Unit {0}

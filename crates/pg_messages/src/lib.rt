@@ -11,6 +11,7 @@ mod field_fault;
 mod fields;
 mod frame;
 mod laws;
+mod login;
 mod read;
 mod server;
 mod server_reading;
@@ -28,6 +29,7 @@ pub use laws::{
     beginnings_need_more, fronts_stay, no_form_begins_another, read_is_spelled, spelled_is_read,
     written_is_a_form,
 };
+pub use login::{login_fits, read_login, write_login};
 pub use read::Read;
 pub use server::{Field, Part, ServerMessage};
 pub use server_reading::read_server;

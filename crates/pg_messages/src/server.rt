@@ -2,12 +2,22 @@
 
 use pool_base::List;
 
+/// The ways in which a password may be shown, each behind the other with a zero byte, and a zero
+/// byte at the end.
+pub const SASL_NAMES: &[u8] = b"SCRAM-SHA-256\0\0";
+
 /// A message of a server.
 ///
 /// Source: PostgreSQL, Frontend/Backend Protocol, "Message Formats".
 #[derive(PartialEq, Eq, Drop)]
 pub enum ServerMessage {
     AuthOk,
+    /// A password is to be shown by SCRAM-SHA-256.
+    AuthSasl,
+    /// What the server says in such an exchange.
+    AuthContinue { body: List<u8> },
+    /// The last thing that it says there.
+    AuthFinal { body: List<u8> },
     ParameterStatus { name: List<u8>, value: List<u8> },
     BackendKey { process: i32, secret: i32 },
     /// `status` is `I` (idle), `T` (in a block) or `E` (in a failed block).

@@ -5,7 +5,7 @@ ghost use Rattle.pg_messages.specs.declared.read.Read.TheVariants.{Whole, More, 
 ghost use Rattle.pg_messages.specs.Frame.{message_layout, IsCut, IsBadAt, IsTooLong, BeginsWith};
 ghost use Rattle.pg_messages.specs.Server.{IsServerType, IsServerForm};
 ghost use Rattle.pg_messages.specs.Reading.{Gives};
-ghost use Rattle.pg_messages.specs.Bodies.{is_server_type, auth_in, status_in, key_in, ready_in, columns_in, row_in, complete_in, error_in, notice_in, kinds_in, server_in};
+ghost use Rattle.pg_messages.specs.Bodies.{is_server_type, sasl_in, auth_in, status_in, key_in, ready_in, columns_in, row_in, complete_in, error_in, notice_in, kinds_in, server_in};
 ghost use Rattle.pg_messages.specs.Fronts.{server_front};
 
 use crate::entries::{counted_of, zero_ended_of};
@@ -13,19 +13,39 @@ use crate::field_fault::FieldFault;
 use crate::fields::{i32_of, string_of, u32_of, whole_of};
 use crate::frame::{MESSAGE, frame_of, judged};
 use crate::read::Read;
-use crate::server::ServerMessage;
-use pool_base::NoMemory;
+use crate::server::{SASL_NAMES, ServerMessage};
+use pool_base::{List, NoMemory};
 use std::alloc::Global;
 
+/// The ways in which a password may be shown.
+#[tactic(auto, unfolding(crate::specs::Bodies::sasl_in))]
+fn sasl_of(names: &[u8]) -> Result<ServerMessage, FieldFault>
+    ensures { Gives (λ m. m) result (sasl_in names.now) }
+{
+    if names != SASL_NAMES {
+        return Err(FieldFault::Malformed);
+    }
+    Ok(ServerMessage::AuthSasl)
+}
+
 #[tactic(auto, unfolding(crate::specs::Bodies::auth_in))]
-fn auth_of(body: &[u8]) -> Result<ServerMessage, FieldFault>
+fn auth_of(alloc: Global, body: &[u8]) -> Result<ServerMessage, FieldFault>
     ensures { Gives (λ m. m) result (auth_in body.now) }
 {
     let (number, rest) = u32_of(body)?;
-    if number != 0 {
-        return Err(FieldFault::Malformed);
+    match number {
+        0 => whole_of(ServerMessage::AuthOk, rest),
+        10 => sasl_of(rest),
+        11 => {
+            let body = List::from_slice(alloc, rest)?;
+            Ok(ServerMessage::AuthContinue { body })
+        }
+        12 => {
+            let body = List::from_slice(alloc, rest)?;
+            Ok(ServerMessage::AuthFinal { body })
+        }
+        _ => Err(FieldFault::Malformed),
     }
-    whole_of(ServerMessage::AuthOk, rest)
 }
 
 #[tactic(auto, unfolding(crate::specs::Bodies::status_in))]
@@ -136,7 +156,7 @@ fn server_of(alloc: Global, tag: u8, body: &[u8]) -> Result<ServerMessage, Field
     ensures { Gives (λ m. m) result (server_in tag body.now) }
 {
     match tag {
-        b'R' => auth_of(body),
+        b'R' => auth_of(alloc, body),
         b'S' => status_of(alloc, body),
         b'K' => key_of(body),
         b'Z' => ready_of(body),

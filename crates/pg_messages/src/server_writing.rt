@@ -5,8 +5,10 @@ ghost use Rattle.pg_messages.specs.Server.{tag_of, body_of, spelling, IsClean, H
 ghost use Rattle.pg_messages.specs.Fronts.{server_front};
 ghost use Rattle.pg_messages.specs.Kept.{Keeps};
 
-use crate::server::ServerMessage;
-use crate::spelling::{Spelled, entries_len, put_counted, put_head, put_string, put_zero_ended};
+use crate::server::{SASL_NAMES, ServerMessage};
+use crate::spelling::{
+    Spelled, entries_len, put_bytes, put_counted, put_head, put_string, put_zero_ended,
+};
 use crate::strings::{are_fields, are_parts, is_countable, is_string};
 use pool_base::{List, NoMemory};
 
@@ -14,7 +16,10 @@ fn tag_of(message: &ServerMessage) -> u8
     ensures { result ≡ tag_of message.now }
 {
     match message {
-        ServerMessage::AuthOk => b'R',
+        ServerMessage::AuthOk
+        | ServerMessage::AuthSasl
+        | ServerMessage::AuthContinue { .. }
+        | ServerMessage::AuthFinal { .. } => b'R',
         ServerMessage::ParameterStatus { .. } => b'S',
         ServerMessage::BackendKey { .. } => b'K',
         ServerMessage::Ready { .. } => b'Z',
@@ -39,6 +44,10 @@ fn body_len(message: &ServerMessage) -> usize
 {
     match message {
         ServerMessage::AuthOk => 4,
+        ServerMessage::AuthSasl => 19,
+        ServerMessage::AuthContinue { body } | ServerMessage::AuthFinal { body } => {
+            body.len().saturating_add(4)
+        }
         ServerMessage::ParameterStatus { name, value } => {
             name.len().saturating_add(value.len()).saturating_add(2)
         }
@@ -72,6 +81,18 @@ fn put_body(message: &ServerMessage, onto: &mut List<u8>) -> Result<(), NoMemory
 {
     match message {
         ServerMessage::AuthOk => 0u32.put(onto),
+        ServerMessage::AuthSasl => {
+            10u32.put(onto)?;
+            put_bytes(SASL_NAMES, onto)
+        }
+        ServerMessage::AuthContinue { body } => {
+            11u32.put(onto)?;
+            put_bytes(body.as_slice(), onto)
+        }
+        ServerMessage::AuthFinal { body } => {
+            12u32.put(onto)?;
+            put_bytes(body.as_slice(), onto)
+        }
         ServerMessage::ParameterStatus { name, value } => {
             put_string(name.as_slice(), onto)?;
             put_string(value.as_slice(), onto)
@@ -145,6 +166,9 @@ fn is_clean(message: &ServerMessage) -> bool
         }
         ServerMessage::ParameterDescription { kinds } => is_countable(kinds.as_slice()),
         ServerMessage::AuthOk
+        | ServerMessage::AuthSasl
+        | ServerMessage::AuthContinue { .. }
+        | ServerMessage::AuthFinal { .. }
         | ServerMessage::BackendKey { .. }
         | ServerMessage::Empty
         | ServerMessage::ParseComplete

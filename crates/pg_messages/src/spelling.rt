@@ -10,7 +10,7 @@ use crate::server::{Field, Part};
 use pool_base::{List, NoMemory};
 
 /// Bytes as they are.
-fn put_bytes(bytes: &[u8], onto: &mut List<u8>) -> Result<(), NoMemory>
+pub fn put_bytes(bytes: &[u8], onto: &mut List<u8>) -> Result<(), NoMemory>
     ensures put { OnOk result (onto.new ≡ onto.old ++ bytes.now) }
     ensures in_range { AreBytes bytes.now }
     ensures kept { OnErr result (Keeps onto.old onto.new) }

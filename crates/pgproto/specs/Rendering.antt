@@ -5,7 +5,7 @@ use Rattle.std.specs.Fmt.{decimal, signed_decimal}
 use Rattle.pg_messages.specs.declared.server.Field.{Field}
 use Rattle.pg_messages.specs.declared.server.Part.{Part}
 use Rattle.pg_messages.specs.declared.server.ServerMessage.{ServerMessage}
-use Rattle.pg_messages.specs.declared.server.ServerMessage.TheVariants.{AuthOk, ParameterStatus, BackendKey, Ready, RowDescription, DataRow, Complete, Error, Notice, ParameterDescription, Empty, ParseComplete, BindComplete, CloseComplete, NoData, Suspended}
+use Rattle.pg_messages.specs.declared.server.ServerMessage.TheVariants.{AuthOk, AuthSasl, AuthContinue, AuthFinal, ParameterStatus, BackendKey, Ready, RowDescription, DataRow, Complete, Error, Notice, ParameterDescription, Empty, ParseComplete, BindComplete, CloseComplete, NoData, Suspended}
 use Rattle.pgproto.specs.Spelling.{two_digits}
 
 -- a byte as it is shown: `\x` and two digits where it is no printed ASCII, behind a `\` where it is `"` or `\`
@@ -47,6 +47,9 @@ fault_form parts = shown (part_text 83 parts) ++ (32 ∷ (shown (part_text 67 pa
 
 abbrev pub name_of : ServerMessage → List ℕ
 name_of AuthOk = codes "AuthenticationOk"
+name_of AuthSasl = codes "AuthenticationSASL"
+name_of (AuthContinue body) = codes "AuthenticationSASLContinue"
+name_of (AuthFinal body) = codes "AuthenticationSASLFinal"
 name_of (ParameterStatus name setting) = codes "ParameterStatus"
 name_of (BackendKey process secret) = codes "BackendKeyData"
 name_of (Ready status) = codes "ReadyForQuery"
@@ -63,9 +66,12 @@ name_of CloseComplete = codes "CloseComplete"
 name_of NoData = codes "NoData"
 name_of Suspended = codes "PortalSuspended"
 
--- these have nothing but a name
+-- these have nothing but a name; what is said of a password is not shown
 abbrev pub has_fields : ServerMessage → Bool
 has_fields AuthOk = false
+has_fields AuthSasl = false
+has_fields (AuthContinue body) = false
+has_fields (AuthFinal body) = false
 has_fields (ParameterStatus name setting) = true
 has_fields (BackendKey process secret) = true
 has_fields (Ready status) = true
@@ -85,6 +91,9 @@ has_fields Suspended = false
 -- what stands in the parentheses
 abbrev pub fields_of : ServerMessage → List ℕ
 fields_of AuthOk = []
+fields_of AuthSasl = []
+fields_of (AuthContinue body) = []
+fields_of (AuthFinal body) = []
 fields_of (ParameterStatus name setting) = in_quotes name ++ (32 ∷ in_quotes setting)
 fields_of (BackendKey process secret) = signed_decimal process ++ (32 ∷ signed_decimal secret)
 fields_of (Ready status) = shown_byte status

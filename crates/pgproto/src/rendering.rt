@@ -52,6 +52,9 @@ fn name_of(message: &ServerMessage) -> &'static str
 {
     match message {
         ServerMessage::AuthOk => "AuthenticationOk",
+        ServerMessage::AuthSasl => "AuthenticationSASL",
+        ServerMessage::AuthContinue { .. } => "AuthenticationSASLContinue",
+        ServerMessage::AuthFinal { .. } => "AuthenticationSASLFinal",
         ServerMessage::ParameterStatus { .. } => "ParameterStatus",
         ServerMessage::BackendKey { .. } => "BackendKeyData",
         ServerMessage::Ready { .. } => "ReadyForQuery",
@@ -77,6 +80,9 @@ fn has_fields(message: &ServerMessage) -> bool
     !matches!(
         message,
         ServerMessage::AuthOk
+            | ServerMessage::AuthSasl
+            | ServerMessage::AuthContinue { .. }
+            | ServerMessage::AuthFinal { .. }
             | ServerMessage::Empty
             | ServerMessage::ParseComplete
             | ServerMessage::BindComplete
@@ -101,6 +107,9 @@ fn push_fields(message: &ServerMessage, onto: &mut String) -> Result<(), AllocEr
         }
         ServerMessage::ParameterDescription { kinds } => push_kinds(kinds.as_slice(), onto),
         ServerMessage::AuthOk
+        | ServerMessage::AuthSasl
+        | ServerMessage::AuthContinue { .. }
+        | ServerMessage::AuthFinal { .. }
         | ServerMessage::Empty
         | ServerMessage::ParseComplete
         | ServerMessage::BindComplete

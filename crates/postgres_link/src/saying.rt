@@ -279,6 +279,9 @@ impl Hearer for Asked {
             ServerMessage::Error { parts } => Ok(refuse(self, parts.as_slice())),
             ServerMessage::Ready { status } => Ok(end(self, *status)),
             ServerMessage::AuthOk
+            | ServerMessage::AuthSasl
+            | ServerMessage::AuthContinue { .. }
+            | ServerMessage::AuthFinal { .. }
             | ServerMessage::BackendKey { .. }
             | ServerMessage::ParameterDescription { .. }
             | ServerMessage::Empty

@@ -1,7 +1,9 @@
 //! Bytes that clients and servers send, and what stands at their front.
 use crate::starts::put_start;
 use case_lines::{Told, bytes_of};
-use pg_messages::{ClientMessage, Read, ServerMessage, read_client, read_server, read_start};
+use pg_messages::{
+    ClientMessage, Read, ServerMessage, read_client, read_login, read_server, read_start,
+};
 use pgproto::render;
 use pool_base::{List, NoMemory, SessionId};
 use std::alloc::Global;
@@ -74,6 +76,16 @@ fn put_shown(alloc: Global, message: &ServerMessage, told: &mut Told) {
     }
 }
 
+/// What a client says while it shows its password, with its body.
+fn put_login(alloc: Global, bytes: &[u8], told: &mut Told) {
+    let answer = read_login(alloc, bytes);
+    put_outcome(&answer, told);
+    if let Ok(Read::Whole { message, .. }) = &answer {
+        told.put("; body ");
+        told.put_all_hex(message.as_slice());
+    }
+}
+
 fn put_server(alloc: Global, bytes: &[u8], told: &mut Told) {
     put_outcome(&read_server(alloc, bytes), told);
 }
@@ -85,13 +97,15 @@ fn put_line(alloc: Global, bytes: &[u8], told: &mut Told) {
     }
 }
 
-/// `SIDE BYTES`: what stands at the front of what a client, a server or a client that connects
-/// sends; `line`: what a transcript has of a server's message.
+/// `SIDE BYTES`: what stands at the front of what a client, a server, a client that shows its
+/// password (`login`) or one that connects sends; `line`: what a transcript has of a server's
+/// message.
 pub(crate) fn put_message(alloc: Global, asked: &str, told: &mut Told) {
     let (side, text) = asked.split_once(' ').unwrap_or((asked, ""));
     match (side, bytes_of(alloc, text)) {
         ("client", Ok(bytes)) => put_client(alloc, bytes.as_slice(), told),
         ("server", Ok(bytes)) => put_server(alloc, bytes.as_slice(), told),
+        ("login", Ok(bytes)) => put_login(alloc, bytes.as_slice(), told),
         ("start", Ok(bytes)) => put_start(alloc, bytes.as_slice(), told),
         ("line", Ok(bytes)) => put_line(alloc, bytes.as_slice(), told),
         _ => told.put("no such side"),

@@ -1,0 +1,42 @@
+-- The pool's password at a server: what the pool says, and when it is in.
+use Rattle.std.specs.Prelude.{◌≡◌, ℕ, List, [], ◌∷◌, Option, Some, None}
+use Rattle.pg_messages.specs.declared.server.ServerMessage.{ServerMessage}
+use Rattle.pg_messages.specs.declared.server.ServerMessage.TheVariants.{AuthOk, AuthSasl, AuthContinue, AuthFinal}
+use Rattle.scram.specs.declared.client.ScramClient.{ScramClient}
+use Rattle.scram.specs.declared.client.ScramClient.TheVariants as clients
+use Rattle.scram.specs.Clients.{IsOpening, IsAnswer, IsChecked}
+use Rattle.login.specs.declared.entry.Entry.{Entry}
+use Rattle.login.specs.declared.entry.Entry.TheVariants.{Outside, Opened, Answered, Shown, Over}
+use Rattle.login.specs.declared.entry.Heard.{Heard}
+use Rattle.login.specs.declared.entry.Heard.TheVariants as heards
+use Rattle.login.specs.Initial.{initial_body}
+
+-- the first message of an exchange, without a name: the server knows it from the start message
+pub record Begins (password nonce body : List ℕ) (client : ScramClient) : Type 0 where
+  pub message : List ℕ
+  pub opening : IsOpening (clients.Fresh [] password nonce) message client
+  pub sent : body ≡ initial_body message
+
+-- what is said, and the state after it
+abbrev pub Says : Entry → ServerMessage → List ℕ → Entry → Type 0
+Says (Outside (Some password) nonce) AuthSasl body (Opened client) = Begins password nonce body client
+Says (Opened client) (AuthContinue message) body (Answered next) = IsAnswer client message body next
+Says old message body new = ⊥
+
+-- the server has shown that it knows the keys of the password
+abbrev pub Shows : Entry → ServerMessage → Entry → Type 0
+Shows (Answered client) (AuthFinal message) Shown = IsChecked client message
+Shows old message new = ⊥
+
+-- the pool is in: no password was asked for, or the server has shown that it knows the keys of it
+abbrev pub IsIn : Entry → ServerMessage → Type 0
+IsIn (Outside password nonce) AuthOk = Unit {0}
+IsIn Shown AuthOk = Unit {0}
+IsIn old message = ⊥
+
+-- what a message leads to, and the state after it. Which message breaks the protocol is left open here
+abbrev pub IsTurn : Entry → ServerMessage → Heard → Entry → Type 0
+IsTurn old message (heards.Says body) new = Says old message body new
+IsTurn old message heards.Goes new = Shows old message new
+IsTurn old message heards.In new = IsIn old message × (new ≡ Over)
+IsTurn old message heards.Breaks new = new ≡ Over

@@ -1,0 +1,3 @@
+pub mod Initial
+pub mod Gates
+pub mod Entries

@@ -1,0 +1,14 @@
+//! Passwords where a connection begins, with no socket: a client shows the pool that it knows its
+//! password, and the pool shows a server that it knows its own.
+//! A client is let in only where its proof is that of its user, and a server is trusted only where
+//! it asks for no password or has shown that it knows the keys.
+#![tactic(auto)]
+
+mod entry;
+mod fault;
+mod gate;
+mod initial;
+
+pub use entry::{Entry, Heard};
+pub use fault::LoginFault;
+pub use gate::{Answer, Login};

@@ -1,0 +1,12 @@
+pub mod Marks
+pub mod Coded
+pub mod Headers
+pub mod Found
+pub mod Rounds
+pub mod Digests
+pub mod Blocks
+pub mod Turns
+pub mod Parts
+pub mod Readers
+pub mod Sides
+pub mod Exchange
