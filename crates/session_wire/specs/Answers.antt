@@ -15,6 +15,7 @@ use Rattle.wire_reply.specs.Tags.{tag_text}
 use Rattle.wire_session.specs.Kept.{portal_of}
 use Rattle.wire_extended.specs.Giving.{GivesFirst}
 use Rattle.wire_nodes.specs.Nodes.{TellsNodes}
+use Rattle.sql_tree.specs.declared.statement.Statement.{Statement}
 use Rattle.session_wire.specs.declared.due.Due.{Due}
 use Rattle.session_wire.specs.declared.due.Due.TheVariants as due
 use Rattle.session_wire.specs.Sayings.{Puts, error_bytes, done_bytes, said_bytes}
@@ -135,3 +136,21 @@ abbrev pub ends_block : Outcome → Bool
 ends_block (outcome.Done tag.Commit warning) = true
 ends_block (outcome.Done tag.Rollback warning) = true
 ends_block _ = false
+
+-- What an outcome leaves as it was: the client's bytes and where they stand, what was said at its start, what its statements' names stand
+-- for. What was read of its text stays to be ordered, but behind an error; portals stay, but where their block ended, outside a block behind
+-- Settle, and but that of an Execute, which has gone on.
+
+abbrev pub StaysOfClient : View → View → Type 0
+StaysOfClient old new = (new.number ≡ old.number) × (new.stage ≡ old.stage) × (new.options ≡ old.options) × (new.settles ≡ old.settles)
+    × (new.rest ≡ old.rest) × (new.ended ≡ old.ended) × (new.session.statements ≡ old.session.statements)
+
+abbrev pub left_after : Due → Outcome → List Statement → List Statement
+left_after (due.Statement description last) (outcome.Error code name) left = []
+left_after (due.Recovery last) (outcome.Error code name) left = []
+left_after _ _ left = left
+
+abbrev pub moves_portals : Due → Outcome → ℕ → Bool
+moves_portals due.Settle outcome status = nat_eq status 73
+moves_portals (due.Execute portal limit) (outcome.Rows rows tag) status = true
+moves_portals _ outcome status = false

@@ -1,7 +1,7 @@
 //! What becomes of an order, as bytes for the client.
-ghost use Rattle.std.specs.Prelude.{◌≡◌, ◌≤◌, length, false, true, None, Some, IfOk, IsTrue, IsOk, OnOk};
+ghost use Rattle.std.specs.Prelude.{◌≡◌, ◌≤◌, [], length, false, true, None, Some, IfOk, IsTrue, IsOk, OnOk};
 ghost use Rattle.wire_reply.specs.Rows.{AreInRange};
-ghost use Rattle.session_wire.specs.Answers.{MayAnswer, Says, SaysExecute, SaysRecovery, SaysRefused, SaysStatement, code_of, ends_block, ends_now, implicit_after, of_recovery, saying_of, skips};
+ghost use Rattle.session_wire.specs.Answers.{MayAnswer, Says, SaysExecute, SaysRecovery, SaysRefused, SaysStatement, code_of, ends_block, ends_now, implicit_after, left_after, moves_portals, of_recovery, saying_of, skips, StaysOfClient};
 ghost use Rattle.wire_session.specs.Kept.{HasNone};
 ghost use Rattle.session_wire.specs.Hears.{with_session};
 ghost use Rattle.session_wire.specs.Sayings.{HasRoom};
@@ -41,6 +41,14 @@ impl Wire {
             → OnOk result (HasNone (shown self.new).session.portals) }
         ensures settled { (shown self.old).due ≡ Some dues.Settle → status ≡ 73
             → OnOk result (HasNone (shown self.new).session.portals) }
+        // The rest stays.
+        ensures stays { OnOk result (StaysOfClient (shown self.old) (shown self.new)) }
+        ensures left { (due : _) → (shown self.old).due ≡ Some due → OnOk result
+            ((shown self.new).left ≡ left_after due outcome (shown self.old).left) }
+        ensures portals { (due : _) → (shown self.old).due ≡ Some due
+            → moves_portals due outcome status ≡ false → ends_block outcome ≡ false
+            → OnOk result
+            ((shown self.new).session.portals ≡ (shown self.old).session.portals) }
         // The order has its outcome; without one that waits for it nothing is done.
         ensures gone { (shown self.new).due ≡ None }
         ensures none { (shown self.old).due ≡ None → shown self.new ≡ shown self.old }
@@ -76,6 +84,11 @@ impl Wire {
             ≡ implicit_after self.old.session.implicit outcome status) }
         ensures skips { OnOk result (self.new.session.skipping
             ≡ skips due outcome self.old.session.skipping) }
+        ensures stays { OnOk result (StaysOfClient (shown self.old) (shown self.new)) }
+        ensures left { OnOk result ((shown self.new).left
+            ≡ left_after due outcome (shown self.old).left) }
+        ensures portals { moves_portals due outcome status ≡ false → ends_block outcome ≡ false
+            → OnOk result (self.new.session.portals ≡ self.old.session.portals) }
         ensures due { self.new.due ≡ self.old.due }
         ensures ended { ends_block outcome ≡ true → OnOk result (HasNone self.new.session.portals) }
         ensures settled { due ≡ dues.Settle → status ≡ 73
@@ -95,6 +108,7 @@ impl Wire {
         ensures implicit { self.new.session.implicit ≡ implicit }
         ensures skipping { self.new.session.skipping ≡ self.old.session.skipping }
         ensures output { self.new.output ≡ self.old.output }
+        ensures statements { self.new.session.statements ≡ self.old.session.statements }
         ensures due { self.new.due ≡ self.old.due }
         ensures session { shown self.new ≡ with_session self.new.session (shown self.old) }
         ensures portals { ends ≡ false → self.new.session.portals ≡ self.old.session.portals }
@@ -120,6 +134,11 @@ impl Wire {
             (shown self.new)) }
         ensures skips { OnOk result (self.new.session.skipping
             ≡ skips due outcome self.old.session.skipping) }
+        ensures stays { OnOk result (StaysOfClient (shown self.old) (shown self.new)) }
+        ensures left { OnOk result ((shown self.new).left
+            ≡ left_after due outcome (shown self.old).left) }
+        ensures portals { moves_portals due outcome status ≡ false → OnOk result
+            (self.new.session.portals ≡ self.old.session.portals) }
         ensures due { self.new.due ≡ self.old.due }
         ensures settled { due ≡ dues.Settle → status ≡ 73
             → OnOk result (HasNone self.new.session.portals) }
@@ -165,6 +184,9 @@ impl Wire {
         requires range { MayAnswer outcome }
         ensures says { OnOk result (SaysStatement config.now.nodes description last outcome
             (shown self.old) (shown self.new)) }
+        ensures stays { OnOk result (StaysOfClient (shown self.old) (shown self.new)) }
+        ensures left { OnOk result ((shown self.new).left
+            ≡ left_after (dues.Statement description last) outcome (shown self.old).left) }
         ensures session { self.new.session ≡ self.old.session }
         ensures due { self.new.due ≡ self.old.due }
         ensures commit { IsTrue (ends_now (dues.Statement description last) outcome)
@@ -207,6 +229,8 @@ impl Wire {
         requires range { AreInRange rows.now }
         ensures says { OnOk result ((nodes : _) → SaysStatement nodes description last
             (Rows rows.now tag) (shown self.old) (shown self.new)) }
+        ensures stays { OnOk result (StaysOfClient (shown self.old) (shown self.new)) }
+        ensures left { OnOk result ((shown self.new).left ≡ (shown self.old).left) }
         ensures session { self.new.session ≡ self.old.session }
         ensures due { self.new.due ≡ self.old.due }
     {
@@ -221,6 +245,8 @@ impl Wire {
     fn nodes(&mut self, config: &Config, attached: BackendSet, last: bool) -> Result<(), NoMemory>
         ensures says { OnOk result ((description : _) → SaysStatement config.now.nodes description
             last (Nodes attached) (shown self.old) (shown self.new)) }
+        ensures stays { OnOk result (StaysOfClient (shown self.old) (shown self.new)) }
+        ensures left { OnOk result ((shown self.new).left ≡ (shown self.old).left) }
         ensures session { self.new.session ≡ self.old.session }
         ensures due { self.new.due ≡ self.old.due }
     {
@@ -235,6 +261,9 @@ impl Wire {
         requires range { MayAnswer outcome }
         ensures says { OnOk result (SaysRecovery waits outcome (shown self.old)
             (shown self.new)) }
+        ensures stays { OnOk result (StaysOfClient (shown self.old) (shown self.new)) }
+        ensures left { OnOk result ((shown self.new).left
+            ≡ left_after (dues.Recovery waits) outcome (shown self.old).left) }
         ensures session { self.new.session ≡ self.old.session }
         ensures due { self.new.due ≡ self.old.due }
     {
@@ -259,6 +288,8 @@ impl Wire {
         requires short { length name ≤ 1000 }
         ensures says { OnOk result (SaysRecovery waits (Failed code name) (shown self.old)
             (shown self.new)) }
+        ensures stays { OnOk result (StaysOfClient (shown self.old) (shown self.new)) }
+        ensures left { OnOk result ((shown self.new).left ≡ []) }
         ensures session { self.new.session ≡ self.old.session }
         ensures due { self.new.due ≡ self.old.due }
     {
@@ -279,6 +310,8 @@ impl Wire {
         requires range { MayAnswer outcome }
         ensures says { OnOk result (SaysRefused asked saying last outcome (shown self.old)
             (shown self.new)) }
+        ensures stays { OnOk result (StaysOfClient (shown self.old) (shown self.new)) }
+        ensures left { OnOk result ((shown self.new).left ≡ (shown self.old).left) }
         ensures session { self.new.session ≡ self.old.session }
         ensures due { self.new.due ≡ self.old.due }
     {
@@ -306,6 +339,8 @@ impl Wire {
         requires short { length name ≤ 1000 }
         ensures says { OnOk result (SaysRefused asked saying last (Failed code name)
             (shown self.old) (shown self.new)) }
+        ensures stays { OnOk result (StaysOfClient (shown self.old) (shown self.new)) }
+        ensures left { OnOk result ((shown self.new).left ≡ (shown self.old).left) }
         ensures session { self.new.session ≡ self.old.session }
         ensures due { self.new.due ≡ self.old.due }
     {
@@ -321,6 +356,10 @@ impl Wire {
             (shown self.new)) }
         ensures skips { OnOk result (self.new.session.skipping
             ≡ skips (dues.Execute portal limit) outcome self.old.session.skipping) }
+        ensures stays { OnOk result (StaysOfClient (shown self.old) (shown self.new)) }
+        ensures left { OnOk result ((shown self.new).left ≡ (shown self.old).left) }
+        ensures portals { moves_portals (dues.Execute portal limit) outcome 0 ≡ false
+            → OnOk result (self.new.session.portals ≡ self.old.session.portals) }
         ensures due { self.new.due ≡ self.old.due }
         ensures commit { IsTrue (ends_now (dues.Execute portal limit) outcome)
             → HasRoom self.old.output → IsOk result }
@@ -352,6 +391,8 @@ impl Wire {
         requires range { AreInRange rows.now }
         ensures says { OnOk result ((tag : _) → SaysExecute portal limit (Rows rows.now tag)
             (shown self.old) (shown self.new)) }
+        ensures stays { OnOk result (StaysOfClient (shown self.old) (shown self.new)) }
+        ensures left { OnOk result ((shown self.new).left ≡ (shown self.old).left) }
         ensures skipping { self.new.session.skipping ≡ self.old.session.skipping }
         ensures due { self.new.due ≡ self.old.due }
     {
@@ -366,6 +407,10 @@ impl Wire {
     fn settled(&mut self, outcome: Outcome, status: u8) -> Result<(), NoMemory>
         ensures says { OnOk result ((nodes : _) → Says nodes dues.Settle outcome status
             (shown self.old) (shown self.new)) }
+        ensures stays { OnOk result (StaysOfClient (shown self.old) (shown self.new)) }
+        ensures left { OnOk result ((shown self.new).left ≡ (shown self.old).left) }
+        ensures portals { moves_portals dues.Settle outcome status ≡ false → OnOk result
+            (self.new.session.portals ≡ self.old.session.portals) }
         ensures skipping { self.new.session.skipping ≡ self.old.session.skipping }
         ensures due { self.new.due ≡ self.old.due }
         ensures settled { status ≡ 73 → OnOk result (HasNone self.new.session.portals) }
