@@ -2,3 +2,9 @@ pub mod WaysOut
 pub mod Begun
 pub mod Counts
 pub mod SeatLaws
+pub mod Going
+pub mod Working
+pub mod Talking
+pub mod Stepping
+pub mod Entries
+pub mod Telling

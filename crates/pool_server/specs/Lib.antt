@@ -3,3 +3,7 @@ pub mod Causes
 pub mod Told
 pub mod Seats
 pub mod Policies
+pub mod Deeds
+pub mod Places
+pub mod Sights
+pub mod Servings

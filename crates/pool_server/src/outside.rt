@@ -1,7 +1,8 @@
 //! What a session needs of what lies outside it: the gate, its client's bytes, somebody to tell.
-ghost use Rattle.std.specs.Prelude.{◌≡◌, ◌<◌, ◌≤◌, ◌||◌, Bool, true, IfNone, IfSome, length};
+ghost use Rattle.std.specs.Prelude.{◌≡◌, ◌<◌, ◌≤◌, ◌||◌, ◌++◌, ◌∷◌, [], Bool, List, true, IfNone, IfSome, length};
 ghost use Rattle.pool_base.specs.Outside.{FaultyRead, Gave, is_end};
 ghost use Rattle.shared_gate.specs.History.{Stand, is_grant, stand_next};
+ghost use Rattle.pool_server.specs.Deeds.{Call, made};
 ghost use Rattle.pool_server.specs.Passes.{cuts, is_leave, may_make};
 
 use crate::end::EndCause;
@@ -11,11 +12,14 @@ use session_machine::Cause;
 /// The gate, as one session calls it.
 ///
 /// `stand` is where its pass stands, by the calls that were granted. `cut` is whether a view
-/// without a backend has come while it stood in a commit.
+/// without a backend has come while it stood in a commit. `calls` are the calls of its pass so far,
+/// each with its answer.
 pub trait GatePass {
     ghost stand: { Self → Stand };
 
     ghost cut: { Self → Bool };
+
+    ghost calls: { Self → List Call };
 
     /// Whether the pass may make that call where it stands. No session makes those of a recovery.
     fn may_step(&self, call: GateCall) -> bool
@@ -26,13 +30,15 @@ pub trait GatePass {
         requires { may_make (stand self.old) call ≡ true }
         ensures stand { stand self.new ≡ stand_next (stand self.old) call result }
         ensures cut { cut self.new ≡ (cut self.old || cuts (stand self.new) result) }
+        ensures calls { calls self.new ≡ calls self.old ++ made call result ∷ [] }
         ensures leaves { is_leave call ≡ true → is_grant result ≡ true };
 
     /// Waits a little before a call is made again that was held so many times, or before what
     /// lacked memory is tried again.
     fn pause(&mut self, tries: u32)
         ensures stand { stand self.new ≡ stand self.old }
-        ensures cut { cut self.new ≡ cut self.old };
+        ensures cut { cut self.new ≡ cut self.old }
+        ensures calls { calls self.new ≡ calls self.old };
 
     /// Whether no backend was left while the pass stood in a commit.
     fn is_cut(&self) -> bool

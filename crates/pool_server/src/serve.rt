@@ -4,6 +4,10 @@ ghost use Rattle.pool_base.specs.Outside.{Rose};
 ghost use Rattle.schema.specs.Grammar.{IsWithin};
 ghost use Rattle.shared_gate.specs.History.{Out};
 ghost use Rattle.pool_server.specs.Causes.{is_cut_off, is_read_fault, is_write_fault};
+ghost use Rattle.pool_server.specs.Policies.{policy_of};
+ghost use Rattle.pool_server.specs.Places.{setting};
+ghost use Rattle.pool_server.specs.Sights.{seen};
+ghost use Rattle.pool_server.specs.Servings.{IsServed, Serves};
 ghost use Rattle.pool_server.specs.Told.{Begins};
 
 use crate::end::EndCause;
@@ -55,6 +59,13 @@ where
     ensures cut_off { is_cut_off result ≡ true → G.cut around.new.gate ≡ true }
     // What the sink had taken stands before what it has taken now.
     ensures taken { Begins (O.taken around.old.sink) (O.taken around.new.sink) }
+    // There is one list of deeds by which it has ended so: each may come where the machine of the
+    // session and the dialogue with its client stand, and those outside have seen just them.
+    ensures served { IsServed (setting tables.now config.now.nodes) s (policy_of config.now)
+        (seen (I.left around.old.source) (I.ended around.old.source)
+        (O.taken around.old.sink) (C.given around.old.clock) (G.calls around.old.gate)) result
+        (seen (I.left around.new.source) (I.ended around.new.source)
+        (O.taken around.new.sink) (C.given around.new.clock) (G.calls around.new.gate)) }
     // However it ends, its pass is out.
     ensures out { G.stand around.new.gate ≡ Out }
 {
@@ -86,6 +97,11 @@ where
         → Rose (O.fault_count around.old.sink) (O.fault_count around.new.sink) }
     ensures cut_off { is_cut_off result ≡ true → G.cut around.new.gate ≡ true }
     ensures taken { Begins (O.taken around.old.sink) (O.taken around.new.sink) }
+    ensures serves { Serves (setting tables.now config.now.nodes) s (policy_of config.now)
+        (seen (I.left around.old.source) (I.ended around.old.source)
+        (O.taken around.old.sink) (C.given around.old.clock) (G.calls around.old.gate)) result
+        (seen (I.left around.new.source) (I.ended around.new.source)
+        (O.taken around.new.sink) (C.given around.new.clock) (G.calls around.new.gate)) }
 {
     let mut session: Session<M::L> = match Session::new(alloc, s, config) {
         Ok(session) => session,

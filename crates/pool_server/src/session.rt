@@ -9,10 +9,19 @@
 //!
 //! One thing is done a step: what is due of the core, and where nothing is, what is due of the
 //! wire.
-ghost use Rattle.std.specs.Prelude.{◌≡◌, ◌≤◌, ◌⊎◌, true, false, IfOk};
+ghost use Rattle.std.specs.Prelude.{◌≡◌, ◌≤◌, ◌⊎◌, true, false, IfOk, IfNone, IfSome, is_some, List, None};
 ghost use Rattle.pool_base.specs.Outside.{Rose};
 ghost use Rattle.schema.specs.Grammar.{IsWithin};
-ghost use Rattle.pool_server.specs.Causes.{in_answer, in_parting, in_step, is_cut_off, is_read_fault, is_write_fault};
+ghost use Rattle.pool_config.specs.declared.config.Node.{Node};
+ghost use Rattle.session_machine.specs.Rules.{new_machine, next_action};
+ghost use Rattle.session_engine.specs.Cores.{machine_in};
+ghost use Rattle.session_engine.specs.Handing.{IsReply};
+ghost use Rattle.session_wire.specs.Shown.{IsFresh, shown};
+ghost use Rattle.pool_server.specs.Policies.{policy_of};
+ghost use Rattle.pool_server.specs.Places.{Place, Setting, first_loss, place, setting};
+ghost use Rattle.pool_server.specs.Sights.{Seen, Went, seen};
+ghost use Rattle.pool_server.specs.Servings.{Ends, EndsIn, Finishes, lost_by, lost_with};
+ghost use Rattle.pool_server.specs.Causes.{IsQuiet, in_answer, in_parting, in_step, is_cut_off, is_read_fault, is_write_fault};
 ghost use Rattle.pool_server.specs.Told.{Begins};
 
 use crate::end::EndCause;
@@ -43,7 +52,10 @@ pub(crate) struct Session<L: Link> {
 impl<L: Link> Session<L> {
     /// A session whose client has sent nothing yet.
     pub fn new(alloc: Global, s: SessionId, config: &Config) -> Result<Session<L>, NoMemory>
-        ensures { IfOk result (λ session. session.parting ≡ Parting.No) }
+        ensures parting { IfOk result (λ session. session.parting ≡ Parting.No) }
+        ensures machine { IfOk result (λ session. machine_in session.work.core
+            ≡ new_machine s (policy_of config.now)) }
+        ensures fresh { IfOk result (λ session. IsFresh s.number (shown session.talk.wire)) }
     {
         Ok(Session {
             talk: Talk::new(alloc, s)?,
@@ -53,8 +65,15 @@ impl<L: Link> Session<L> {
         })
     }
 
-    /// What is due of the wire is done. Where the client is silent the backends are told what was
-    /// held back from them, before it is waited for longer.
+    /// Whether the client is lost.
+    fn is_gone(&self) -> bool
+        ensures { result ≡ is_some (lost_by self.now.parting) }
+    {
+        matches!(self.parting, Parting::Gone(_))
+    }
+
+    /// What is due of the wire is done, where its client is there. Where the client is silent the
+    /// backends are told what was held back from them, before it is waited for longer.
     #[tactic(auto, using(crate::proofs::Begun::begins_same))]
     fn rest<I, O, M, C, G, N>(
         &mut self,
@@ -65,6 +84,7 @@ impl<L: Link> Session<L> {
         I: ClientSource,
         O: Sink,
         C: Clock,
+        G: GatePass,
         requires within { IsWithin tables.now }
         ensures read { in_step is_read_fault result ≡ true
             → Rose (I.fault_count around.old.source) (I.fault_count around.new.source) }
@@ -76,11 +96,61 @@ impl<L: Link> Session<L> {
         ensures write_later { O.fault_count around.old.sink ≤ O.fault_count around.new.sink }
         ensures taken { Begins (O.taken around.old.sink) (O.taken around.new.sink) }
         ensures parting { self.new.parting ≡ self.old.parting }
+        ensures went { (nodes : List Node) → Went (setting tables.now nodes)
+            (place (machine_in self.old.work.core) (shown self.old.talk.wire)
+            (lost_by self.old.parting))
+            (seen (I.left around.old.source) (I.ended around.old.source)
+            (O.taken around.old.sink) (C.given around.old.clock) (G.calls around.old.gate))
+            (place (machine_in self.new.work.core) (shown self.new.talk.wire)
+            (lost_with (lost_by self.old.parting) result))
+            (seen (I.left around.new.source) (I.ended around.new.source)
+            (O.taken around.new.sink) (C.given around.new.clock) (G.calls around.new.gate)) }
+        ensures ends { EndsIn result (place (machine_in self.new.work.core)
+            (shown self.new.talk.wire) (lost_with (lost_by self.old.parting) result)) }
     {
+        if self.is_gone() {
+            return Step::Over(EndCause::Stopped);
+        }
         if self.is_silent {
             self.is_silent = false;
             return self.talk.listen(&mut around.source);
         }
+        self.turn(around, tables)
+    }
+
+    /// The wire has its turn.
+    fn turn<I, O, M, C, G, N>(
+        &mut self,
+        around: &mut Around<I, O, M, C, G, N>,
+        tables: &Catalogue,
+    ) -> Step
+    where
+        I: ClientSource,
+        O: Sink,
+        C: Clock,
+        G: GatePass,
+        requires within { IsWithin tables.now }
+        ensures read { in_step is_read_fault result ≡ true
+            → Rose (I.fault_count around.old.source) (I.fault_count around.new.source) }
+        ensures write { in_step is_write_fault result ≡ true
+            → Rose (O.fault_count around.old.sink) (O.fault_count around.new.sink) }
+        ensures cut { in_step is_cut_off result ≡ false }
+        ensures read_later { I.fault_count around.old.source
+            ≤ I.fault_count around.new.source }
+        ensures write_later { O.fault_count around.old.sink ≤ O.fault_count around.new.sink }
+        ensures taken { Begins (O.taken around.old.sink) (O.taken around.new.sink) }
+        ensures parting { self.new.parting ≡ self.old.parting }
+        ensures went { (nodes : List Node) → Went (setting tables.now nodes)
+            (place (machine_in self.old.work.core) (shown self.old.talk.wire) None)
+            (seen (I.left around.old.source) (I.ended around.old.source)
+            (O.taken around.old.sink) (C.given around.old.clock) (G.calls around.old.gate))
+            (place (machine_in self.new.work.core) (shown self.new.talk.wire)
+            (lost_with None result))
+            (seen (I.left around.new.source) (I.ended around.new.source)
+            (O.taken around.new.sink) (C.given around.new.clock) (G.calls around.new.gate)) }
+        ensures ends { EndsIn result (place (machine_in self.new.work.core)
+            (shown self.new.talk.wire) (lost_with None result)) }
+    {
         self.work.rest();
         let step = self.talk.turn(
             &mut self.work.core,
@@ -89,10 +159,19 @@ impl<L: Link> Session<L> {
             &mut around.sink,
             &mut around.clock,
         );
+        self.hush(step);
+        step
+    }
+
+    /// Where the client is silent the backends are told what was held back from them.
+    fn hush(&mut self, step: Step)
+        ensures machine { machine_in self.new.work.core ≡ machine_in self.old.work.core }
+        ensures wire { shown self.new.talk.wire ≡ shown self.old.talk.wire }
+        ensures parting { self.new.parting ≡ self.old.parting }
+    {
         if step == Step::Silent {
             self.is_silent = self.work.settle();
         }
-        step
     }
 
     /// The backends are told what was held back from them.
@@ -126,6 +205,17 @@ impl<L: Link> Session<L> {
         ensures write_later { O.fault_count around.old.sink ≤ O.fault_count around.new.sink }
         ensures taken { Begins (O.taken around.old.sink) (O.taken around.new.sink) }
         ensures parting { self.new.parting ≡ self.old.parting }
+        ensures went { Went (setting tables.now config.now.nodes)
+            (place (machine_in self.old.work.core) (shown self.old.talk.wire)
+            (lost_by self.old.parting))
+            (seen (I.left around.old.source) (I.ended around.old.source)
+            (O.taken around.old.sink) (C.given around.old.clock) (G.calls around.old.gate))
+            (place (machine_in self.new.work.core) (shown self.new.talk.wire)
+            (lost_with (lost_by self.old.parting) result))
+            (seen (I.left around.new.source) (I.ended around.new.source)
+            (O.taken around.new.sink) (C.given around.new.clock) (G.calls around.new.gate)) }
+        ensures ends { EndsIn result (place (machine_in self.new.work.core)
+            (shown self.new.talk.wire) (lost_with (lost_by self.old.parting) result)) }
     {
         match self.work.core.asks() {
             Ask::Rest => self.rest(around, tables),
@@ -137,12 +227,31 @@ impl<L: Link> Session<L> {
                     .post(b, options, &mut around.maker, &mut around.gate)
             }
             Ask::WaitFor(b) => self.work.wait(b, &around.maker, &mut around.gate),
-            Ask::Reply => self.talk.reply(config, &mut self.work.core),
+            Ask::Reply => self.reply(config),
             Ask::End => {
                 self.work.core.end();
                 Step::Ended
             }
         }
+    }
+
+    /// The client is told what became of its order, where it is there.
+    fn reply(&mut self, config: &Config) -> Step
+        requires { IsReply (next_action (machine_in self.old.work.core)) }
+        ensures quiet { IsQuiet result }
+        ensures parting { self.new.parting ≡ self.old.parting }
+        ensures went { (tables : _) → (s : Seen) → Went (setting tables config.now.nodes)
+            (place (machine_in self.old.work.core) (shown self.old.talk.wire)
+            (lost_by self.old.parting)) s
+            (place (machine_in self.new.work.core) (shown self.new.talk.wire)
+            (lost_with (lost_by self.old.parting) result)) s }
+        ensures ends { EndsIn result (place (machine_in self.new.work.core)
+            (shown self.new.talk.wire) (lost_with (lost_by self.old.parting) result)) }
+    {
+        if self.is_gone() {
+            return Step::Over(EndCause::Stopped);
+        }
+        self.talk.reply(config, &mut self.work.core)
     }
 
     /// One step. Some: the session is over.
@@ -182,6 +291,24 @@ impl<L: Link> Session<L> {
             ≤ I.fault_count around.new.source }
         ensures write_later { O.fault_count around.old.sink ≤ O.fault_count around.new.sink }
         ensures taken { Begins (O.taken around.old.sink) (O.taken around.new.sink) }
+        // What took place: there are deeds, each of which may come where the session stands, and
+        // those outside have seen just them.
+        ensures went { IfNone result (Went (setting tables.now config.now.nodes)
+            (place (machine_in self.old.work.core) (shown self.old.talk.wire)
+            (lost_by self.old.parting))
+            (seen (I.left around.old.source) (I.ended around.old.source)
+            (O.taken around.old.sink) (C.given around.old.clock) (G.calls around.old.gate))
+            (place (machine_in self.new.work.core) (shown self.new.talk.wire)
+            (lost_by self.new.parting))
+            (seen (I.left around.new.source) (I.ended around.new.source)
+            (O.taken around.new.sink) (C.given around.new.clock) (G.calls around.new.gate))) }
+        ensures finishes { IfSome result (λ cause. Finishes (setting tables.now config.now.nodes)
+            (place (machine_in self.old.work.core) (shown self.old.talk.wire)
+            (lost_by self.old.parting))
+            (seen (I.left around.old.source) (I.ended around.old.source)
+            (O.taken around.old.sink) (C.given around.old.clock) (G.calls around.old.gate)) cause
+            (seen (I.left around.new.source) (I.ended around.new.source)
+            (O.taken around.new.sink) (C.given around.new.clock) (G.calls around.new.gate))) }
     {
         let step = self.due(around, config, tables);
         self.behind(step, around.gate.is_cut())
@@ -207,11 +334,19 @@ impl<L: Link> Session<L> {
         ensures cut_kept { in_parting is_cut_off self.new.parting ≡ true
             → (in_parting is_cut_off self.old.parting ≡ true)
             ⊎ (in_step is_cut_off step ≡ true) }
+        ensures went { IfNone result ((w : Setting) → (s : Seen) → Went w
+            (place (machine_in self.old.work.core) (shown self.old.talk.wire)
+            (lost_with (lost_by self.old.parting) step)) s
+            (place (machine_in self.new.work.core) (shown self.new.talk.wire)
+            (lost_by self.new.parting)) s) }
+        ensures ends { IfSome result (λ cause. (last : Place)
+            → last.lost ≡ lost_with (lost_by self.old.parting) step → EndsIn step last
+            → Ends cause last) }
     {
         match step {
             Step::Goes | Step::Silent => None,
             Step::Leaves => {
-                self.parting = Parting::Closing;
+                self.close();
                 None
             }
             Step::Lost(cause) => self.lose(cause),
@@ -234,16 +369,58 @@ impl<L: Link> Session<L> {
         ensures cut_kept { in_parting is_cut_off self.new.parting ≡ true
             → (in_parting is_cut_off self.old.parting ≡ true)
             ⊎ (is_cut_off cause ≡ true) }
+        ensures went { IfNone result ((w : Setting) → (s : Seen) → Went w
+            (place (machine_in self.old.work.core) (shown self.old.talk.wire)
+            (lost_with (lost_by self.old.parting) (Step.Lost cause))) s
+            (place (machine_in self.new.work.core) (shown self.new.talk.wire)
+            (lost_by self.new.parting)) s) }
+        ensures stopped { IfSome result (λ over. over ≡ EndCause.Stopped) }
     {
         if !self.work.core.may_give_up() {
             return Some(EndCause::Stopped);
         }
         self.work.core.give_up();
+        self.part(cause);
+        None
+    }
+
+    /// The first cause counts by which the client is lost.
+    fn part(&mut self, cause: EndCause)
+        ensures lost { lost_by self.new.parting ≡ first_loss (lost_by self.old.parting) cause }
+        ensures machine { machine_in self.new.work.core ≡ machine_in self.old.work.core }
+        ensures wire { shown self.new.talk.wire ≡ shown self.old.talk.wire }
+        ensures read { in_parting is_read_fault self.new.parting ≡ true
+            → (in_parting is_read_fault self.old.parting ≡ true)
+            ⊎ (is_read_fault cause ≡ true) }
+        ensures write { in_parting is_write_fault self.new.parting ≡ true
+            → (in_parting is_write_fault self.old.parting ≡ true)
+            ⊎ (is_write_fault cause ≡ true) }
+        ensures cut { in_parting is_cut_off self.new.parting ≡ true
+            → (in_parting is_cut_off self.old.parting ≡ true)
+            ⊎ (is_cut_off cause ≡ true) }
+    {
         match self.parting {
             Parting::Gone(_) => {}
             Parting::No | Parting::Closing => self.parting = Parting::Gone(cause),
         }
-        None
+    }
+
+    /// The wire has ordered its Leave.
+    fn close(&mut self)
+        ensures lost { lost_by self.new.parting ≡ lost_by self.old.parting }
+        ensures machine { machine_in self.new.work.core ≡ machine_in self.old.work.core }
+        ensures wire { shown self.new.talk.wire ≡ shown self.old.talk.wire }
+        ensures read { in_parting is_read_fault self.new.parting ≡ true
+            → in_parting is_read_fault self.old.parting ≡ true }
+        ensures write { in_parting is_write_fault self.new.parting ≡ true
+            → in_parting is_write_fault self.old.parting ≡ true }
+        ensures cut { in_parting is_cut_off self.new.parting ≡ true
+            → in_parting is_cut_off self.old.parting ≡ true }
+    {
+        match self.parting {
+            Parting::Gone(_) => {}
+            Parting::No | Parting::Closing => self.parting = Parting::Closing,
+        }
     }
 
     /// The core is at its end. Without a Leave it comes there from a commit that was cut off alone.
@@ -254,6 +431,9 @@ impl<L: Link> Session<L> {
             ≡ in_parting is_write_fault self.now.parting }
         ensures cut { in_answer is_cut_off result ≡ true
             → (in_parting is_cut_off self.now.parting ≡ true) ⊎ (is_cut ≡ true) }
+        ensures none { IfNone result (lost_by self.now.parting ≡ None) }
+        ensures ends { IfSome result (λ cause. (last : Place)
+            → last.lost ≡ lost_by self.now.parting → Ends cause last) }
     {
         match self.parting {
             Parting::No => {

@@ -1,13 +1,21 @@
 //! What is done of what is due of the wire: an order taken, a reply told, bytes written and read,
 //! the end.
-ghost use Rattle.std.specs.Prelude.{◌≡◌, ◌≤◌, [], true, false};
+ghost use Rattle.std.specs.Prelude.{◌≡◌, ◌≤◌, [], List, length, true, false, IfOk, OnOk};
 ghost use Rattle.pool_base.specs.Outside.{Appends, AppendsFront, Rose};
+ghost use Rattle.pool_base.specs.declared.outside.Got.TheVariants.{Failed};
+ghost use Rattle.pool_config.specs.declared.config.Node.{Node};
 ghost use Rattle.schema.specs.Grammar.{IsWithin};
+ghost use Rattle.session_machine.specs.declared.machine.Machine.{Machine};
 ghost use Rattle.session_machine.specs.Rules.{next_action};
 ghost use Rattle.session_engine.specs.Handing.{IsReply};
 ghost use Rattle.session_engine.specs.Cores.{machine_in};
-ghost use Rattle.session_wire.specs.Shown.{shown};
+ghost use Rattle.session_wire.specs.Answers.{MayAnswer};
+ghost use Rattle.session_wire.specs.declared.wire.Stage.TheVariants.{Closed};
+ghost use Rattle.session_wire.specs.Shown.{IsFresh, shown, with_end, with_written};
 ghost use Rattle.pool_server.specs.Causes.{IsQuiet, in_step, is_cut_off, is_read_fault, is_write_fault};
+ghost use Rattle.pool_server.specs.Places.{AsServed, Place, Setting, TellsOf, at_moment, setting};
+ghost use Rattle.pool_server.specs.Sights.{Seen, Went, with_client, with_reads, with_taken, with_talk};
+ghost use Rattle.pool_server.specs.Servings.{AreThere, EndsIn, IsFed, IsGiven, IsHad, IsPassing, IsTaken, closed_by, talked, talking};
 ghost use Rattle.pool_server.specs.Told.{Begins};
 
 use crate::end::EndCause;
@@ -17,7 +25,7 @@ use catalogue::Catalogue;
 use pool_base::{Clock, Code, Got, NoMemory, SessionId, Sink, SinkFailed, Source, Text, write_all};
 use pool_config::Config;
 use session_engine::Core;
-use session_orders::{Order, OrderBody};
+use session_orders::{Order, OrderBody, Outcome};
 use session_wire::{Wire, WireStep, may_answer};
 use std::alloc::Global;
 
@@ -32,7 +40,9 @@ pub(crate) struct Talk {
 }
 
 /// An order as this server takes it: a recovery is refused, under the name that its SQL has.
-fn served(alloc: Global, body: OrderBody) -> Result<OrderBody, NoMemory> {
+fn served(alloc: Global, body: OrderBody) -> Result<OrderBody, NoMemory>
+    ensures { IfOk result (λ taken. AsServed body taken) }
+{
     match body {
         OrderBody::Recover(_) => Ok(OrderBody::Refuse {
             code: Code { bytes: *b"0A000" },
@@ -44,7 +54,8 @@ fn served(alloc: Global, body: OrderBody) -> Result<OrderBody, NoMemory> {
 
 /// What stands behind an order.
 fn behind(body: &OrderBody) -> Step
-    ensures { IsQuiet result }
+    ensures quiet { IsQuiet result }
+    ensures passing { IsPassing result }
 {
     if matches!(body, OrderBody::Leave) {
         Step::Leaves
@@ -55,8 +66,12 @@ fn behind(body: &OrderBody) -> Step
 
 /// An order goes to the core.
 fn give(core: &mut Core, moment: i64, body: OrderBody, behind: Step) -> Step
-    requires { IsQuiet behind }
-    ensures { IsQuiet result }
+    requires quiet { IsQuiet behind }
+    requires passing { IsPassing behind }
+    ensures quiet { IsQuiet result }
+    ensures ends { (last : Place) → EndsIn result last }
+    ensures given { IsGiven (at_moment moment body) (machine_in core.old) behind result
+        (machine_in core.new) }
 {
     if !core.may_order(&body) {
         drop(body);
@@ -71,7 +86,9 @@ fn give(core: &mut Core, moment: i64, body: OrderBody, behind: Step) -> Step
 
 /// The wire's order is taken.
 fn take(alloc: Global, order: Order, core: &mut Core) -> Step
-    ensures { IsQuiet result }
+    ensures quiet { IsQuiet result }
+    ensures ends { (last : Place) → EndsIn result last }
+    ensures taken { IsTaken order (machine_in core.old) result (machine_in core.new) }
 {
     let Order { moment, body } = order;
     let behind = behind(&body);
@@ -83,7 +100,9 @@ fn take(alloc: Global, order: Order, core: &mut Core) -> Step
 
 impl Talk {
     /// The wire of a client that has sent nothing yet.
-    pub fn new(alloc: Global, s: SessionId) -> Result<Talk, NoMemory> {
+    pub fn new(alloc: Global, s: SessionId) -> Result<Talk, NoMemory>
+        ensures { IfOk result (λ talk. IsFresh s.number (shown talk.wire)) }
+    {
         Ok(Talk {
             alloc,
             wire: Wire::new(alloc, s)?,
@@ -93,17 +112,31 @@ impl Talk {
     /// The client is told what became of its order.
     pub fn reply(&mut self, config: &Config, core: &mut Core) -> Step
         requires { IsReply (next_action (machine_in core.old)) }
-        ensures { IsQuiet result }
+        ensures quiet { IsQuiet result }
+        ensures ends { (last : Place) → EndsIn result last }
+        ensures went { (tables : _) → (p : Place) → (s : Seen) → Went
+            (setting tables config.now.nodes)
+            (talking p (machine_in core.old) (shown self.old.wire)) s
+            (talked p (machine_in core.new) (shown self.new.wire) result) s }
     {
         let (outcome, status) = core.reply();
         if !may_answer(&outcome) {
             drop(outcome);
             return Step::Over(EndCause::Stopped);
         }
-        match self.wire.answer(config, outcome, status.byte()) {
+        match self.tell(config, outcome, status.byte()) {
             Ok(()) => Step::Goes,
             Err(NoMemory) => Step::Lost(EndCause::NoMemory),
         }
+    }
+
+    /// An outcome is told.
+    fn tell(&mut self, config: &Config, outcome: Outcome, status: u8) -> Result<(), NoMemory>
+        requires { MayAnswer outcome }
+        ensures { OnOk result (TellsOf config.now.nodes (shown self.old.wire).due outcome status
+            (shown self.old.wire) (shown self.new.wire)) }
+    {
+        self.wire.answer(config, outcome, status)
     }
 
     /// The wire's next step is taken.
@@ -125,6 +158,16 @@ impl Talk {
         ensures read_later { I.fault_count source.old ≤ I.fault_count source.new }
         ensures write_later { O.fault_count sink.old ≤ O.fault_count sink.new }
         ensures taken { Begins (O.taken sink.old) (O.taken sink.new) }
+        ensures went { (nodes : List Node) → (p : Place) → (s : Seen) → Went
+            (setting tables.now nodes)
+            (talking p (machine_in core.old) (shown self.old.wire))
+            (with_client s (I.left source.old) (I.ended source.old) (O.taken sink.old)
+            (C.given clock.old))
+            (talked p (machine_in core.new) (shown self.new.wire) result)
+            (with_client s (I.left source.new) (I.ended source.new) (O.taken sink.new)
+            (C.given clock.new)) }
+        ensures ends { (p : Place) → EndsIn result
+            (talked p (machine_in core.new) (shown self.new.wire) result) }
     {
         let moment = clock.now();
         match self.wire.next(tables, moment) {
@@ -147,6 +190,9 @@ impl Talk {
         ensures write { result ≡ false
             → Rose (O.fault_count sink.old) (O.fault_count sink.new) }
         ensures later { O.fault_count sink.old ≤ O.fault_count sink.new }
+        ensures written { result ≡ true → shown self.new.wire ≡ with_written
+            (shown self.old.wire) (length (shown self.old.wire).output) }
+        ensures same { result ≡ false → shown self.new.wire ≡ shown self.old.wire }
     {
         let count = self.wire.output().len();
         match write_all(sink, self.wire.output()) {
@@ -169,6 +215,13 @@ impl Talk {
         ensures read_later { I.fault_count source.old ≤ I.fault_count source.new }
         ensures write_later { O.fault_count sink.old ≤ O.fault_count sink.new }
         ensures taken { Begins (O.taken sink.old) (O.taken sink.new) }
+        ensures went { (w : Setting) → (p : Place) → (m : Machine) → (s : Seen) → Went w
+            (talking p m (shown self.old.wire))
+            (with_talk s (I.left source.old) (I.ended source.old) (O.taken sink.old))
+            (talked p m (shown self.new.wire) result)
+            (with_talk s (I.left source.new) (I.ended source.new) (O.taken sink.new)) }
+        ensures ends { (p : Place) → (m : Machine) → EndsIn result
+            (talked p m (shown self.new.wire) result) }
     {
         if !self.flush(sink) {
             return Step::Lost(EndCause::WriteFault);
@@ -183,13 +236,18 @@ impl Talk {
         ensures write { in_step is_write_fault result ≡ false }
         ensures cut { in_step is_cut_off result ≡ false }
         ensures later { I.fault_count source.old ≤ I.fault_count source.new }
+        ensures went { (w : Setting) → (p : Place) → (m : Machine) → (s : Seen) → Went w
+            (talking p m (shown self.old.wire))
+            (with_reads s (I.left source.old) (I.ended source.old))
+            (talked p m (shown self.new.wire) result)
+            (with_reads s (I.left source.new) (I.ended source.new)) }
+        ensures ends { (p : Place) → (m : Machine) → EndsIn result
+            (talked p m (shown self.new.wire) result) }
     {
         let mut piece = [0u8; PIECE];
         match source.read_soon(&mut piece) {
             None => Step::Silent,
-            Some(Got::Bytes(count)) => self.feed(&piece[..count]),
-            Some(Got::End) => self.end_input(),
-            Some(Got::Failed) => Step::Lost(EndCause::ReadFault),
+            Some(got) => self.had(got, &piece),
         }
     }
 
@@ -200,9 +258,29 @@ impl Talk {
         ensures write { in_step is_write_fault result ≡ false }
         ensures cut { in_step is_cut_off result ≡ false }
         ensures later { I.fault_count source.old ≤ I.fault_count source.new }
+        ensures went { (w : Setting) → (p : Place) → (m : Machine) → (s : Seen) → Went w
+            (talking p m (shown self.old.wire))
+            (with_reads s (I.left source.old) (I.ended source.old))
+            (talked p m (shown self.new.wire) result)
+            (with_reads s (I.left source.new) (I.ended source.new)) }
+        ensures ends { (p : Place) → (m : Machine) → EndsIn result
+            (talked p m (shown self.new.wire) result) }
     {
         let mut piece = [0u8; PIECE];
-        match source.read(&mut piece) {
+        let got = source.read(&mut piece);
+        self.had(got, &piece)
+    }
+
+    /// What was read comes to the wire.
+    fn had(&mut self, got: Got, piece: &[u8]) -> Step
+        requires { AreThere got piece.now }
+        ensures read { in_step is_read_fault result ≡ true → got ≡ Failed }
+        ensures write { in_step is_write_fault result ≡ false }
+        ensures cut { in_step is_cut_off result ≡ false }
+        ensures had { IsHad got piece.now (shown self.old.wire) result (shown self.new.wire) }
+        ensures ends { (p : Place) → EndsIn result p }
+    {
+        match got {
             Got::Bytes(count) => self.feed(&piece[..count]),
             Got::End => self.end_input(),
             Got::Failed => Step::Lost(EndCause::ReadFault),
@@ -211,7 +289,9 @@ impl Talk {
 
     /// The client's bytes have come.
     fn feed(&mut self, piece: &[u8]) -> Step
-        ensures { IsQuiet result }
+        ensures quiet { IsQuiet result }
+        ensures fed { IsFed piece.now (shown self.old.wire) result (shown self.new.wire) }
+        ensures ends { (p : Place) → EndsIn result p }
     {
         match self.wire.feed(piece) {
             Ok(()) => Step::Goes,
@@ -221,7 +301,8 @@ impl Talk {
 
     /// The client's bytes have ended.
     fn end_input(&mut self) -> Step
-        ensures { IsQuiet result }
+        ensures goes { result ≡ Step.Goes }
+        ensures shown { shown self.new.wire ≡ with_end (shown self.old.wire) }
     {
         self.wire.end_input();
         Step::Goes
@@ -230,6 +311,7 @@ impl Talk {
     /// The wire is closed. A client that was refused has been told so.
     #[tactic(auto, using(crate::proofs::Begun::begins_all, crate::proofs::Begun::begins_front))]
     fn close<O: Sink>(&mut self, refused: bool, sink: &mut O) -> Step
+        requires { (shown self.old.wire).stage ≡ Closed refused }
         ensures read { in_step is_read_fault result ≡ false }
         ensures write { in_step is_write_fault result ≡ true
             → Rose (O.fault_count sink.old) (O.fault_count sink.new) }
@@ -238,14 +320,27 @@ impl Talk {
         ensures taken { Begins (O.taken sink.old) (O.taken sink.new) }
         ensures told { in_step is_write_fault result ≡ false
             → Appends (O.taken sink.old) (O.taken sink.new) (shown self.old.wire).output }
+        ensures went { (w : Setting) → (p : Place) → (m : Machine) → (s : Seen) → Went w
+            (talking p m (shown self.old.wire)) (with_taken s (O.taken sink.old))
+            (talked p m (shown self.new.wire) result) (with_taken s (O.taken sink.new)) }
+        ensures ends { (p : Place) → (m : Machine) → EndsIn result
+            (talked p m (shown self.new.wire) result) }
     {
         if !self.flush(sink) {
             return Step::Over(EndCause::WriteFault);
         }
-        Step::Over(if refused {
-            EndCause::Refused
-        } else {
-            EndCause::Left
-        })
+        Step::Over(end_of(refused))
+    }
+}
+
+/// How a session ends whose wire is closed so.
+fn end_of(refused: bool) -> EndCause
+    ensures quiet { IsQuiet (Step.Over result) }
+    ensures is { result ≡ closed_by refused }
+{
+    if refused {
+        EndCause::Refused
+    } else {
+        EndCause::Left
     }
 }

@@ -1,9 +1,14 @@
 //! What is done of what is due of the core: one call of the gate, one detachment, one post, one
 //! look for an answer.
-ghost use Rattle.session_machine.specs.Rules.{next_action};
-ghost use Rattle.session_engine.specs.Handing.{IsDetach, IsPost};
+ghost use Rattle.std.specs.Prelude.{◌≡◌, IfOk};
+ghost use Rattle.session_machine.specs.Rules.{new_machine, next_action};
+ghost use Rattle.session_engine.specs.declared.ask.Ask.TheVariants as asks;
+ghost use Rattle.session_engine.specs.Handing.{IsDetach, IsPost, asked_of};
 ghost use Rattle.session_engine.specs.Cores.{machine_in};
 ghost use Rattle.pool_server.specs.Causes.{IsQuiet};
+ghost use Rattle.pool_server.specs.Places.{Place, Setting, with_machine};
+ghost use Rattle.pool_server.specs.Sights.{Seen, Went, with_calls};
+ghost use Rattle.pool_server.specs.Servings.{EndsIn, IsAnswered, IsPeeked, stepped};
 
 use crate::end::EndCause;
 use crate::outside::{GatePass, Notices};
@@ -11,7 +16,7 @@ use crate::parting::Step;
 use backend_trait::{Answer, Request};
 use link_words::Link;
 use pg_messages::Pair;
-use pool_base::{BackendId, BackendSet, GateAnswer, GateCall, NoMemory, SessionId, View};
+use pool_base::{BackendId, BackendSet, GateAnswer, GateCall, NoMemory, SessionId};
 use session_engine::Core;
 use session_links::{Found, LinkMaker, Links, Loss, Sent};
 use session_machine::{Cause, ReadPolicy};
@@ -70,7 +75,9 @@ fn patience_of(request: &Request) -> Patience {
 
 impl<L: Link> Work<L> {
     /// A core that rests, and no link.
-    pub fn new(alloc: Global, id: SessionId, policy: ReadPolicy) -> Result<Work<L>, NoMemory> {
+    pub fn new(alloc: Global, id: SessionId, policy: ReadPolicy) -> Result<Work<L>, NoMemory>
+        ensures { IfOk result (λ work. machine_in work.core ≡ new_machine id policy) }
+    {
         Ok(Work {
             id,
             core: Core::new(alloc, id, policy)?,
@@ -82,7 +89,10 @@ impl<L: Link> Work<L> {
         })
     }
 
-    fn pause<G: GatePass>(&mut self, gate: &mut G) {
+    fn pause<G: GatePass>(&mut self, gate: &mut G)
+        ensures machine { machine_in self.new.core ≡ machine_in self.old.core }
+        ensures calls { G.calls gate.new ≡ G.calls gate.old }
+    {
         gate.pause(self.tries);
         self.tries = self.tries.saturating_add(1);
     }
@@ -90,19 +100,33 @@ impl<L: Link> Work<L> {
     /// Memory was refused: the step is tried again. After so many tries the client is given up,
     /// where that may be.
     fn short<G: GatePass>(&mut self, gate: &mut G) -> Step
-        ensures { IsQuiet result }
+        ensures quiet { IsQuiet result }
+        ensures ends { (last : Place) → EndsIn result last }
+        ensures went { (w : Setting) → (p : Place) → (s : Seen) → Went w
+            (with_machine p (machine_in self.old.core)) (with_calls s (G.calls gate.old))
+            (stepped p (machine_in self.new.core) result) (with_calls s (G.calls gate.new)) }
     {
         self.pause(gate);
-        if self.tries >= MEMORY_TRIES && self.core.may_give_up() {
+        if self.is_tired() {
             self.tries = 0;
             return Step::Lost(EndCause::NoMemory);
         }
         Step::Goes
     }
 
+    /// Whether memory was asked for so often that the client may be given up.
+    fn is_tired(&self) -> bool {
+        self.tries >= MEMORY_TRIES && self.core.may_give_up()
+    }
+
     /// A call of the gate. One that is held is made again.
     pub fn call<G: GatePass>(&mut self, call: GateCall, gate: &mut G) -> Step
-        ensures { IsQuiet result }
+        requires { asked_of (next_action (machine_in self.old.core)) ≡ asks.Gate call }
+        ensures quiet { IsQuiet result }
+        ensures ends { (last : Place) → EndsIn result last }
+        ensures went { (w : Setting) → (p : Place) → (s : Seen) → Went w
+            (with_machine p (machine_in self.old.core)) (with_calls s (G.calls gate.old))
+            (stepped p (machine_in self.new.core) result) (with_calls s (G.calls gate.new)) }
     {
         if !gate.may_step(call) {
             return Step::Over(EndCause::Stopped);
@@ -118,7 +142,10 @@ impl<L: Link> Work<L> {
 
     /// The gate has answered.
     fn answered(&mut self, answer: GateAnswer) -> Step
-        ensures { IsQuiet result }
+        ensures quiet { IsQuiet result }
+        ensures ends { (last : Place) → EndsIn result last }
+        ensures answered { IsAnswered (machine_in self.old.core) answer result
+            (machine_in self.new.core) }
     {
         if !self.core.may_gate_answer(&answer) {
             return Step::Over(EndCause::Stopped);
@@ -129,7 +156,9 @@ impl<L: Link> Work<L> {
     }
 
     /// What a view of the gate means for the links: those to what is not attached are dropped.
-    fn heed(&mut self, call: GateCall, answer: GateAnswer) {
+    fn heed(&mut self, call: GateCall, answer: GateAnswer)
+        ensures { machine_in self.new.core ≡ machine_in self.old.core }
+    {
         match answer {
             GateAnswer::Granted(view) => {
                 if call == GateCall::EnterSnapshot {
@@ -143,7 +172,9 @@ impl<L: Link> Work<L> {
     }
 
     /// A snapshot was entered: in another epoch a backend may have left and come again.
-    fn entered(&mut self, now: u32) {
+    fn entered(&mut self, now: u32)
+        ensures { machine_in self.new.core ≡ machine_in self.old.core }
+    {
         if let Some(before) = self.epoch {
             if before != now {
                 self.links.keep(BackendSet::EMPTY);
@@ -159,8 +190,13 @@ impl<L: Link> Work<L> {
         gate: &mut G,
         notices: &mut N,
     ) -> Step
-        requires { IsDetach (next_action (machine_in self.old.core)) }
-        ensures { IsQuiet result }
+        requires due { IsDetach (next_action (machine_in self.old.core)) }
+        requires asked { asked_of (next_action (machine_in self.old.core)) ≡ asks.Detach b }
+        ensures quiet { IsQuiet result }
+        ensures ends { (last : Place) → EndsIn result last }
+        ensures went { (w : Setting) → (p : Place) → (s : Seen) → Went w
+            (with_machine p (machine_in self.old.core)) (with_calls s (G.calls gate.old))
+            (stepped p (machine_in self.new.core) result) (with_calls s (G.calls gate.new)) }
     {
         let cause = match self.core.cause() {
             Ok(cause) => cause,
@@ -168,18 +204,18 @@ impl<L: Link> Work<L> {
         };
         let call = GateCall::Detach { b };
         let answer = gate.step(call);
-        if let GateAnswer::Granted(view) = answer {
-            self.tell(b, &cause, view, notices);
-        }
+        self.tell(b, &cause, answer, notices);
         drop(cause);
         self.heed(call, answer);
         self.answered(answer)
     }
 
-    fn tell<N: Notices>(&self, b: BackendId, cause: &Cause, view: View, notices: &mut N) {
-        notices.detached(self.id, b, cause);
-        if view.attached.is_empty() {
-            notices.none_left();
+    fn tell<N: Notices>(&self, b: BackendId, cause: &Cause, answer: GateAnswer, notices: &mut N) {
+        if let GateAnswer::Granted(view) = answer {
+            notices.detached(self.id, b, cause);
+            if view.attached.is_empty() {
+                notices.none_left();
+            }
         }
     }
 
@@ -191,8 +227,13 @@ impl<L: Link> Work<L> {
         maker: &mut M,
         gate: &mut G,
     ) -> Step
-        requires { IsPost (next_action (machine_in self.old.core)) }
-        ensures { IsQuiet result }
+        requires due { IsPost (next_action (machine_in self.old.core)) }
+        requires asked { asked_of (next_action (machine_in self.old.core)) ≡ asks.Post b }
+        ensures quiet { IsQuiet result }
+        ensures ends { (last : Place) → EndsIn result last }
+        ensures went { (w : Setting) → (p : Place) → (s : Seen) → Went w
+            (with_machine p (machine_in self.old.core)) (with_calls s (G.calls gate.old))
+            (stepped p (machine_in self.new.core) result) (with_calls s (G.calls gate.new)) }
     {
         if self.links.is_awaited(b) {
             return Step::Over(EndCause::Stopped);
@@ -220,7 +261,12 @@ impl<L: Link> Work<L> {
         maker: &M,
         gate: &mut G,
     ) -> Step
-        ensures { IsQuiet result }
+        requires { asked_of (next_action (machine_in self.old.core)) ≡ asks.WaitFor b }
+        ensures quiet { IsQuiet result }
+        ensures ends { (last : Place) → EndsIn result last }
+        ensures went { (w : Setting) → (p : Place) → (s : Seen) → Went w
+            (with_machine p (machine_in self.old.core)) (with_calls s (G.calls gate.old))
+            (stepped p (machine_in self.new.core) result) (with_calls s (G.calls gate.new)) }
     {
         if !self.links.is_awaited(b) {
             return Step::Over(EndCause::Stopped);
@@ -237,7 +283,9 @@ impl<L: Link> Work<L> {
     }
 
     /// The wire has its turn.
-    pub fn rest(&mut self) {
+    pub fn rest(&mut self)
+        ensures { machine_in self.new.core ≡ machine_in self.old.core }
+    {
         self.turns = self.turns.saturating_add(1);
         if self.turns >= TURNS && self.settle() {
             self.turns = 0;
@@ -245,7 +293,9 @@ impl<L: Link> Work<L> {
     }
 
     /// The backends are told what was held back from them. False: some of it is not told yet.
-    pub fn settle(&mut self) -> bool {
+    pub fn settle(&mut self) -> bool
+        ensures { machine_in self.new.core ≡ machine_in self.old.core }
+    {
         let mut told = true;
         for number in 0..8 {
             told = self.links.settle(BackendId { number }) && told;
@@ -254,7 +304,11 @@ impl<L: Link> Work<L> {
     }
 
     fn hear(&mut self, b: BackendId, answer: Answer) -> Step
-        ensures { IsQuiet result }
+        ensures quiet { IsQuiet result }
+        ensures ends { (last : Place) → EndsIn result last }
+        ensures went { (w : Setting) → (p : Place) → (s : Seen) → Went w
+            (with_machine p (machine_in self.old.core)) s
+            (stepped p (machine_in self.new.core) result) s }
     {
         if !self.core.may_hear(b, &answer) {
             drop(answer);
@@ -266,7 +320,11 @@ impl<L: Link> Work<L> {
     }
 
     fn lose(&mut self, b: BackendId, loss: Loss) -> Step
-        ensures { IsQuiet result }
+        ensures quiet { IsQuiet result }
+        ensures ends { (last : Place) → EndsIn result last }
+        ensures went { (w : Setting) → (p : Place) → (s : Seen) → Went w
+            (with_machine p (machine_in self.old.core)) s
+            (stepped p (machine_in self.new.core) result) s }
     {
         if !self.core.may_lose(b, loss.before, loss.after) {
             return Step::Over(EndCause::Stopped);
@@ -290,15 +348,25 @@ impl<L: Link> Work<L> {
         b: BackendId,
         maker: &M,
         gate: &mut G,
-    ) {
+    )
+        ensures machine { machine_in self.new.core ≡ machine_in self.old.core }
+        ensures calls { IsPeeked (G.calls gate.old) (G.calls gate.new) }
+    {
         self.tries = self.tries.saturating_add(1);
         if self.hangs(b, maker) {
             return self.links.give_up(b);
         }
-        if let GateAnswer::Seen(view) = gate.step(GateCall::Look) {
-            if !view.attached.has(b) {
-                self.links.give_up(b);
-            }
+        let answer = gate.step(GateCall::Look);
+        if is_away(b, answer) {
+            self.links.give_up(b);
         }
+    }
+}
+
+/// Whether a look at the gate shows that the backend is attached no more.
+fn is_away(b: BackendId, answer: GateAnswer) -> bool {
+    match answer {
+        GateAnswer::Seen(view) => !view.attached.has(b),
+        GateAnswer::Granted(_) | GateAnswer::Held(_) | GateAnswer::Spent => false,
     }
 }

@@ -85,10 +85,13 @@ fn wait_behind(tries: u32) -> Option<Duration> {
 
 impl<'a, R: Wait + Clock, G: AtGate> GatePass for PassAt<'a, R, G> {
     ghost use Rattle.shared_gate.specs.History.{stand_of};
+    ghost use Rattle.pool_server.specs.Sights.{calls_in};
 
     ghost stand = { λ p. stand_of p.pass.mine };
 
     ghost cut = { λ p. p.footing.is_cut };
+
+    ghost calls = { λ p. calls_in p.pass.mine };
 
     fn may_step(&self, call: GateCall) -> bool {
         self.footing.may_make(call)

@@ -1,0 +1,238 @@
+-- What a session does of what is due of its client, as deeds.
+use Rattle.std.proofs.Common.{◌≡◌, ◌≤◌, ℕ, Bool, true, false, List, [], ◌∷◌, ◌++◌, length, take, Result, Ok, Err, refl, sym, ap, ◌∙◌, subst, inl, inr}
+use Rattle.std.specs.Prelude.{ℤ, ◌⊎◌, ◌||◌, Option, Some, None, OnOk}
+use Rattle.std.proofs.lemmas.List.{append-nil}
+use Rattle.pool_base.proofs.Sinking.{appends_nothing}
+use Rattle.pool_base.specs.Outside.{Appends, AppendsFront, Gave, Gives, is_end}
+use Rattle.pool_base.specs.declared.outside.Got.{Got}
+use Rattle.pool_base.specs.declared.outside.Got.TheVariants as got
+use Rattle.pool_config.specs.declared.config.Node.{Node}
+use Rattle.schema.specs.declared.catalogue.TableDef.{TableDef}
+use Rattle.session_orders.specs.declared.order.Order.{Order}
+use Rattle.session_orders.specs.declared.order.OrderBody.{OrderBody}
+use Rattle.session_orders.specs.declared.order.OrderBody.TheVariants as orders
+use Rattle.session_orders.specs.declared.outcome.Outcome.{Outcome}
+use Rattle.session_machine.specs.declared.status.Status.{Status}
+use Rattle.session_machine.specs.declared.action.Action.TheVariants as actions
+use Rattle.session_machine.specs.declared.action.SessionEvent.TheVariants as events
+use Rattle.session_machine.specs.declared.machine.Point.{Point}
+use Rattle.session_machine.specs.declared.machine.Point.TheVariants.{Resting, EnterDue, LookDue, PostDue, Waiting, LostDue, SplitDue, ChooseDue, ShowDue, LeaveSnapshotDue, UnwindDue, EnterCommitDue, LeaveCommitDue, FinishDue, ReplyDue, EndDue}
+use Rattle.session_machine.specs.declared.machine.Machine.{Machine}
+use Rattle.session_machine.specs.declared.machine.Session.{Session}
+use Rattle.session_machine.specs.Rules.{action_at, after_at, due, next_action, status_byte}
+use Rattle.session_engine.specs.Handing.{handed}
+use Rattle.session_wire.specs.declared.due.Due.{Due}
+use Rattle.session_wire.specs.declared.wire.Stage.TheVariants.{Closed}
+use Rattle.session_wire.specs.declared.wire.WireStep.{WireStep}
+use Rattle.session_wire.specs.declared.wire.WireStep.TheVariants as wires
+use Rattle.session_wire.specs.Shown.{View, with_end, with_piece, with_written}
+use Rattle.session_wire.specs.Steps.{IsNext}
+use Rattle.pool_server.specs.declared.end.EndCause.{EndCause}
+use Rattle.pool_server.specs.declared.end.EndCause.TheVariants as causes
+use Rattle.pool_server.specs.declared.parting.Step.{Step}
+use Rattle.pool_server.specs.declared.parting.Step.TheVariants as steps
+use Rattle.pool_server.specs.Deeds.{Deed, Reads, ReadsEnd, Turns, Writes, Does, Loses, Miss, Plainly, Behind, Unfed, Unturned, Untaken, Untold}
+use Rattle.pool_server.specs.Places.{Setting, Place, AsServed, CausesMiss, Moves, Takes, Tells, TellsOf, Turned, at_moment, led}
+use Rattle.pool_server.specs.Sights.{Seen, Shows, Went, with_given, with_reads, with_taken}
+use Rattle.pool_server.specs.Servings.{EndsIn, IsFed, IsGiven, IsHad, IsMissed, IsPassing, IsTaken, closed_by, lost_with, talked, talking}
+use Rattle.pool_server.proofs.Going.{gives_nothing, went_none, went_on, went_one, went_same}
+
+or_false : (b : Bool) → (b || false) ≡ b
+or_false true = refl
+or_false false = refl
+
+or_true : (b : Bool) → (b || true) ≡ true
+or_true true = refl
+or_true false = refl
+
+module _ (w : Setting) (p : Place) (s : Seen) where
+  -- Writes.
+
+  pub wrote : (m : Machine) (v v' : View) (taken taken' : Option (List ℕ)) → Appends taken taken' v.output → v' ≡ with_written v (length v.output)
+      → Went w (talking p m v) (with_taken s taken) (talking p m v') (with_taken s taken')
+  wrote m v v' taken taken' takes leads = went_one w (talking p m v) (talking p m v') (Writes v.output) (with_taken s taken) (with_taken s taken')
+      (refl, (refl, ap (talking p m) leads))
+      (record { read = gives_nothing s.left; ended = refl; written = subst (λ (z : List ℕ). Appends taken taken' z) (sym (append-nil v.output)) takes; moments = appends_nothing s.given; calls = sym (append-nil s.calls) })
+
+  pub wrote_front : (m : Machine) (v v' : View) (taken taken' : Option (List ℕ)) (step : Step) → AppendsFront taken taken' v.output → v' ≡ v → lost_with None step ≡ Some causes.WriteFault
+      → Went w (talking p m v) (with_taken s taken) (talked p m v' step) (with_taken s taken')
+  wrote_front m v v' taken taken' step takes same lost = went_one w (talking p m v) (talked p m v' step) (Loses causes.WriteFault (Behind takes.front)) (with_taken s taken) (with_taken s taken')
+      (lost, (tt, (refl, (same, (takes.rest, takes.parts)))))
+      (record { read = gives_nothing s.left; ended = refl; written = subst (λ (z : List ℕ). Appends taken taken' z) (sym (append-nil takes.front)) takes.has; moments = appends_nothing s.given; calls = sym (append-nil s.calls) })
+
+  -- Reads.
+
+  fed : (m : Machine) (v v' : View) (bytes : List ℕ) (step : Step) (left left' : Option (List ℕ)) (ended ended' : Bool) → IsFed bytes v step v' → Gives left left' bytes → ended' ≡ ended
+      → Went w (talking p m v) (with_reads s left ended) (talked p m v' step) (with_reads s left' ended')
+  fed m v v' bytes step left left' ended ended' (inl (goes, leads)) gives same =
+      subst (λ (st : Step). Went w (talking p m v) (with_reads s left ended) (talked p m v' st) (with_reads s left' ended')) (sym goes)
+      (went_one w (talking p m v) (talking p m v') (Reads bytes) (with_reads s left ended) (with_reads s left' ended')
+      (refl, ap (talking p m) leads)
+      (record { read = subst (λ (z : List ℕ). Gives left left' z) (sym (append-nil bytes)) gives; ended = same; written = appends_nothing s.taken; moments = appends_nothing s.given; calls = sym (append-nil s.calls) }))
+  fed m v v' bytes step left left' ended ended' (inr (lost, leads)) gives same =
+      subst (λ (st : Step). Went w (talking p m v) (with_reads s left ended) (talked p m v' st) (with_reads s left' ended')) (sym lost)
+      (went_one w (talking p m v) (talked p m v' (steps.Lost causes.NoMemory)) (Loses causes.NoMemory (Unfed bytes)) (with_reads s left ended) (with_reads s left' ended')
+      (refl, (tt, (refl, leads)))
+      (record { read = subst (λ (z : List ℕ). Gives left left' z) (sym (append-nil bytes)) gives; ended = same; written = appends_nothing s.taken; moments = appends_nothing s.given; calls = sym (append-nil s.calls) }))
+
+  pub had : (m : Machine) (v v' : View) (given : Got) (piece : List ℕ) (step : Step) (left left' : Option (List ℕ)) (ended ended' : Bool) → IsHad given piece v step v' → Gave given piece left left' → ended' ≡ (ended || is_end given)
+      → Went w (talking p m v) (with_reads s left ended) (talked p m v' step) (with_reads s left' ended')
+  had m v v' (got.Bytes count) piece step left left' ended ended' is gave same = fed m v v' (take count piece) step left left' ended ended' is gave.2 (same ∙ or_false ended)
+  had m v v' got.End piece step left left' ended ended' (goes, leads) gave same =
+      subst (λ (st : Step). Went w (talking p m v) (with_reads s left ended) (talked p m v' st) (with_reads s left' ended')) (sym goes)
+      (went_one w (talking p m v) (talking p m v') ReadsEnd (with_reads s left ended) (with_reads s left' ended')
+      (refl, ap (talking p m) leads)
+      (record { read = subst (λ (z : Option (List ℕ)). Gives left z []) (sym gave.1) (gives_nothing left); ended = same ∙ or_true ended; written = appends_nothing s.taken; moments = appends_nothing s.given; calls = sym (append-nil s.calls) }))
+  had m v v' got.Failed piece step left left' ended ended' (lost, leads) gave same =
+      subst (λ (st : Step). Went w (talking p m v) (with_reads s left ended) (talked p m v' st) (with_reads s left' ended')) (sym lost)
+      (went_one w (talking p m v) (talked p m v' (steps.Lost causes.ReadFault)) (Loses causes.ReadFault Plainly) (with_reads s left ended) (with_reads s left' ended')
+      (refl, (tt, (refl, leads)))
+      (record { read = subst (λ (z : Option (List ℕ)). Gives left z []) (sym gave) (gives_nothing left); ended = same ∙ or_false ended; written = appends_nothing s.taken; moments = appends_nothing s.given; calls = sym (append-nil s.calls) }))
+
+  -- nothing has come
+  pub silent : (m : Machine) (v : View) (left left' : Option (List ℕ)) (ended ended' : Bool) → left' ≡ left → ended' ≡ ended
+      → Went w (talking p m v) (with_reads s left ended) (talked p m v steps.Silent) (with_reads s left' ended')
+  silent m v left left' ended ended' one two = went_same w (talking p m v) (talking p m v) (with_reads s left ended) (with_reads s left' ended') refl
+      (λ i. with_reads s (one i) (two i))
+
+  -- What comes next of the client.
+
+  pub turned : (m n : Machine) (v v' : View) (moment : ℤ) (next : WireStep) (given given' : Option (List ℤ)) → IsNext w.tables moment v next v' → Turned next m n → Appends given given' (moment ∷ [])
+      → Went w (talking p m v) (with_given s given) (talking p n v') (with_given s given')
+  turned m n v v' moment next given given' is leads reads = went_one w (talking p m v) (talking p n v') (Turns moment next) (with_given s given) (with_given s given')
+      (refl, (refl, (is, leads)))
+      (record { read = gives_nothing s.left; ended = refl; written = appends_nothing s.taken; moments = reads; calls = sym (append-nil s.calls) })
+
+  pub not_turned : (cause : EndCause) (m n : Machine) (v v' : View) (moment : ℤ) (step : Step) (given given' : Option (List ℤ)) → CausesMiss cause (Unturned moment) → lost_with None step ≡ Some cause → n ≡ m
+      → Appends given given' (moment ∷ []) → Went w (talking p m v) (with_given s given) (talked p n v' step) (with_given s given')
+  not_turned cause m n v v' moment step given given' may lost same reads = went_one w (talking p m v) (talked p n v' step) (Loses cause (Unturned moment)) (with_given s given) (with_given s given')
+      (lost, (may, same))
+      (record { read = gives_nothing s.left; ended = refl; written = appends_nothing s.taken; moments = reads; calls = sym (append-nil s.calls) })
+
+  not_taken : (cause : EndCause) (m n : Machine) (v v' : View) (moment : ℤ) (order : Order) (given given' : Option (List ℤ)) → CausesMiss cause (Untaken moment order) → IsNext w.tables moment v (wires.Order order) v' → n ≡ m
+      → Appends given given' (moment ∷ []) → Went w (talking p m v) (with_given s given) (record p { machine = n; view = v'; lost = Some cause }) (with_given s given')
+  not_taken cause m n v v' moment order given given' may is same reads = went_one w (talking p m v) (record p { machine = n; view = v'; lost = Some cause }) (Loses cause (Untaken moment order)) (with_given s given) (with_given s given')
+      (refl, (may, (same, is)))
+      (record { read = gives_nothing s.left; ended = refl; written = appends_nothing s.taken; moments = reads; calls = sym (append-nil s.calls) })
+
+  passes : (step : Step) → IsPassing step → lost_with None step ≡ None
+  passes step (inl goes) = ap (lost_with None) goes
+  passes step (inr leaves) = ap (lost_with None) leaves
+
+  pub ordered : (m n : Machine) (v v' : View) (moment : ℤ) (order : Order) (step : Step) (given given' : Option (List ℤ)) → IsNext w.tables moment v (wires.Order order) v' → IsTaken order m step n → Appends given given' (moment ∷ [])
+      → Went w (talking p m v) (with_given s given) (talked p n v' step) (with_given s given')
+  ordered m n v v' moment order step given given' is (inl (passing, takes)) reads =
+      subst (λ (l : Option EndCause). Went w (talking p m v) (with_given s given) (record p { machine = n; view = v'; lost = l }) (with_given s given')) (sym (passes step passing))
+      (turned m n v v' moment (wires.Order order) given given' is takes reads)
+  ordered m n v v' moment order step given given' is (inr (inl stops, same)) reads =
+      subst (λ (st : Step). Went w (talking p m v) (with_given s given) (talked p n v' st) (with_given s given')) (sym stops)
+      (not_taken causes.Stopped m n v v' moment order given given' tt is same reads)
+  ordered m n v v' moment order step given given' is (inr (inr lost, same)) reads =
+      subst (λ (st : Step). Went w (talking p m v) (with_given s given) (talked p n v' st) (with_given s given')) (sym lost)
+      (not_taken causes.NoMemory m n v v' moment order given given' tt is same reads)
+
+  -- The wire is closed.
+
+  pub closed : (m : Machine) (v v' : View) (taken taken' : Option (List ℕ)) (refused : Bool) (cause : EndCause) → cause ≡ closed_by refused → Appends taken taken' v.output → v' ≡ with_written v (length v.output)
+      → Went w (talking p m v) (with_taken s taken) (talked p m v' (steps.Over cause)) (with_taken s taken')
+  closed m v v' taken taken' true cause is takes leads =
+      subst (λ (c : EndCause). Went w (talking p m v) (with_taken s taken) (talked p m v' (steps.Over c)) (with_taken s taken')) (sym is) (wrote m v v' taken taken' takes leads)
+  closed m v v' taken taken' false cause is takes leads =
+      subst (λ (c : EndCause). Went w (talking p m v) (with_taken s taken) (talked p m v' (steps.Over c)) (with_taken s taken')) (sym is) (wrote m v v' taken taken' takes leads)
+
+  -- Replies.
+
+  pub told : (m n : Machine) (v v' : View) (outcome : Outcome) (status : Status) → actions.Reply outcome status ≡ next_action m → n ≡ led m (events.Replied outcome status)
+      → TellsOf w.nodes v.due outcome (status_byte status) v v' → Went w (talking p m v) s (talking p n v') s
+  told m n v v' outcome status due leads tells = went_one w (talking p m v) (talking p n v') (Does (events.Replied outcome status)) s s
+      (refl, (record { may = sym due; leads = leads }, (refl, tells)))
+      (record { read = gives_nothing s.left; ended = refl; written = appends_nothing s.taken; moments = appends_nothing s.given; calls = sym (append-nil s.calls) })
+
+  pub not_told : (cause : EndCause) (m n : Machine) (v v' : View) (outcome : Outcome) (status : Status) (step : Step) → CausesMiss cause (Untold outcome status) → lost_with None step ≡ Some cause → actions.Reply outcome status ≡ next_action m
+      → n ≡ led m (events.Replied outcome status) → Went w (talking p m v) s (talked p n v' step) s
+  not_told cause m n v v' outcome status step may lost due leads = went_one w (talking p m v) (talked p n v' step) (Loses cause (Untold outcome status)) s s
+      (lost, (may, record { may = sym due; leads = leads }))
+      (record { read = gives_nothing s.left; ended = refl; written = appends_nothing s.taken; moments = appends_nothing s.given; calls = sym (append-nil s.calls) })
+
+-- a reading of the clock, as it is passed on
+pub next_at : (tables : List TableDef) (moment passed : ℤ) (v v' : View) (step other : WireStep) → passed ≡ moment → other ≡ step → IsNext tables passed v other v' → IsNext tables moment v step v'
+next_at tables moment passed v v' step other one two is =
+    subst (λ (st : WireStep). IsNext tables moment v st v') two (subst (λ (z : ℤ). IsNext tables z v other v') one is)
+
+pub closes : (p : Place) (m : Machine) (v v' : View) (refused : Bool) (cause : EndCause) → cause ≡ closed_by refused → v.stage ≡ Closed refused → v' ≡ with_written v (length v.output) → v'.output ≡ []
+    → EndsIn (steps.Over cause) (talked p m v' (steps.Over cause))
+closes p m v v' true cause is stage leads none =
+    subst (λ (c : EndCause). EndsIn (steps.Over c) (talked p m v' (steps.Over c))) (sym is) (inr (refl, (ap (λ (u : View). u.stage) leads ∙ stage, none)))
+closes p m v v' false cause is stage leads none =
+    subst (λ (c : EndCause). EndsIn (steps.Over c) (talked p m v' (steps.Over c))) (sym is) (inr (refl, (ap (λ (u : View). u.stage) leads ∙ stage, none)))
+
+-- An order is given to the machine.
+
+pub as_other : (body : OrderBody) → ((number : ℕ) → body ≡ orders.Recover number → ⊥) → AsServed body body
+as_other (orders.Statement checked) other = refl
+as_other orders.Begin other = refl
+as_other orders.Commit other = refl
+as_other orders.Rollback other = refl
+as_other orders.Settle other = refl
+as_other orders.ShowNodes other = refl
+as_other (orders.Recover number) other = absurd (other number refl)
+as_other (orders.Refuse code name) other = refl
+as_other orders.Leave other = refl
+
+pub taken_by : (order : Order) (body : OrderBody) (passing step : Step) (m n : Machine) → AsServed order.body body → IsPassing passing → IsGiven (at_moment order.moment body) m passing step n → IsTaken order m step n
+taken_by order body passing step m n served is (inl (same, moves)) = inl (subst IsPassing (sym same) is, record { body = body; served = served; moves = moves })
+taken_by order body passing step m n served is (inr missed) = inr missed
+
+-- The reply of an outcome.
+
+pub tells : (nodes : List Node) (v v' : View) (outcome : Outcome) (status : ℕ) (d : Option Due) → v.due ≡ d → v'.due ≡ None → (v.due ≡ None → v' ≡ v)
+    → ((due : Due) → v.due ≡ Some due → Tells nodes due outcome status v v') → TellsOf nodes v.due outcome status v v'
+tells nodes v v' outcome status None is gone none some = subst (λ (e : Option Due). TellsOf nodes e outcome status v v') (sym is) (none is)
+tells nodes v v' outcome status (Some due) is gone none some = subst (λ (e : Option Due). TellsOf nodes e outcome status v v') (sym is) (some due is)
+
+-- A reply that is handed out has taken place, and an end.
+
+replied_at : (session : Session) (point : Point) (outcome : Outcome) (status : Status) → actions.Reply outcome status ≡ action_at session point
+    → handed (due session point) ≡ led (due session point) (events.Replied outcome status)
+unfolding after_at
+replied_at session Resting outcome status is = absurd (cc)
+replied_at session (EnterDue work) outcome status is = absurd (cc)
+replied_at session (LookDue stage) outcome status is = absurd (cc)
+replied_at session (PostDue stage b) outcome status is = absurd (cc)
+replied_at session (Waiting stage b) outcome status is = absurd (cc)
+replied_at session (LostDue stage b before later) outcome status is = absurd (cc)
+replied_at session (SplitDue stage best own among more) outcome status is = absurd (cc)
+replied_at session (ChooseDue work) outcome status is = absurd (cc)
+replied_at session ShowDue outcome status is = absurd (cc)
+replied_at session (LeaveSnapshotDue work) outcome status is = absurd (cc)
+replied_at session (UnwindDue ending) outcome status is = absurd (cc)
+replied_at session EnterCommitDue outcome status is = absurd (cc)
+replied_at session (LeaveCommitDue ending) outcome status is = absurd (cc)
+replied_at session (FinishDue ending) outcome status is = absurd (cc)
+replied_at session (ReplyDue other) outcome status is = refl
+replied_at session EndDue outcome status is = absurd (cc)
+
+pub replied : (m : Machine) (outcome : Outcome) (status : Status) → actions.Reply outcome status ≡ next_action m → handed m ≡ led m (events.Replied outcome status)
+replied m outcome status is = replied_at m.session m.point outcome status is
+
+ended_at : (session : Session) (point : Point) → action_at session point ≡ actions.End → handed (due session point) ≡ led (due session point) events.Ended
+unfolding after_at
+ended_at session Resting is = absurd (cc)
+ended_at session (EnterDue work) is = absurd (cc)
+ended_at session (LookDue stage) is = absurd (cc)
+ended_at session (PostDue stage b) is = absurd (cc)
+ended_at session (Waiting stage b) is = absurd (cc)
+ended_at session (LostDue stage b before later) is = absurd (cc)
+ended_at session (SplitDue stage best own among more) is = absurd (cc)
+ended_at session (ChooseDue work) is = absurd (cc)
+ended_at session ShowDue is = absurd (cc)
+ended_at session (LeaveSnapshotDue work) is = absurd (cc)
+ended_at session (UnwindDue ending) is = absurd (cc)
+ended_at session EnterCommitDue is = absurd (cc)
+ended_at session (LeaveCommitDue ending) is = absurd (cc)
+ended_at session (FinishDue ending) is = absurd (cc)
+ended_at session (ReplyDue other) is = absurd (cc)
+ended_at session EndDue is = refl
+
+pub ended : (m : Machine) → next_action m ≡ actions.End → handed m ≡ led m events.Ended
+ended m is = ended_at m.session m.point is

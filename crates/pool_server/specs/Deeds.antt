@@ -1,0 +1,42 @@
+-- What takes place in a session that is served: its deeds, one after another.
+use Rattle.std.specs.Prelude.{ℕ, ℤ, List}
+use Rattle.pool_base.specs.declared.gate_call.GateCall.{GateCall}
+use Rattle.pool_base.specs.declared.gate_call.GateAnswer.{GateAnswer}
+use Rattle.session_orders.specs.declared.order.Order.{Order}
+use Rattle.session_orders.specs.declared.outcome.Outcome.{Outcome}
+use Rattle.session_machine.specs.declared.status.Status.{Status}
+use Rattle.session_machine.specs.declared.action.SessionEvent.{SessionEvent}
+use Rattle.session_wire.specs.declared.wire.WireStep.{WireStep}
+use Rattle.pool_server.specs.declared.end.EndCause.{EndCause}
+
+-- a call of the gate with its answer
+pub record Call : Type 0 where
+  pub call : GateCall
+  pub answer : GateAnswer
+
+abbrev pub made : GateCall → GateAnswer → Call
+made call answer = record { call = call; answer = answer }
+
+-- what was under way where a session lost its client, or was stopped
+pub data Miss : Type 0 where
+  Plainly : Miss  -- nothing of its client
+  Behind : List ℕ → Miss  -- a write, of which these bytes were taken
+  Unfed : List ℕ → Miss  -- bytes were read, and came no further
+  Unturned : ℤ → Miss  -- by this reading of the clock it was to be said what comes next
+  Untaken : ℤ → Order → Miss  -- by this reading of the clock that order was to come next
+  Untold : Outcome → Status → Miss  -- a reply came no further
+  Unheard : GateCall → GateAnswer → Miss  -- the gate has answered so, and this is no answer
+
+pub data Deed : Type 0 where
+  -- of its client: bytes are read, and taken in; their end is; by a reading of the clock it is said what comes next; bytes are written
+  Reads : List ℕ → Deed
+  ReadsEnd : Deed
+  Turns : ℤ → WireStep → Deed
+  Writes : List ℕ → Deed
+  -- of its machine: an event takes place. A call of the gate that is held is none, and is made again; a look at the gate while an
+  -- answer is awaited is none
+  Does : SessionEvent → Deed
+  Holds : GateCall → ℕ → Deed
+  Peeks : GateAnswer → Deed
+  -- the client is lost, or the session is stopped, by this cause
+  Loses : EndCause → Miss → Deed

@@ -1,0 +1,155 @@
+-- Where a session stands that is served, and which deed may come there: the machine of the session allows it, and the dialogue with
+-- its client does.
+use Rattle.std.specs.Prelude.{◌≡◌, ℕ, ℤ, Bool, true, false, List, [], ◌∷◌, ◌++◌, Option, Some, None, is_some, codes, length}
+use Rattle.pool_base.specs.declared.backend_id.BackendId.{BackendId}
+use Rattle.pool_config.specs.declared.config.Node.{Node}
+use Rattle.schema.specs.declared.catalogue.TableDef.{TableDef}
+use Rattle.session_orders.specs.declared.order.Order.{Order}
+use Rattle.session_orders.specs.declared.order.OrderBody.{OrderBody}
+use Rattle.session_orders.specs.declared.order.OrderBody.TheVariants as orders
+use Rattle.session_orders.specs.declared.outcome.Outcome.{Outcome}
+use Rattle.session_machine.specs.declared.action.Action.TheVariants as actions
+use Rattle.session_machine.specs.declared.action.SessionEvent.{SessionEvent}
+use Rattle.session_machine.specs.declared.action.SessionEvent.TheVariants as events
+use Rattle.session_machine.specs.declared.machine.Machine.{Machine}
+use Rattle.session_machine.specs.Allowed.{MayHappen}
+use Rattle.session_machine.specs.Rules.{after, next_action, status_byte}
+use Rattle.session_engine.specs.Tidying.{tidied}
+use Rattle.session_wire.specs.declared.due.Due.{Due}
+use Rattle.session_wire.specs.declared.wire.WireStep.{WireStep}
+use Rattle.session_wire.specs.declared.wire.WireStep.TheVariants as wires
+use Rattle.session_wire.specs.Answers.{Says, implicit_after, keeps_portals, left_after, skips}
+use Rattle.session_wire.specs.Shown.{View, frame_of, with_end, with_piece, with_written}
+use Rattle.session_wire.specs.Steps.{IsNext}
+use Rattle.pool_server.specs.declared.end.EndCause.{EndCause}
+use Rattle.pool_server.specs.declared.end.EndCause.TheVariants as causes
+use Rattle.pool_server.specs.Deeds.{Deed, Reads, ReadsEnd, Turns, Writes, Does, Holds, Peeks, Loses, Miss, Plainly, Behind, Unfed, Unturned, Untaken, Untold, Unheard}
+
+-- the tables that are served, and the nodes that are configured
+pub record Setting : Type 0 where
+  pub tables : List TableDef
+  pub nodes : List Node
+
+abbrev pub setting : List TableDef → List Node → Setting
+setting tables nodes = record { tables = tables; nodes = nodes }
+
+-- the machine of the session, its client's wire, and by which cause its client was lost, or the session stopped
+pub record Place : Type 0 where
+  pub machine : Machine
+  pub view : View
+  pub lost : Option EndCause
+
+abbrev pub place : Machine → View → Option EndCause → Place
+place machine view lost = record { machine = machine; view = view; lost = lost }
+
+abbrev pub with_machine : Place → Machine → Place
+with_machine p machine = record p { machine = machine }
+
+-- The machine.
+
+-- where an event leads; behind a reply the answers are dropped, which nothing reads any more
+abbrev pub led : Machine → SessionEvent → Machine
+led m (events.Replied outcome status) = tidied (after m (events.Replied outcome status))
+led m event = after m event
+
+-- the event may come there, and that is where it leads
+pub record Moves (old : Machine) (event : SessionEvent) (new : Machine) : Type 0 where
+  pub may : MayHappen old event
+  pub leads : new ≡ led old event
+
+-- an order as this server takes it: a recovery is refused, under the name that its SQL has
+abbrev pub AsServed : OrderBody → OrderBody → Type 0
+AsServed (orders.Recover number) (orders.Refuse code name) = (code.bytes ≡ codes "0A000") × (name ≡ codes "recover")
+AsServed (orders.Recover number) body = ⊥
+AsServed asked body = body ≡ asked
+
+abbrev pub at_moment : ℤ → OrderBody → Order
+at_moment moment body = record { moment = moment; body = body }
+
+-- the machine takes an order of the wire
+pub record Takes (moment : ℤ) (asked : OrderBody) (old new : Machine) : Type 0 where
+  pub body : OrderBody
+  pub served : AsServed asked body
+  pub moves : Moves old (events.Ordered (at_moment moment body)) new
+
+-- what comes next of the client moves the machine where it is an order
+abbrev pub Turned : WireStep → Machine → Machine → Type 0
+Turned (wires.Order order) old new = Takes order.moment order.body old new
+Turned wires.NeedInput old new = new ≡ old
+Turned wires.NeedOutcome old new = new ≡ old
+Turned (wires.Close refused) old new = new ≡ old
+
+-- The wire.
+
+-- the outcome of the order that it is due for is told, and the rest stays; where none is due, nothing is told
+pub record Tells (nodes : List Node) (due : Due) (outcome : Outcome) (status : ℕ) (old new : View) : Type 0 where
+  pub says : Says nodes due outcome status old new
+  pub stands : new.session.status ≡ status
+  pub implicit : new.session.implicit ≡ implicit_after old.session.implicit outcome status
+  pub skipping : new.session.skipping ≡ skips due outcome old.session.skipping
+  pub stays : frame_of new ≡ frame_of old
+  pub left : new.left ≡ left_after due outcome old.left
+  pub portals : keeps_portals due outcome status ≡ true → new.session.portals ≡ old.session.portals
+  pub done : new.due ≡ None
+
+abbrev pub TellsOf : List Node → Option Due → Outcome → ℕ → View → View → Type 0
+TellsOf nodes None outcome status old new = new ≡ old
+TellsOf nodes (Some due) outcome status old new = Tells nodes due outcome status old new
+
+-- what an event of the machine is to the wire. A reply is told. Orders come of the wire alone, but for a Leave behind the loss of the client
+abbrev pub IsHeard : Setting → SessionEvent → Place → View → Type 0
+IsHeard w (events.Ordered order) old view = (order.body ≡ orders.Leave) × ((is_some old.lost ≡ true) × (view ≡ old.view))
+IsHeard w (events.Replied outcome status) old view = (old.lost ≡ None) × TellsOf w.nodes old.view.due outcome (status_byte status) old.view view
+IsHeard w event old view = view ≡ old.view
+
+-- The loss of the client.
+
+-- the first cause counts
+abbrev pub first_loss : Option EndCause → EndCause → Option EndCause
+first_loss None cause = Some cause
+first_loss (Some first) cause = Some first
+
+-- a read that failed; a write that did; memory that was refused. Where the session is stopped, anything
+abbrev pub CausesMiss : EndCause → Miss → Type 0
+CausesMiss causes.Left miss = ⊥
+CausesMiss causes.Refused miss = ⊥
+CausesMiss causes.ReadFault Plainly = Unit {0}
+CausesMiss causes.ReadFault miss = ⊥
+CausesMiss causes.WriteFault (Behind front) = Unit {0}
+CausesMiss causes.WriteFault miss = ⊥
+CausesMiss causes.CutOff miss = ⊥
+CausesMiss causes.NoMemory (Behind front) = ⊥
+CausesMiss causes.NoMemory (Unheard call answer) = ⊥
+CausesMiss causes.NoMemory miss = Unit {0}
+CausesMiss causes.Stopped miss = Unit {0}
+
+-- what was under way, and is done in part
+abbrev pub Misses : Setting → Miss → Place → Place → Type 0
+Misses w Plainly old new = (new.machine ≡ old.machine) × (new.view ≡ old.view)
+Misses w (Behind front) old new = (new.machine ≡ old.machine) × ((new.view ≡ old.view) × ((rest : List ℕ) × (old.view.output ≡ front ++ rest)))
+Misses w (Unfed bytes) old new = (new.machine ≡ old.machine) × (new.view ≡ old.view)
+-- where memory was refused, the wire stands anywhere: nothing comes of it any more
+Misses w (Unturned moment) old new = new.machine ≡ old.machine
+Misses w (Untaken moment order) old new = (new.machine ≡ old.machine) × IsNext w.tables moment old.view (wires.Order order) new.view
+Misses w (Untold outcome status) old new = Moves old.machine (events.Replied outcome status) new.machine
+Misses w (Unheard call answer) old new = (new.machine ≡ old.machine) × (new.view ≡ old.view)
+
+-- All of it.
+
+-- a deed leads from one place to the next. What is of the client comes as long as it was not lost
+abbrev pub Comes : Setting → Place → Deed → Place → Type 0
+Comes w old (Reads bytes) new = (old.lost ≡ None) × (new ≡ record old { view = with_piece old.view bytes })
+Comes w old ReadsEnd new = (old.lost ≡ None) × (new ≡ record old { view = with_end old.view })
+Comes w old (Turns moment next) new =
+    (old.lost ≡ None) × ((new.lost ≡ None) × (IsNext w.tables moment old.view next new.view × Turned next old.machine new.machine))
+Comes w old (Writes bytes) new =
+    (old.lost ≡ None) × ((old.view.output ≡ bytes) × (new ≡ record old { view = with_written old.view (length bytes) }))
+Comes w old (Does event) new = (new.lost ≡ old.lost) × (Moves old.machine event new.machine × IsHeard w event old new.view)
+Comes w old (Holds call count) new = (next_action old.machine ≡ actions.Gate call) × (new ≡ old)
+Comes w old (Peeks answer) new = ((b : BackendId) × (next_action old.machine ≡ actions.WaitFor b)) × (new ≡ old)
+Comes w old (Loses cause miss) new = (new.lost ≡ first_loss old.lost cause) × (CausesMiss cause miss × Misses w miss old new)
+
+-- one deed after another
+abbrev pub Runs : Setting → Place → List Deed → Place → Type 0
+Runs w old [] new = new ≡ old
+Runs w old (deed ∷ deeds) new = (mid : Place) × Comes w old deed mid × Runs w mid deeds new
