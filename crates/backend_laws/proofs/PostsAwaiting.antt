@@ -12,7 +12,7 @@ use Rattle.backend_trait.specs.declared.request.Request.TheVariants as requests
 use Rattle.backend_trait.specs.declared.answer.Answer.{Answer}
 use Rattle.backend_trait.specs.Rows.{with_at}
 use Rattle.backend_trait.specs.Store.{Live, Transaction, Absent, Alive, Dead, Pending, Store, is_refusal, answered, refused, committed_by, made_stale, where_live}
-use Rattle.plain_store.specs.Acting.{acted_by}
+use Rattle.backend_trait.specs.Acting.{acted_by}
 use Rattle.snapshot_gate.specs.declared.state.GateState.{GateState}
 use Rattle.snapshot_gate.specs.Function.{step, view_of, grant, refuse}
 use Rattle.pool_base.specs.declared.gate_call.GateAnswer.TheVariants.{Seen, Held, Spent}

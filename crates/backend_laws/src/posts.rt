@@ -2,7 +2,7 @@
 ghost use Rattle.std.specs.Prelude.{◌<◌, List};
 ghost use Rattle.pool_base.specs.declared.backend_set.BackendSet.{BackendSet};
 ghost use Rattle.schema.specs.declared.catalogue.TableDef.{TableDef};
-ghost use Rattle.schema_print.specs.Allowed.{AreAllowed};
+ghost use Rattle.schema.specs.Allowed.{AreAllowed};
 ghost use Rattle.session_machine.specs.declared.machine.ReadPolicy.{ReadPolicy};
 ghost use Rattle.one_copy_model.specs.declared.event.Event.{Event};
 ghost use Rattle.one_copy_model.specs.World.{first_world, after, after_all, IsSchedule, MayHappen};

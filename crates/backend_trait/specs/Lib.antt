@@ -6,3 +6,7 @@ pub mod Runnable
 pub mod Store
 pub mod Acts
 pub mod Alone
+pub mod Apart
+pub mod Typed
+pub mod LinkForms
+pub mod Acting

@@ -9,7 +9,7 @@ use Rattle.catalogue.specs.declared.checked.ColumnDesc.{ColumnDesc}
 use Rattle.checked_sql.specs.OfCatalogue.{is_of}
 use Rattle.time_rewrite.specs.Timeless.{is_timeless}
 use Rattle.sql_eval.specs.Effects.{DrawsFew}
-use Rattle.typed_effects.specs.Typed.{has_columns}
+use Rattle.backend_trait.specs.Typed.{has_columns}
 use Rattle.backend_trait.specs.declared.answer.Answer.{Answer}
 use Rattle.backend_trait.specs.declared.answer.Answer.TheVariants as answers
 

@@ -1,7 +1,7 @@
 //! The trait of backends.
 ghost use Rattle.std.specs.Prelude.{◌≡◌, ◌≤◌, ℕ, ℤ, Bool, true, None, IfOk, OnOk, OnErr, IsSome};
-ghost use Rattle.schema_print.specs.Allowed.{AreAllowed};
-ghost use Rattle.schema_print.specs.Printed.{AreInRange};
+ghost use Rattle.schema.specs.Allowed.{AreAllowed};
+ghost use Rattle.schema.specs.Ranges.{AreInRange};
 ghost use Rattle.backend_trait.specs.Store.{Store, blank, prepared, posted_by, lost_by, MayPost, line_of};
 ghost use Rattle.backend_trait.specs.Acts.{InForm, Acts, IsPromptly};
 ghost use Rattle.backend_trait.specs.Rows.{rows_in};

@@ -1,13 +1,13 @@
 //! The form of what a statement answers.
 ghost use Rattle.std.specs.Prelude.{◌≡◌};
 ghost use Rattle.std.specs.List.{list_all};
-ghost use Rattle.typed_effects.specs.Typed.{has_columns};
+ghost use Rattle.backend_trait.specs.Typed.{has_columns};
 ghost use Rattle.backend_trait.specs.Runnable.{is_of_run};
 
 use crate::answer::Answer;
+use crate::rows::has_columns;
 use catalogue::{Checked, CheckedBody, ColumnDesc};
 use sql_eval::Row;
-use typed_effects::has_columns;
 
 /// Whether rows are of these columns.
 fn have_columns(columns: &[ColumnDesc], rows: &[Row]) -> bool

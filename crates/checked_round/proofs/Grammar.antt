@@ -10,7 +10,7 @@ use Rattle.pg_values.specs.declared.col_type.ColType.TheVariants as kind
 use Rattle.pg_values.specs.declared.value.Value.{Value}
 use Rattle.pg_values.specs.declared.value.Value.TheVariants as value
 use Rattle.schema.specs.declared.catalogue.ColumnDef.{ColumnDef}
-use Rattle.schema_print.specs.Allowed.{HasNoZero, IsName as IsAllowedName}
+use Rattle.schema.specs.Allowed.{HasNoZero, IsName as IsAllowedName}
 use Rattle.sql_tree.specs.declared.expr.Comparison.{Comparison}
 use Rattle.sql_tree.specs.declared.expr.Expr.{Expr}
 use Rattle.sql_tree.specs.declared.expr.Expr.TheOpen.{Expr-F}

@@ -11,7 +11,7 @@ use Rattle.pg_values.specs.declared.value.Value.{Value}
 use Rattle.pg_values.specs.declared.value.Value.TheVariants as value
 use Rattle.schema.specs.declared.catalogue.ColumnDef.{ColumnDef}
 use Rattle.schema.specs.declared.catalogue.TableDef.{TableDef}
-use Rattle.schema_print.specs.Allowed.{AreAllowed, AreColumns}
+use Rattle.schema.specs.Allowed.{AreAllowed, AreColumns}
 use Rattle.sql_tree.specs.declared.expr.Expr.{Expr}
 use Rattle.sql_tree.specs.declared.expr.Expr.TheVariants as expr
 use Rattle.sql_tree.specs.declared.statement.OrderItem.{OrderItem}

@@ -5,7 +5,7 @@ use Rattle.pg_values.specs.declared.col_type.ColType.{ColType}
 use Rattle.pg_values.specs.declared.col_type.ColType.TheVariants as kind
 use Rattle.pg_values.specs.Kinds.{oid_number}
 use Rattle.schema.specs.declared.catalogue.TableDef.{TableDef}
-use Rattle.schema_print.specs.Allowed.{AreAllowed}
+use Rattle.schema.specs.Allowed.{AreAllowed}
 use Rattle.sql_reader.specs.declared.fault.SqlFault.{SqlFault}
 use Rattle.sql_reader.specs.declared.fault.SqlFault.TheVariants as text
 use Rattle.sql_print.specs.Printed.{statement_text}

@@ -7,7 +7,7 @@ use Rattle.pg_values.specs.declared.col_type.ColType.{ColType}
 use Rattle.pg_values.specs.declared.col_type.ColType.TheVariants as kind
 use Rattle.schema.specs.declared.catalogue.ColumnDef.{ColumnDef}
 use Rattle.schema.specs.declared.catalogue.TableDef.{TableDef}
-use Rattle.schema_print.specs.Allowed.{AreAllowed, AreColumns}
+use Rattle.schema.specs.Allowed.{AreAllowed, AreColumns}
 use Rattle.sql_tree.specs.declared.statement.Select.{Select}
 use Rattle.sql_tree.specs.declared.statement.SelectItem.{SelectItem}
 use Rattle.sql_tree.specs.declared.statement.SelectList.TheVariants as list

@@ -8,7 +8,7 @@ use Rattle.pg_values.specs.declared.col_type.ColType.{ColType}
 use Rattle.schema.specs.declared.catalogue.ColumnDef.{ColumnDef}
 use Rattle.schema.specs.declared.catalogue.TableDef.{TableDef}
 use Rattle.schema.specs.Open.{has_column, has_table}
-use Rattle.schema_print.specs.Allowed.{AreAllowed, AreColumns, AreTables, IsTable}
+use Rattle.schema.specs.Allowed.{AreAllowed, AreColumns, AreTables, IsTable}
 use Rattle.typed_sql.specs.Own.{alone, beside, column_from, column_meant, no_column, no_table as meant, over}
 use Rattle.catalogue.specs.Statements.{no_table, table_from, table_named}
 use Rattle.checked_sql.specs.Sound.{is_parameter}

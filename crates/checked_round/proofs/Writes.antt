@@ -9,7 +9,7 @@ use Rattle.schema.specs.declared.catalogue.ColumnDef.{ColumnDef}
 use Rattle.schema.specs.declared.catalogue.Fill.{Fill}
 use Rattle.schema.specs.declared.catalogue.Fill.TheVariants as fill
 use Rattle.schema.specs.declared.catalogue.TableDef.{TableDef}
-use Rattle.schema_print.specs.Allowed.{AreAllowed, AreColumns}
+use Rattle.schema.specs.Allowed.{AreAllowed, AreColumns}
 use Rattle.sql_tree.specs.declared.statement.Cell.{Cell}
 use Rattle.sql_tree.specs.declared.statement.Insert.{Insert}
 use Rattle.sql_tree.specs.declared.statement.Update.{Update}

@@ -8,8 +8,8 @@ use Rattle.pg_values.specs.declared.col_type.ColType.{ColType}
 use Rattle.pg_values.specs.declared.col_type.ColType.TheVariants as kind
 use Rattle.schema.specs.declared.catalogue.ColumnDef.{ColumnDef}
 use Rattle.schema.specs.declared.catalogue.TableDef.{TableDef}
-use Rattle.schema_print.specs.Allowed.{AreAllowed, AreColumns}
-use Rattle.schema_print.specs.Allowed as allowed
+use Rattle.schema.specs.Allowed.{AreAllowed, AreColumns}
+use Rattle.schema.specs.Allowed as allowed
 use Rattle.sql_tree.specs.declared.expr.Expr.{Expr}
 use Rattle.sql_tree.specs.declared.statement.OrderItem.{OrderItem}
 use Rattle.sql_tree.specs.declared.statement.Statement.TheVariants as statement

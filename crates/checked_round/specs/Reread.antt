@@ -1,7 +1,7 @@
 -- A checked statement whose text is read and checked again.
 use Rattle.std.specs.Prelude.{◌≡◌, ◌<◌, ◌^◌, ◌⊎◌, ℕ, true, List, [], ◌∷◌, length, Some, Result, Ok, Err}
 use Rattle.schema.specs.declared.catalogue.TableDef.{TableDef}
-use Rattle.schema_print.specs.Allowed.{AreAllowed}
+use Rattle.schema.specs.Allowed.{AreAllowed}
 use Rattle.sql_print.specs.Printed.{statement_text}
 use Rattle.sql_reader.specs.declared.fault.SqlFault.TheVariants as text
 use Rattle.sql_reader.specs.Text.{IsRefusedBy, IsTextOf}

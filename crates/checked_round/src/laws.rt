@@ -1,7 +1,7 @@
 //! What holds of all checked statements.
 ghost use Rattle.std.specs.Prelude.{◌≡◌, ℕ, List, Option, Result, true};
 ghost use Rattle.schema.specs.declared.catalogue.TableDef.{TableDef};
-ghost use Rattle.schema_print.specs.Allowed.{AreAllowed};
+ghost use Rattle.schema.specs.Allowed.{AreAllowed};
 ghost use Rattle.sql_tree.specs.Trees.{IsStatement};
 ghost use Rattle.typed_sql.specs.declared.fault.CheckFault.{CheckFault};
 ghost use Rattle.catalogue.specs.declared.checked.Checked.{Checked};

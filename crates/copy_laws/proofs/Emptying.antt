@@ -15,7 +15,7 @@ use Rattle.sql_eval.specs.Walks.{made, walked, with_some}
 use Rattle.sql_eval.specs.Reads.{alone}
 use Rattle.sql_eval.specs.Stored.{changed, removal_of}
 use Rattle.sql_eval.specs.Effects.{Writes}
-use Rattle.effect_laws.proofs.Tables.{walked_first}
+use Rattle.backend_trait.proofs.Tables.{walked_first}
 use Rattle.backend_trait.specs.declared.request.Request.TheVariants.{Run}
 use Rattle.backend_trait.specs.declared.answer.Answer.{Answer}
 use Rattle.backend_trait.specs.declared.answer.Answer.TheVariants as answers

@@ -11,8 +11,8 @@ use Rattle.schema.specs.declared.catalogue.TableDef.{TableDef}
 use Rattle.checked_sql.specs.Sound.{are_fit}
 use Rattle.sql_eval.specs.declared.row.Row.{Row}
 use Rattle.sql_eval.specs.Views.{cell_at, columns_of, key_column}
-use Rattle.typed_effects.specs.Typed.{AreAllStored, IsStored, kinds_of}
-use Rattle.typed_effects.proofs.Walks.{take_all}
+use Rattle.backend_trait.specs.Typed.{AreAllStored, IsStored, kinds_of}
+use Rattle.backend_trait.proofs.Walks.{take_all}
 use Rattle.backend_trait.specs.declared.request.Request.TheVariants.{Run}
 use Rattle.backend_trait.specs.declared.answer.Answer.{Answer}
 use Rattle.backend_trait.specs.Keys.{Place, key_order, place}

@@ -24,9 +24,9 @@ use Rattle.sql_eval.specs.Reads.{alone, at_row, fitting, no_row, row_of}
 use Rattle.sql_eval.specs.Stored.{as_kind, changed, lacks, not_lacking, null_refused}
 use Rattle.sql_eval.specs.Inserts.{cell_values, is_spent, is_taken, last_serial, row_put_in, serial_kind, spent, unless_taken}
 use Rattle.sql_eval.specs.Effects.{Writes}
-use Rattle.typed_effects.specs.Typed.{kinds_of}
-use Rattle.typed_effects.proofs.Truths.{and_true}
-use Rattle.typed_effects.proofs.Walks.{behind_ok, fitting_is, given_is as ok_is}
+use Rattle.backend_trait.specs.Typed.{kinds_of}
+use Rattle.backend_trait.proofs.Truths.{and_true}
+use Rattle.backend_trait.proofs.Walks.{behind_ok, fitting_is, given_is as ok_is}
 use Rattle.backend_trait.specs.declared.answer.Answer.{Answer}
 use Rattle.backend_trait.specs.Keys.{Place, is_place, key_order, place, place_order}
 use Rattle.backend_trait.specs.Rows.{Rows, Changes, no_changes}

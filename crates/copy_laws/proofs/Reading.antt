@@ -20,9 +20,9 @@ use Rattle.sql_eval.specs.Views.{Entry, columns_of, entries_in}
 use Rattle.sql_eval.specs.Walks.{Coded, all_of, behind, made, walked, with_some}
 use Rattle.sql_eval.specs.Reads.{alone, at_row, fitting, kept, reading, read_in, result_row, row_of, row_size, shown}
 use Rattle.sql_eval.specs.Effects.{Reads}
-use Rattle.effect_laws.proofs.Tables.{walked_first}
-use Rattle.typed_effects.specs.Typed.{AreAllStored, IsStored, kinds_of}
-use Rattle.typed_effects.proofs.Truths.{and_true}
+use Rattle.backend_trait.proofs.Tables.{walked_first}
+use Rattle.backend_trait.specs.Typed.{AreAllStored, IsStored, kinds_of}
+use Rattle.backend_trait.proofs.Truths.{and_true}
 use Rattle.backend_trait.specs.declared.request.Request.TheVariants.{Run}
 use Rattle.backend_trait.specs.declared.answer.Answer.{Answer}
 use Rattle.backend_trait.specs.declared.answer.Answer.TheVariants as answers

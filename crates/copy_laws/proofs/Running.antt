@@ -8,7 +8,7 @@ use Rattle.pg_values.specs.declared.col_type.ColType.TheVariants.{Bool, Int4, In
 use Rattle.pg_values.specs.declared.value.Value.{Value}
 use Rattle.schema.specs.declared.catalogue.ColumnDef.{ColumnDef}
 use Rattle.schema.specs.declared.catalogue.TableDef.{TableDef}
-use Rattle.schema_print.specs.Allowed.{AreAllowed, AreColumns, AreTables, HasNoZero, IsName}
+use Rattle.schema.specs.Allowed.{AreAllowed, AreColumns, AreTables, HasNoZero, IsName}
 use Rattle.typed_sql.specs.declared.asks.Takes.TheVariants.{Like}
 use Rattle.typed_sql.specs.declared.typed.TypedForm.TheVariants as form
 use Rattle.typed_sql.specs.Places.{same_kind, takes as takes_kind}
@@ -19,7 +19,7 @@ use Rattle.checked_sql.specs.OfCatalogue.{are_cells, are_results, around, is_emp
 use Rattle.checked_sql.proofs.Forms.{sound_by_form, gives_column, fits_column, gives_literal, fits_literal}
 use Rattle.checked_sql.proofs.Kept.{and_true, both_true}
 use Rattle.time_rewrite.specs.Timeless.{timeless_cell, timeless_expr}
-use Rattle.typed_effects.specs.Typed.{AreAllStored, is_row_of, kinds_of}
+use Rattle.backend_trait.specs.Typed.{AreAllStored, is_row_of, kinds_of}
 use Rattle.sql_eval.specs.declared.row.Row.{Row}
 use Rattle.sql_eval.specs.Inserts.{all_draws}
 use Rattle.sql_eval.specs.Views.{columns_of}

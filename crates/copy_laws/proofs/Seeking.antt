@@ -15,9 +15,9 @@ use Rattle.sql_values.specs.Outcome.{or_null}
 use Rattle.sql_eval.specs.declared.row.Row.{Row}
 use Rattle.sql_eval.specs.Views.{Entry, cell_at, entries_in, entry, key_column}
 use Rattle.sql_eval.specs.Ordered.{put_in, row_order, sorted}
-use Rattle.typed_effects.specs.Typed.{AreAllStored, IsStored}
-use Rattle.typed_effects.proofs.Stood.{all_in}
-use Rattle.typed_effects.proofs.Walks.{sorted_all}
+use Rattle.backend_trait.specs.Typed.{AreAllStored, IsStored}
+use Rattle.backend_trait.proofs.Stood.{all_in}
+use Rattle.backend_trait.proofs.Walks.{sorted_all}
 use Rattle.backend_trait.specs.Keys.{Place, is_place, key_order, place, place_order}
 use Rattle.backend_trait.specs.Rows.{Rows}
 use Rattle.backend_trait.proofs.KeyLaws.{key_total, place_antisymmetric}

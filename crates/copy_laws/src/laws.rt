@@ -2,10 +2,10 @@
 ghost use Rattle.std.specs.Prelude.{◌≡◌, ◌<◌, ℕ, ℤ, suc, length, List, Option, None};
 ghost use Rattle.pg_values.specs.declared.value.Value.{Value};
 ghost use Rattle.schema.specs.declared.catalogue.TableDef.{TableDef};
-ghost use Rattle.schema_print.specs.Allowed.{AreAllowed};
+ghost use Rattle.schema.specs.Allowed.{AreAllowed};
 ghost use Rattle.sql_eval.specs.declared.row.Row.{Row};
 ghost use Rattle.classifier.specs.Classes.{lock_of};
-ghost use Rattle.typed_effects.specs.Typed.{AreAllStored};
+ghost use Rattle.backend_trait.specs.Typed.{AreAllStored};
 ghost use Rattle.backend_trait.specs.declared.request.Request.TheVariants.{Run};
 ghost use Rattle.backend_trait.specs.declared.answer.Answer.{Answer};
 ghost use Rattle.backend_trait.specs.declared.answer.Answer.TheVariants as answers;

@@ -1,7 +1,7 @@
 //! The lines before the first event: the configuration and the schema.
 ghost use Rattle.std.specs.Prelude.{◌≡◌, ◌++◌, IfOk, OnOk, string_bytes};
 ghost use Rattle.pool_config.specs.Configuration.{IsAllowed};
-ghost use Rattle.schema_print.specs.Printed.{AreInRange};
+ghost use Rattle.schema.specs.Ranges.{AreInRange};
 ghost use Rattle.journal.specs.Header.{IsHeader, behind};
 
 use crate::pieces::push_word;

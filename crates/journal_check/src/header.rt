@@ -2,8 +2,8 @@
 ghost use Rattle.std.specs.Prelude.{◌≡◌, ◌<◌, ◌==◌, ◌||◌, ℕ, IfOk, length};
 ghost use Rattle.pool_base.specs.Sets.{has};
 ghost use Rattle.pool_config.specs.Configuration.{IsAllowed};
-ghost use Rattle.schema_print.specs.Allowed.{AreAllowed};
-ghost use Rattle.schema_print.specs.Printed.{AreInRange};
+ghost use Rattle.schema.specs.Allowed.{AreAllowed};
+ghost use Rattle.schema.specs.Ranges.{AreInRange};
 ghost use Rattle.session_seat.specs.Shared.{AreFirst};
 ghost use Rattle.world_plays.specs.Journals.{IsStartOf};
 

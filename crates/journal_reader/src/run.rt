@@ -1,8 +1,8 @@
 //! The lines of a journal, one after another.
 ghost use Rattle.std.specs.Prelude.{◌≡◌, ◌≤◌, ◌<◌, IfOk, IfSome, length};
 ghost use Rattle.schema.specs.Grammar.{IsWithin};
-ghost use Rattle.schema_print.specs.Allowed.{AreAllowed};
-ghost use Rattle.schema_print.specs.Printed.{AreInRange};
+ghost use Rattle.schema.specs.Allowed.{AreAllowed};
+ghost use Rattle.schema.specs.Ranges.{AreInRange};
 ghost use Rattle.one_copy_model.specs.World.{MayHappen};
 ghost use Rattle.world_program.specs.Meaning.{world_of};
 ghost use Rattle.world_program.specs.UnderWay.{IsFit};
@@ -13,8 +13,8 @@ use crate::events::read_event;
 use crate::fault::LineFault;
 use crate::run_fault::{RunFault, fault_at};
 use catalogue::Catalogue;
+use checked_sql::catalogue_copied;
 use one_copy_model::Event;
-use sql_copies::catalogue_copied;
 use std::alloc::Global;
 use world_program::{Replicas, Start, step};
 

@@ -44,7 +44,7 @@ use Rattle.sql_eval.specs.Stored.{as_column, as_kind, cells_set, change_in, chan
 use Rattle.sql_eval.specs.Inserts.{all_draws, cell_value, cell_values, cells_given, draws_in, insert_in, is_spent, is_taken, key_refused, last_serial, row_draws, row_put_in, rows_given, serial_kind, spent, unless_taken}
 use Rattle.sql_eval.specs.Effects as effects
 use Rattle.sql_eval.specs.Effects.{Reads, Writes, given_by}
-use Rattle.typed_effects.proofs.Truths.{Each, each_of}
+use Rattle.backend_trait.proofs.Truths.{Each, each_of}
 use Rattle.backend_trait.specs.Rows.{Rows}
 use Rattle.backend_trait.specs.Effect.{Fails, effect_of, given_as, number_from, table_in}
 use Rattle.outcomes.proofs.Giving.{given_is}

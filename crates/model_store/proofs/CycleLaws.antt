@@ -16,7 +16,7 @@ use Rattle.sql_eval.specs.Walks.{Coded}
 use Rattle.sql_eval.specs.Reads.{alone}
 use Rattle.sql_eval.specs.Effects as effects
 use Rattle.sql_eval.specs.Effects.{Reads, Writes, given_by}
-use Rattle.effect_laws.proofs.Tables.{stay_in}
+use Rattle.backend_trait.proofs.Tables.{stay_in}
 use Rattle.backend_trait.specs.Keys.{Place, place, is_place}
 use Rattle.backend_trait.specs.Rows.{Rows}
 use Rattle.schema.specs.declared.catalogue.TableDef.{TableDef}

@@ -3,7 +3,7 @@ use Rattle.std.proofs.Common.{◌≡◌, ℕ, true, false, List, take, refl, sym
 use Rattle.std.specs.Prelude.{ℤ, Option, Some, slice_get}
 use Rattle.std.proofs.lemmas.List.Elements.{All-take}
 use Rattle.schema.specs.declared.catalogue.TableDef.{TableDef}
-use Rattle.typed_effects.specs.Typed as typed
+use Rattle.backend_trait.specs.Typed as typed
 use Rattle.backend_trait.specs.Effect.{changes_of, table_in}
 use Rattle.backend_trait.specs.Store.{Store, Live, Transaction, WhereLive, next_for, view_of}
 use Rattle.backend_trait.specs.Acts.{WhereSome, given_of}

@@ -10,7 +10,7 @@ use Rattle.sql_eval.specs.Walks.{Coded}
 use Rattle.sql_eval.specs.Reads.{alone}
 use Rattle.sql_eval.specs.Effects as effects
 use Rattle.sql_eval.specs.Effects.{Reads, Writes, given_by}
-use Rattle.typed_effects.specs.Typed.{AreAllStored}
+use Rattle.backend_trait.specs.Typed.{AreAllStored}
 use Rattle.backend_trait.specs.declared.answer.Answer.{Answer}
 use Rattle.backend_trait.specs.declared.answer.Answer.TheVariants as answers
 use Rattle.backend_trait.specs.Keys.{Place}

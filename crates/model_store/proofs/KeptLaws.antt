@@ -9,13 +9,13 @@ use Rattle.std.specs.FinMap as fin
 use Rattle.pool_base.specs.declared.no_memory.NoMemory.{NoMemory}
 use Rattle.pg_values.specs.declared.value.Value.{Value}
 use Rattle.schema.specs.declared.catalogue.TableDef.{TableDef}
-use Rattle.schema_print.specs.Allowed.{AreAllowed}
+use Rattle.schema.specs.Allowed.{AreAllowed}
 use Rattle.catalogue.specs.declared.checked.Checked.{Checked}
 use Rattle.checked_sql.specs.Sound.{are_fit}
 use Rattle.sql_eval.specs.declared.row.Row.{Row}
 use Rattle.sql_eval.specs.declared.effect.Change.{Change}
 use Rattle.sql_eval.specs.Effects.{DrawsFew}
-use Rattle.typed_effects.specs.Typed.{IsStored}
+use Rattle.backend_trait.specs.Typed.{IsStored}
 use Rattle.backend_trait.specs.declared.answer.Answer.{Answer}
 use Rattle.backend_trait.specs.Keys.{Place}
 use Rattle.backend_trait.specs.Rows.{Changes, laid_over, joined_changes}
@@ -46,7 +46,8 @@ use Rattle.model_store.specs.Acting.{MayRunAt}
 use Rattle.model_store.specs.Stored.{AreStoredIn, AreStoredIn-prop, AreStoredAt}
 use Rattle.model_store.specs.Verdicts.{Fits}
 use Rattle.model_store.proofs.VerdictLaws.{wants_live, live_there}
-use Rattle.model_store.proofs.NumberLaws.{IsMovedBy, granted_moved, refused_moved, stays_beside}
+use Rattle.model_store.proofs.NumberLaws.{granted_moved, refused_moved, stays_beside}
+use Rattle.backend_trait.proofs.Moved.{IsMovedBy}
 use Rattle.model_store.proofs.ActLaws.{waiting_there}
 use Rattle.model_store.proofs.FormedLaws.{seen_stored}
 use Rattle.model_store.proofs.StoreLaws.{set_same, set_other}

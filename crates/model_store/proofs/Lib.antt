@@ -15,3 +15,4 @@ pub mod NumberLaws
 pub mod KeptLaws
 pub mod IndexLaws
 pub mod AskLaws
+pub mod Table

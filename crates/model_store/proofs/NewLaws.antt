@@ -6,7 +6,7 @@ use Rattle.outcomes.specs.declared.change.ChangeSet.{ChangeSet}
 use Rattle.std.specs.Str.{IsUtf8}
 use Rattle.schema.specs.declared.catalogue.TableDef.{TableDef}
 use Rattle.schema.specs.Reading.{Says}
-use Rattle.schema_print.specs.Allowed.{AreAllowed}
+use Rattle.schema.specs.Allowed.{AreAllowed}
 use Rattle.schema_print.proofs.Again.{says_again}
 use Rattle.model_store.specs.declared.phase.Phase.TheVariants as phases
 use Rattle.model_store.specs.declared.phase.Waiting.{Waiting}

@@ -9,9 +9,9 @@ use crate::store::MemoryStore;
 use crate::verdict::{Verdict, decide};
 use crate::waiting::{has_room, wait};
 use backend_trait::{Answer, Backend, Catalogue, Polled, Posted, Request, Row};
+use checked_sql::catalogue_copied;
 use outcomes::{NextNumbers, rows_of};
 use pool_base::{List, NoMemory, SessionId};
-use sql_copies::catalogue_copied;
 
 /// It is honest, prompt and steady.
 impl Backend for MemoryStore {

@@ -1,6 +1,6 @@
 //! The store.
 ghost use Rattle.std.specs.Prelude.{◌≡◌, ◌≤◌, ◌+◌, ℕ, [], IfOk, length, slice_get, vec_len, vec_capacity};
-ghost use Rattle.schema_print.specs.Allowed.{AreAllowed};
+ghost use Rattle.schema.specs.Allowed.{AreAllowed};
 ghost use Rattle.model_store.specs.Seats.{mark_in, all_owed, AreGiven, AreGiven-prop as prop};
 ghost use Rattle.model_store.specs.Conflicts.{AreApart};
 ghost use Rattle.outcomes.specs.Next.{next_of};

@@ -3,4 +3,3 @@ pub mod MarkLaws
 pub mod InvariantLaws
 pub mod FollowingLaws
 pub mod LossLaws
-pub mod ProgramMarks

@@ -14,7 +14,7 @@ use Rattle.backend_trait.specs.Effect.{Wants, both_wants, is_among, has_place, C
 use Rattle.backend_trait.specs.Store.{Transaction, Absent, Alive, Dead, Pending, Store, held_by}
 use Rattle.backend_trait.specs.Acts.{Crosses, asked_by, has_lock, may_be_crossed, given_of, wants_in, wants_of_run}
 use Rattle.backend_trait.proofs.KeyLaws.{place_antisymmetric}
-use Rattle.plain_store.proofs.Telling.{or_true, or_left, or_right, and_true, both_true}
+use Rattle.backend_trait.proofs.Telling.{or_true, or_left, or_right, and_true, both_true}
 use Rattle.one_copy_model.specs.Numbers.{some_below}
 use Rattle.one_copy_model.specs.Marks.{tables_named, conflict_at, conflict_in, conflict_named, crosses_by, crosses_from, is_crossed, AsksWithin}
 

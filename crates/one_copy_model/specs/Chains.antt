@@ -5,7 +5,7 @@ use Rattle.pool_base.specs.Sets.{has}
 use Rattle.pool_base.specs.declared.backend_set.BackendSet.{BackendSet}
 use Rattle.sql_eval.specs.declared.row.Row.{Row}
 use Rattle.catalogue.specs.declared.checked.Checked.{Checked}
-use Rattle.typed_effects.specs.Typed.{IsStored, AreAllStored}
+use Rattle.backend_trait.specs.Typed.{IsStored, AreAllStored}
 use Rattle.backend_trait.specs.declared.answer.Answer.{Answer}
 use Rattle.backend_trait.specs.Keys.{Place}
 use Rattle.backend_trait.specs.Effect.{Given, Fails, Gives}

@@ -8,7 +8,7 @@ use Rattle.backend_trait.specs.declared.answer.Answer.{Answer}
 use Rattle.backend_trait.specs.declared.answer.Answer.TheVariants as answers
 use Rattle.backend_trait.specs.Store.{Store, Pending, MayPost, prepared, posted}
 use Rattle.backend_trait.specs.Acts.{MayAnswer, WhereSome}
-use Rattle.plain_store.specs.Acting.{acted_at, died}
+use Rattle.backend_trait.specs.Acting.{acted_at, died}
 use Rattle.one_copy_model.specs.declared.deed.Deed.{Deed}
 use Rattle.one_copy_model.specs.declared.deed.Deed.TheVariants.{Asks, Gets, Falls}
 use Rattle.one_copy_model.specs.declared.deed.Entry.{Entry}

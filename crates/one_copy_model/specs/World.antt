@@ -30,7 +30,7 @@ use Rattle.one_copy_model.specs.declared.event.Event.{Event}
 use Rattle.one_copy_model.specs.declared.event.Event.TheVariants.{Of, Act, Lost}
 use Rattle.one_copy_model.specs.Marks.{marked}
 use Rattle.one_copy_model.specs.SingleRun.{after_answer}
-use Rattle.plain_store.specs.Acting.{MayAct}
+use Rattle.backend_trait.specs.Acting.{MayAct}
 use Rattle.one_copy_model.specs.Numbers.{session_of}
 
 -- the tables, the gate, the machine of each session, the store of each backend, and the answers that were given and not taken

@@ -4,7 +4,7 @@ use Rattle.std.specs.Prelude.{Option, slice_get}
 use Rattle.std.proofs.Math.Logic.{∥∥₁_elim}
 use Rattle.std.specs.Coded.{le_prop}
 use Rattle.schema.specs.declared.catalogue.TableDef.{TableDef}
-use Rattle.schema_print.specs.Allowed.{AreAllowed, AreTables}
+use Rattle.schema.specs.Allowed.{AreAllowed, AreTables}
 use Rattle.sql_eval.specs.Views.{columns_of}
 
 pub few_tables : (tables : List TableDef) → ∥ AreAllowed tables ∥₁ → length tables ≤ 64

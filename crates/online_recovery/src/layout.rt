@@ -1,6 +1,6 @@
 //! What does not change of a recovery.
 ghost use Rattle.std.specs.Prelude.{◌≡◌};
-ghost use Rattle.schema_print.specs.Allowed.{AreAllowed};
+ghost use Rattle.schema.specs.Allowed.{AreAllowed};
 
 use schema::Catalogue;
 

@@ -3,7 +3,7 @@ use Rattle.std.proofs.Common.{◌≡◌, ◌∙◌, ℕ, ℤ, List, length, refl
 use Rattle.std.specs.Prelude.{true, Option, Ok, Err}
 use Rattle.std.specs.List.{list_all}
 use Rattle.schema.specs.declared.catalogue.TableDef.{TableDef}
-use Rattle.schema_print.specs.Allowed.{AreAllowed}
+use Rattle.schema.specs.Allowed.{AreAllowed}
 use Rattle.catalogue.specs.declared.checked.Checked.{Checked}
 use Rattle.catalogue.specs.declared.checked.CheckedBody.{CheckedBody}
 use Rattle.catalogue.specs.declared.checked.CheckedBody.TheVariants as body
@@ -14,9 +14,9 @@ use Rattle.sql_eval.specs.Walks.{Coded, made}
 use Rattle.sql_eval.specs.Reads.{alone}
 use Rattle.sql_eval.specs.Effects as effects
 use Rattle.sql_eval.specs.Effects.{given_by}
-use Rattle.typed_effects.specs.Typed.{AreAllStored, has_columns}
-use Rattle.typed_effects.proofs.LeftRows as left
-use Rattle.typed_effects.proofs.ReadRows.{all_read}
+use Rattle.backend_trait.specs.Typed.{AreAllStored, has_columns}
+use Rattle.backend_trait.proofs.LeftRows as left
+use Rattle.backend_trait.proofs.ReadRows.{all_read}
 use Rattle.backend_trait.specs.declared.answer.Answer.{Answer}
 use Rattle.backend_trait.specs.declared.answer.Answer.TheVariants as answers
 use Rattle.backend_trait.specs.Keys.{Place}

@@ -16,9 +16,9 @@ use Rattle.sql_eval.specs.declared.row.Row.{Row}
 use Rattle.sql_eval.specs.declared.effect.Change.{Change}
 use Rattle.sql_eval.specs.Views.{Entry, IsUnderItsKey, View, entries_in, key_column}
 use Rattle.sql_eval.specs.Effects.{HasTable, IsKeyedAt, IsWriteBody, table_in}
-use Rattle.typed_effects.specs.Typed.{AreAllStored, IsChangeStored, IsStored}
-use Rattle.typed_effects.proofs.Truths.{and_true}
-use Rattle.typed_effects.proofs.Stood.{all_in}
+use Rattle.backend_trait.specs.Typed.{AreAllStored, IsChangeStored, IsStored}
+use Rattle.backend_trait.proofs.Truths.{and_true}
+use Rattle.backend_trait.proofs.Stood.{all_in}
 use Rattle.backend_trait.specs.Keys.{Place, is_place, place_order}
 use Rattle.backend_trait.specs.Rows.{Rows, Changes, laid_over, no_rows, no_changes}
 use Rattle.backend_trait.specs.Effect.{changed_on, changes_of, place_changed}

@@ -4,7 +4,7 @@ use Rattle.std.specs.FinMap as fin
 use Rattle.schema.specs.declared.catalogue.TableDef.{TableDef}
 use Rattle.sql_eval.specs.declared.row.Row.{Row}
 use Rattle.sql_eval.specs.declared.effect.Change.{Change}
-use Rattle.typed_effects.specs.Typed.{IsStored}
+use Rattle.backend_trait.specs.Typed.{IsStored}
 use Rattle.backend_trait.specs.Keys.{Place}
 use Rattle.backend_trait.specs.Rows.{Changes}
 use Rattle.backend_trait.specs.Effect.{changes_of}

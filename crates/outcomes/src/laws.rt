@@ -1,9 +1,9 @@
 //! What holds of all that runnable statements give over rows that stand in their tables.
 ghost use Rattle.std.specs.Prelude.{◌≡◌, ℤ, List, Option, true};
 ghost use Rattle.schema.specs.declared.catalogue.TableDef.{TableDef};
-ghost use Rattle.schema_print.specs.Allowed.{AreAllowed};
+ghost use Rattle.schema.specs.Allowed.{AreAllowed};
 ghost use Rattle.catalogue.specs.declared.checked.Checked.{Checked};
-ghost use Rattle.typed_effects.specs.Typed.{AreAllStored};
+ghost use Rattle.backend_trait.specs.Typed.{AreAllStored};
 ghost use Rattle.backend_trait.specs.declared.answer.Answer.{Answer};
 ghost use Rattle.backend_trait.specs.Keys.{Place};
 ghost use Rattle.backend_trait.specs.Rows.{Rows, Changes, laid_over};

@@ -1,7 +1,7 @@
 //! What a statement gives a transaction.
 ghost use Rattle.std.specs.Prelude.{◌≡◌, ℕ, IfOk, Ok, Err, Option, length, map};
 ghost use Rattle.sql_eval.specs.Effects.{Effect, Reads, Writes, IsRead, IsKeyedAt};
-ghost use Rattle.typed_effects.specs.Typed.{AreAllStored};
+ghost use Rattle.backend_trait.specs.Typed.{AreAllStored};
 ghost use Rattle.backend_trait.specs.Effect.{effect_of, keys_in, place_changed, changes_of, table_in, number_from, given_as, IsPositive};
 ghost use Rattle.backend_trait.specs.Keys.{place};
 ghost use Rattle.backend_trait.specs.Rows.{laid_over};

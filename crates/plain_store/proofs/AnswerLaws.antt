@@ -28,10 +28,10 @@ use Rattle.plain_store.specs.declared.data.Database.{Database}
 use Rattle.plain_store.specs.Phases.{Places, Lock, live_of, transaction_of, transaction_in, request_at, mark_in, pending_of}
 use Rattle.plain_store.specs.Meaning.{store_of}
 use Rattle.plain_store.specs.Giving.{given_run, given_by}
-use Rattle.plain_store.specs.Acting.{MayAct}
+use Rattle.backend_trait.specs.Acting.{MayAct}
 use Rattle.plain_store.specs.States.{States, states_in, phase_in, phase_at}
 use Rattle.plain_store.specs.Deciding.{taken_from, is_code, same_answer, refuses, may_give, may_fail, are_stale, may_work, has_lock, ran_given, ran, may_run, may_snapshot, is_live, may_lock, is_done, may_answer, crosses, may_asked, may_pending, tells}
-use Rattle.plain_store.proofs.Telling.{Tells, both_told, either_told, told_as, itself, never, is_false}
+use Rattle.backend_trait.proofs.Telling.{Tells, both_told, either_told, told_as, itself, never, is_false}
 use Rattle.plain_store.proofs.PlaceLaws.{one_told, none_told}
 use Rattle.plain_store.proofs.HeldLaws.{free_told}
 use Rattle.plain_store.proofs.SessionLaws.{phase_same}

@@ -6,7 +6,7 @@ use Rattle.std.proofs.lemmas.List.{length-map}
 use Rattle.schema.specs.declared.catalogue.TableDef.{TableDef}
 use Rattle.catalogue.specs.declared.checked.Checked.{Checked}
 use Rattle.sql_eval.specs.Effects.{DrawsFew}
-use Rattle.typed_effects.specs.Typed.{AreAllStored}
+use Rattle.backend_trait.specs.Typed.{AreAllStored}
 use Rattle.backend_trait.specs.declared.request.Request.{Request}
 use Rattle.backend_trait.specs.declared.request.Request.TheVariants as requests
 use Rattle.backend_trait.specs.declared.answer.Answer.{Answer}
@@ -25,7 +25,7 @@ use Rattle.plain_store.specs.declared.data.Phase.TheVariants as phases
 use Rattle.plain_store.specs.declared.data.Database.{Database}
 use Rattle.plain_store.specs.Phases.{live_of, transaction_of, transaction_in, request_at, mark_in, pending_of}
 use Rattle.plain_store.specs.Meaning.{store_in, store_of}
-use Rattle.plain_store.specs.Acting.{acted_by, acted_at, drawn_waiting, died}
+use Rattle.backend_trait.specs.Acting.{acted_by, acted_at, drawn_waiting, died}
 use Rattle.plain_store.specs.Giving.{given_run, given_by, given_to as session_given}
 use Rattle.plain_store.specs.Kept.{IsKept, IsStoredIn, AreSeenIn}
 use Rattle.plain_store.specs.Steps.{gave, locked, IsSetIn}

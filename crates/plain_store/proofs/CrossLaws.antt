@@ -17,11 +17,12 @@ use Rattle.plain_store.specs.declared.data.Database.{Database}
 use Rattle.plain_store.specs.Phases.{Claim, wants_one, transaction_of, transaction_in, request_at, mark_in, pending_of}
 use Rattle.plain_store.specs.Meaning.{store_of}
 use Rattle.plain_store.specs.Giving.{given_run, given_by, given_to}
-use Rattle.plain_store.specs.Acting.{IsCrossedNow}
+use Rattle.backend_trait.specs.Acting.{IsCrossedNow}
 use Rattle.plain_store.specs.States.{States, states_in, phase_in, phase_at}
 use Rattle.plain_store.specs.Deciding.{wants_given, wants_by, locks_table, has_lock, is_locked, clash_wanted, meets, crossed_by, crosses_at, some_below, crosses, crosses_if, crosses_waiting}
-use Rattle.plain_store.proofs.Telling.{Tells, or_true, or_left, or_right, both_told, either_told, not_told, told_as, itself, never, is_false}
-use Rattle.plain_store.proofs.HeldLaws.{no_conflict, nothing_conflicts, split, to_left, to_right, clash_to, clash_from, phase_told}
+use Rattle.backend_trait.proofs.Telling.{Tells, or_true, or_left, or_right, both_told, either_told, not_told, told_as, itself, never, is_false}
+use Rattle.plain_store.proofs.HeldLaws.{no_conflict, nothing_conflicts, split, clash_to, clash_from, phase_told}
+use Rattle.backend_trait.proofs.Among.{to_left, to_right}
 use Rattle.plain_store.proofs.SessionLaws.{phase_same}
 
 -- what is wanted, if anything

@@ -1,17 +1,18 @@
 -- Who holds what a request wants, as the program finds it.
-use Rattle.std.proofs.Common.{◌≡◌, ◌≢◌, ℕ, zero, suc, ◌+◌, Bool, true, false, ◌||◌, ◌==◌, List, [], ◌∷◌, ◌++◌, map, refl, sym, ap, ◌∙◌, arith, inl, inr, eqb-true, eq-eqb}
-use Rattle.std.specs.Prelude.{◌⊎◌, ◌&&◌, not, Option, Some, None, slice_get}
+use Rattle.std.proofs.Common.{◌≡◌, ◌≢◌, ℕ, zero, suc, ◌+◌, Bool, true, false, ◌||◌, ◌==◌, List, [], ◌∷◌, map, refl, sym, ap, ◌∙◌, arith, inl, inr, eqb-true, eq-eqb}
+use Rattle.std.specs.Prelude.{◌⊎◌, ◌&&◌, not, slice_get}
 use Rattle.backend_trait.specs.Keys.{Place}
 use Rattle.backend_trait.specs.Effect.{Wants, nothing, both_wants, is_among, Conflicts, same_place, same_table, table_left, table_right}
-use Rattle.backend_trait.specs.Store.{Transaction, Absent, Alive, Dead, held_by, table_lock}
+use Rattle.backend_trait.specs.Store.{Absent, Alive, Dead, held_by}
 use Rattle.outcomes.specs.Spots.{place_of}
 use Rattle.plain_store.specs.declared.data.Work.{Work}
 use Rattle.plain_store.specs.declared.data.Phase.{Phase}
 use Rattle.plain_store.specs.declared.data.Phase.TheVariants as phases
 use Rattle.plain_store.specs.Phases.{Claim, Places, Lock, wants_one, has_table, held_of, transaction_of, transaction_in}
 use Rattle.plain_store.specs.Deciding.{share, are_in, are_in_one, clash, holds_work, holds_phase, taken_from}
-use Rattle.plain_store.proofs.Telling.{Tells, or_true, or_left, or_right, and_true, never}
-use Rattle.plain_store.proofs.PlaceLaws.{one_told, among_both}
+use Rattle.backend_trait.proofs.Telling.{Tells, or_true, or_left, or_right, and_true, never}
+use Rattle.plain_store.proofs.PlaceLaws.{one_told}
+use Rattle.backend_trait.proofs.Among.{among_both}
 
 pub no_conflict : (w : Wants) → Conflicts w nothing → ⊥
 no_conflict w (same_place p a b) = let f : false ≡ true = b in cc
@@ -33,24 +34,6 @@ split w a b (same_table t x y) = elim (or_true (a.tables t) (b.tables t) y) [ in
 split w a b (table_left p x y) =
     elim (or_true (is_among a.places p) (is_among b.places p) (sym (among_both a.places b.places p) ∙ y)) [ inl h ↦ inl (table_left p x h) | inr h ↦ inr (table_left p x h) ]
 split w a b (table_right p x y) = elim (or_true (a.tables p.table) (b.tables p.table) y) [ inl h ↦ inl (table_right p x h) | inr h ↦ inr (table_right p x h) ]
-
-among_left : (xs ys : List Place) (p : Place) → is_among xs p ≡ true → is_among (xs ++ ys) p ≡ true
-among_left xs ys p h = among_both xs ys p ∙ or_left (is_among xs p) (is_among ys p) h
-
-among_right : (xs ys : List Place) (p : Place) → is_among ys p ≡ true → is_among (xs ++ ys) p ≡ true
-among_right xs ys p h = among_both xs ys p ∙ or_right (is_among xs p) (is_among ys p) h
-
-pub to_left : (w a b : Wants) → Conflicts w a → Conflicts w (both_wants a b)
-to_left w a b (same_place p x y) = same_place p x (among_left a.places b.places p y)
-to_left w a b (same_table t x y) = same_table t x (or_left (a.tables t) (b.tables t) y)
-to_left w a b (table_left p x y) = table_left p x (among_left a.places b.places p y)
-to_left w a b (table_right p x y) = table_right p x (or_left (a.tables p.table) (b.tables p.table) y)
-
-pub to_right : (w a b : Wants) → Conflicts w b → Conflicts w (both_wants a b)
-to_right w a b (same_place p x y) = same_place p x (among_right a.places b.places p y)
-to_right w a b (same_table t x y) = same_table t x (or_right (a.tables t) (b.tables t) y)
-to_right w a b (table_left p x y) = table_left p x (among_right a.places b.places p y)
-to_right w a b (table_right p x y) = table_right p x (or_right (a.tables p.table) (b.tables p.table) y)
 
 -- a place in a table
 abbrev in_table : ℕ → Place → Bool

@@ -5,7 +5,7 @@ use Rattle.std.specs.FinMap as fin
 use Rattle.schema.specs.declared.catalogue.TableDef.{TableDef}
 use Rattle.catalogue.specs.declared.checked.Checked.{Checked}
 use Rattle.sql_eval.specs.declared.row.Row.{Row}
-use Rattle.typed_effects.specs.Typed.{AreAllStored, IsStored}
+use Rattle.backend_trait.specs.Typed.{AreAllStored, IsStored}
 use Rattle.backend_trait.specs.declared.request.Request.{Request}
 use Rattle.backend_trait.specs.declared.request.Request.TheVariants as requests
 use Rattle.backend_trait.specs.declared.answer.Answer.{Answer}

@@ -1,4 +1,3 @@
-pub mod Telling
 pub mod PlaceLaws
 pub mod HeldLaws
 pub mod SessionLaws

@@ -10,10 +10,10 @@ use Rattle.outcomes.specs.Next.{next_of}
 use Rattle.plain_store.specs.declared.data.Database.{Database}
 use Rattle.plain_store.specs.Phases.{mark_in, request_at, pending_of}
 use Rattle.plain_store.specs.Meaning.{store_in, store_of}
-use Rattle.plain_store.specs.Acting.{IsMarkedAt, IsMarked}
+use Rattle.backend_trait.specs.Acting.{IsMarkedAt, IsMarked}
 use Rattle.plain_store.specs.States.{States, states_in}
 use Rattle.plain_store.specs.Deciding.{crosses_if, crosses_waiting, marked_if, marks_below}
-use Rattle.plain_store.proofs.Telling.{Tells, either_told, itself}
+use Rattle.backend_trait.proofs.Telling.{Tells, either_told, itself}
 use Rattle.plain_store.proofs.CrossLaws.{is_below, crosses_told}
 use Rattle.plain_store.proofs.StepLaws.{set_same, set_other}
 

@@ -1,5 +1,5 @@
 -- Places that are one, and a test that some of a list of places pass.
-use Rattle.std.proofs.Common.{◌≡◌, ◌≤◌, ◌-◌, Bool, true, false, ◌||◌, List, [], ◌∷◌, ◌++◌, length, map, take, drop, get_or, refl, sym, ap, ◌∙◌, arith, inl, inr}
+use Rattle.std.proofs.Common.{◌≡◌, ◌≤◌, ◌-◌, Bool, true, false, ◌||◌, List, [], ◌∷◌, length, map, take, drop, get_or, refl, sym, ap, ◌∙◌, arith, inl, inr}
 use Rattle.std.specs.Prelude.{not}
 use Rattle.std.specs.List.{list_any}
 use Rattle.std.specs.declared.cmp.Ordering.{Ordering}
@@ -13,7 +13,7 @@ use Rattle.backend_trait.proofs.KeyLaws.{place_total, place_antisymmetric}
 use Rattle.outcomes.specs.declared.spot.Spot.{Spot}
 use Rattle.outcomes.specs.Spots.{place_of}
 use Rattle.plain_store.specs.Deciding.{share}
-use Rattle.plain_store.proofs.Telling.{Tells, or_true, or_left, or_right}
+use Rattle.backend_trait.proofs.Telling.{Tells, or_true, or_left, or_right}
 
 told : (o : Ordering) → is_eq o ≡ true → o ≡ Equal
 told Less e = absurd (cc)
@@ -67,15 +67,6 @@ passes_none test places none = go (list_any test places) refl
 
 pub none_told : (test : Place → Bool) (places : List Place) → Tells (not (list_any test places)) (NonePasses test places)
 none_told test places = (none_passes test places, passes_none test places)
-
-or_group : (a b c : Bool) → (a || (b || c)) ≡ ((a || b) || c)
-or_group true b c = refl
-or_group false b c = refl
-
--- a place among two lists is among one of them
-pub among_both : (xs ys : List Place) (p : Place) → is_among (xs ++ ys) p ≡ (is_among xs p || is_among ys p)
-among_both [] ys p = refl
-among_both (x ∷ xs) ys p = ap (λ b. is_place p x || b) (among_both xs ys p) ∙ or_group (is_place p x) (is_among xs p) (is_among ys p)
 
 -- whose first place is not among others shares with them what those behind it do
 pub share_more : (spots : List Spot) (others : List Place) (first : Spot) → 1 ≤ length spots → first ≡ get_or spots 0 first → is_among others (place_of first) ≡ false

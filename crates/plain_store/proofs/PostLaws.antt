@@ -16,7 +16,7 @@ use Rattle.plain_store.specs.Phases.{held_of, transaction_in, request_at, mark_i
 use Rattle.plain_store.specs.Meaning.{store_of}
 use Rattle.plain_store.specs.States.{phase_in}
 use Rattle.plain_store.specs.Deciding.{is_live, is_absent, has_its_lock, locks_table, MayRunAt, MaySetAt, Admits, is_idle}
-use Rattle.plain_store.proofs.Telling.{Tells, never}
+use Rattle.backend_trait.proofs.Telling.{Tells, never}
 
 pub idle_told : (waits : Option Request) (mark : Bool) → Tells (is_idle waits) (pending_of waits mark ≡ None)
 idle_told None mark = (λ e. refl, λ e. refl)

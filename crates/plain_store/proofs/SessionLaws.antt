@@ -7,7 +7,7 @@ use Rattle.pool_base.specs.declared.no_memory.NoMemory.{NoMemory}
 use Rattle.schema.specs.declared.catalogue.TableDef.{TableDef}
 use Rattle.catalogue.specs.declared.checked.Checked.{Checked}
 use Rattle.sql_eval.specs.declared.effect.Change.{Change}
-use Rattle.typed_effects.specs.Typed.{AreAllStored}
+use Rattle.backend_trait.specs.Typed.{AreAllStored}
 use Rattle.backend_trait.specs.declared.request.Request.{Request}
 use Rattle.backend_trait.specs.Rows.{laid_over}
 use Rattle.backend_trait.specs.Effect.{changes_of, effect_of, table_in}

@@ -20,10 +20,10 @@ use Rattle.plain_store.specs.declared.data.Database.{Database}
 use Rattle.plain_store.specs.Phases.{Claim, Places, Lock, wants_one, live_of, transaction_of, transaction_in, request_at, mark_in, pending_of}
 use Rattle.plain_store.specs.Meaning.{store_of}
 use Rattle.plain_store.specs.Giving.{given_run, given_by}
-use Rattle.plain_store.specs.Acting.{IsHeldUp}
+use Rattle.backend_trait.specs.Acting.{IsHeldUp}
 use Rattle.plain_store.specs.States.{States, states_in, phase_in, phase_at}
 use Rattle.plain_store.specs.Deciding.{are_stale, holds_phase, taken_from, wish_fresh, wish_run, wish_lock, wish_of, wish_at, taken_wish, holds_wish, waits_for, IsWay, LeadsBack}
-use Rattle.plain_store.proofs.Telling.{Tells, both_told, told_as, never}
+use Rattle.backend_trait.proofs.Telling.{Tells, both_told, told_as, never}
 use Rattle.plain_store.proofs.HeldLaws.{phase_told, taken_told}
 use Rattle.plain_store.proofs.SessionLaws.{phase_same}
 use Rattle.plain_store.proofs.CrossLaws.{other_told}

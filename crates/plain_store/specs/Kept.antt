@@ -7,7 +7,7 @@ use Rattle.catalogue.specs.declared.checked.Checked.{Checked}
 use Rattle.catalogue.specs.declared.checked.CheckedBody.{CheckedBody}
 use Rattle.catalogue.specs.declared.checked.CheckedBody.TheVariants as body
 use Rattle.sql_eval.specs.Effects.{DrawsFew}
-use Rattle.typed_effects.specs.Typed.{AreAllStored}
+use Rattle.backend_trait.specs.Typed.{AreAllStored}
 use Rattle.backend_trait.specs.declared.answer.Answer.{Answer}
 use Rattle.backend_trait.specs.declared.request.Request.{Request}
 use Rattle.backend_trait.specs.declared.request.Request.TheVariants as requests

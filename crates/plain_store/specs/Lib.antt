@@ -2,7 +2,6 @@ pub mod Phases
 pub mod Meaning
 pub mod Giving
 pub mod Kept
-pub mod Acting
 pub mod States
 pub mod Deciding
 pub mod Steps

@@ -2,7 +2,7 @@
 ghost use Rattle.std.specs.Prelude.{◌≡◌, ◌<◌, ◌↔◌, IfOk, IsTrue, codes, option_map};
 ghost use Rattle.outcomes.specs.Given.{given_in};
 ghost use Rattle.plain_store.specs.Meaning.{store_of};
-ghost use Rattle.plain_store.specs.Acting.{MayAct};
+ghost use Rattle.backend_trait.specs.Acting.{MayAct};
 ghost use Rattle.plain_store.specs.States.{AreAll, states_of};
 ghost use Rattle.plain_store.specs.Deciding.{is_code, refuses, may_give, may_fail, may_work, ran_given, ran, may_run, may_snapshot, is_live, may_lock, is_done, tells, may_answer, may_asked, may_pending};
 

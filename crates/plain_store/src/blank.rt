@@ -41,7 +41,7 @@ fn unmarked(alloc: Global) -> Result<Vec<bool>, NoMemory>
 }
 
 impl Database {
-    ghost use Rattle.schema_print.specs.Allowed.{AreAllowed};
+    ghost use Rattle.schema.specs.Allowed.{AreAllowed};
     ghost use Rattle.backend_trait.specs.Store.{prepared};
     ghost use Rattle.plain_store.specs.Meaning.{store_of};
 

@@ -4,9 +4,9 @@ ghost use Rattle.plain_store.specs.Phases.{changes_in, live_of};
 
 use crate::data::Work;
 use backend_trait::Request;
+use checked_sql::checked_copied;
 use outcomes::{ChangeSet, Spot};
 use pool_base::{List, NoMemory};
-use sql_copies::checked_copied;
 use sql_eval::Change;
 use std::alloc::Global;
 

@@ -4,7 +4,7 @@ ghost use Rattle.backend_trait.specs.Acts.{may_be_crossed};
 ghost use Rattle.outcomes.specs.Given.{given_in};
 ghost use Rattle.plain_store.specs.Phases.{claim_of};
 ghost use Rattle.plain_store.specs.Meaning.{store_of};
-ghost use Rattle.plain_store.specs.Acting.{IsCrossedNow};
+ghost use Rattle.backend_trait.specs.Acting.{IsCrossedNow};
 ghost use Rattle.plain_store.specs.States.{AreAll, states_of};
 ghost use Rattle.plain_store.specs.Deciding.{wants_given, wants_by, locks_table, has_lock, is_locked, clash_wanted, meets, crossed_by, crosses_by, crosses_at, some_below, crosses, crosses_if, crosses_waiting};
 

@@ -1,6 +1,6 @@
 //! What the statements that wait give.
 ghost use Rattle.std.specs.Prelude.{◌≡◌, ◌<◌, Some, IfOk, option_map};
-ghost use Rattle.typed_effects.specs.Typed.{AreAllStored};
+ghost use Rattle.backend_trait.specs.Typed.{AreAllStored};
 ghost use Rattle.backend_trait.specs.Runnable.{IsRunnable};
 ghost use Rattle.backend_trait.specs.Store.{view_of};
 ghost use Rattle.backend_trait.specs.Acts.{given_of};

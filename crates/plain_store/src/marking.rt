@@ -1,7 +1,7 @@
 //! Marks of the requests that are crossed.
 ghost use Rattle.std.specs.Prelude.{◌≡◌, ◌<◌, ◌≤◌, OnOk, OnErr, length};
 ghost use Rattle.plain_store.specs.Meaning.{store_of};
-ghost use Rattle.plain_store.specs.Acting.{IsMarked};
+ghost use Rattle.backend_trait.specs.Acting.{IsMarked};
 ghost use Rattle.plain_store.specs.States.{AreAll, states_of};
 ghost use Rattle.plain_store.specs.Deciding.{marked_if, marks_below};
 

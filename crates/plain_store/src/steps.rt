@@ -1,7 +1,7 @@
 //! What a post and an answer leave.
 ghost use Rattle.std.specs.Prelude.{◌≡◌, ◌<◌, ◌≤ℤ◌, pos, Some, IfOk, OnOk, map, option_map, slice_get};
 ghost use Rattle.sql_eval.specs.Effects.{DrawsFew};
-ghost use Rattle.typed_effects.specs.Typed.{AreAllStored};
+ghost use Rattle.backend_trait.specs.Typed.{AreAllStored};
 ghost use Rattle.outcomes.specs.Given.{given_in};
 ghost use Rattle.outcomes.specs.Log.{rows_of};
 ghost use Rattle.outcomes.specs.Next.{next_of};
@@ -13,7 +13,7 @@ ghost use Rattle.backend_trait.specs.Effect.{Gives, changes_of};
 ghost use Rattle.backend_trait.specs.Store.{Live, Alive, MayPost, begun, given_to, made_stale, table_lock, where_live, posted, settled, committed_by, drawn, answered, refused, acted, is_refusal, lost_by};
 ghost use Rattle.plain_store.specs.Phases.{live_of, request_at, transaction_of};
 ghost use Rattle.plain_store.specs.Meaning.{store_of};
-ghost use Rattle.plain_store.specs.Acting.{acted_at, drawn_waiting, died};
+ghost use Rattle.backend_trait.specs.Acting.{acted_at, drawn_waiting, died};
 ghost use Rattle.plain_store.specs.Kept.{IsKept, IsStoredIn};
 ghost use Rattle.plain_store.specs.Steps.{gave, locked, IsSetIn};
 

@@ -4,7 +4,7 @@ ghost use Rattle.backend_trait.specs.Acts.{IsInCycle};
 ghost use Rattle.outcomes.specs.Given.{given_in};
 ghost use Rattle.plain_store.specs.Phases.{claim_of};
 ghost use Rattle.plain_store.specs.Meaning.{store_of};
-ghost use Rattle.plain_store.specs.Acting.{IsHeldUp};
+ghost use Rattle.backend_trait.specs.Acting.{IsHeldUp};
 ghost use Rattle.plain_store.specs.States.{AreAll, states_of};
 ghost use Rattle.plain_store.specs.Deciding.{LeadsBack, wish_fresh, wish_run, wish_lock, wish_of, wish_at, taken_wish, holds_wish, waits_for};
 

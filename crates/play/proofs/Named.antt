@@ -9,7 +9,7 @@ use Rattle.pg_values.specs.declared.col_type.ColType.{ColType}
 use Rattle.pg_values.specs.declared.col_type.ColType.TheVariants.{Int8}
 use Rattle.schema.specs.declared.catalogue.ColumnDef.{ColumnDef}
 use Rattle.schema.specs.declared.catalogue.TableDef.{TableDef}
-use Rattle.schema_print.specs.Allowed.{AreAllowed, AreColumns, AreTables}
+use Rattle.schema.specs.Allowed.{AreAllowed, AreColumns, AreTables}
 use Rattle.sql_tree.specs.declared.expr.Expr.{Expr, roll-Expr, out-roll-Expr}
 use Rattle.sql_tree.specs.declared.expr.Expr.TheOpen.{Expr-F}
 use Rattle.sql_tree.specs.declared.expr.Expr.TheVariants as expr

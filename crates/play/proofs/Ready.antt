@@ -6,7 +6,7 @@ use Rattle.std.proofs.lemmas.Option.{none-some}
 use Rattle.pg_values.specs.Range.{IsMoment}
 use Rattle.schema.specs.declared.catalogue.TableDef.{TableDef}
 use Rattle.schema.specs.Grammar.{IsWithin}
-use Rattle.schema_print.specs.Allowed.{AreAllowed, AreTables}
+use Rattle.schema.specs.Allowed.{AreAllowed, AreTables}
 use Rattle.sql_tree.specs.declared.statement.Statement.{Statement}
 use Rattle.sql_reader.specs.declared.fault.SqlFault.{SqlFault}
 use Rattle.sql_reader.specs.declared.fault.SqlFault.TheVariants as fault

@@ -24,7 +24,7 @@ use Rattle.checked_sql.specs.Sound.{are_fit, has_no_zero, is_moment, is_some_byt
 use Rattle.catalogue.specs.declared.checked.ColumnDesc.{ColumnDesc}
 use Rattle.sql_eval.specs.declared.row.Row.{Row}
 use Rattle.sql_eval.specs.Reads.{cell_size, row_size}
-use Rattle.typed_effects.specs.Typed.{has_columns}
+use Rattle.backend_trait.specs.Typed.{has_columns}
 use Rattle.pg_messages.specs.declared.server.ServerMessage.{ServerMessage}
 use Rattle.pg_messages.specs.declared.server.ServerMessage.TheVariants.{RowDescription, DataRow}
 use Rattle.pg_messages.specs.Fields.{FieldFits, field, int16, int32, value}

@@ -11,7 +11,7 @@ ghost use Rattle.pg_messages.specs.declared.server.ServerMessage.{ServerMessage}
 ghost use Rattle.pg_messages.specs.declared.client.ClientMessage.TheVariants as sent;
 ghost use Rattle.pg_messages.specs.Client.{Fits};
 ghost use Rattle.play.specs.declared.play_fault.PlayFault.TheVariants as faults;
-ghost use Rattle.schema_print.specs.Allowed.{AreAllowed};
+ghost use Rattle.schema.specs.Allowed.{AreAllowed};
 ghost use Rattle.play.specs.Replies.{AreReadAgain, spelled_all, start_up};
 ghost use Rattle.play.specs.Script.{IsMomentOf, IsPlayed, IsSession};
 ghost use Rattle.play.specs.Transcript.{ArePlayed, ArePlayedInPart, shown_connect, shown_leave, ended, reply_line, lines_of, closing};

@@ -5,8 +5,8 @@ ghost use Rattle.pg_messages.specs.declared.client.ClientMessage.TheVariants as 
 ghost use Rattle.pg_messages.specs.declared.server.ServerMessage.TheVariants as messages;
 ghost use Rattle.std.specs.List.{list_all};
 ghost use Rattle.pg_messages.specs.declared.server.ServerMessage.{ServerMessage};
-ghost use Rattle.schema_print.specs.Allowed.{AreAllowed};
-ghost use Rattle.typed_effects.specs.Typed.{has_columns};
+ghost use Rattle.schema.specs.Allowed.{AreAllowed};
+ghost use Rattle.backend_trait.specs.Typed.{has_columns};
 ghost use Rattle.backend_trait.specs.Runnable.{is_of_run};
 ghost use Rattle.play.specs.Replies.{Sent, AreAnswers, AreReplies, AreRows, rows_left_by, settings, start_up, error_message};
 ghost use Rattle.play.specs.Answering.{AreNamed, IsAnswered, IsReady, IsShort};

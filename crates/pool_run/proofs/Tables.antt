@@ -4,7 +4,7 @@ use Rattle.std.specs.Prelude.{All}
 use Rattle.std.proofs.lemmas.List.Elements.{All-nil, All-cons}
 use Rattle.schema.specs.declared.catalogue.TableDef.{TableDef}
 use Rattle.schema.specs.Grammar.{IsWithin}
-use Rattle.schema_print.specs.Allowed.{AreAllowed, AreTables}
+use Rattle.schema.specs.Allowed.{AreAllowed, AreTables}
 
 few_columns : (before tables : List TableDef) → AreTables before tables → All (λ t. length t.columns ≤ 32) tables
 few_columns before [] are = All-nil (λ (t : TableDef). length t.columns ≤ 32)

@@ -25,8 +25,8 @@ use Rattle.pool_run.specs.Scripts.{script_too_long, bad_line}
 use Rattle.pool_run.specs.Texts.{is_plain, is_play, keeps_journal}
 use Rattle.pool_run.specs.Ways.{AreSingle}
 use Rattle.schema.specs.declared.catalogue.TableDef.{TableDef}
-use Rattle.schema_print.specs.Allowed.{AreAllowed}
-use Rattle.schema_print.specs.Printed.{AreInRange}
+use Rattle.schema.specs.Allowed.{AreAllowed}
+use Rattle.schema.specs.Ranges.{AreInRange}
 
 -- lines that may be played so
 abbrev pub FitsWay : Way → List Line → Type 0

@@ -7,8 +7,8 @@ ghost use Rattle.pool_run.specs.Plan.{FitsOneClient, FitsSessions, IsFew, IsOneC
 ghost use Rattle.pool_run.specs.Scripts.{IsReading};
 ghost use Rattle.pool_run.specs.Texts.{keeps_journal};
 ghost use Rattle.schema.specs.Grammar.{IsWithin};
-ghost use Rattle.schema_print.specs.Allowed.{AreAllowed};
-ghost use Rattle.schema_print.specs.Printed.{AreInRange};
+ghost use Rattle.schema.specs.Allowed.{AreAllowed};
+ghost use Rattle.schema.specs.Ranges.{AreInRange};
 
 use crate::drawing::takes_none;
 use crate::plan::{Lines, Plan, Stop, Way};

@@ -7,8 +7,8 @@ ghost use Rattle.play.specs.Script.{IsSession};
 ghost use Rattle.pool_run.specs.Ends.{outside, ScriptEnds, Returns};
 ghost use Rattle.pool_run.specs.Plan.{IsSound, PlanEnds};
 ghost use Rattle.backend_trait.specs.Rows.{no_rows};
-ghost use Rattle.schema_print.specs.Allowed.{AreAllowed};
-ghost use Rattle.schema_print.specs.Printed.{AreInRange};
+ghost use Rattle.schema.specs.Allowed.{AreAllowed};
+ghost use Rattle.schema.specs.Ranges.{AreInRange};
 ghost use Rattle.session_core.specs.Statements.{primary_rows, primary_tables};
 ghost use Rattle.pool_run.specs.Shelf.{AreBackends, AreFresh, ArePrepared};
 

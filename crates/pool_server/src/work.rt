@@ -13,8 +13,7 @@ ghost use Rattle.pool_server.specs.Servings.{EndsIn, IsAnswered, IsPeeked, stepp
 use crate::end::EndCause;
 use crate::outside::{GatePass, Notices};
 use crate::parting::Step;
-use backend_trait::{Answer, Request};
-use link_words::Link;
+use backend_trait::{Answer, Link, Request};
 use pg_messages::Pair;
 use pool_base::{BackendId, BackendSet, GateAnswer, GateCall, NoMemory, SessionId};
 use session_engine::Core;

@@ -7,7 +7,7 @@ use Rattle.schema.specs.declared.catalogue.TableDef.{TableDef}
 use Rattle.sql_eval.specs.declared.row.Row.{Row}
 use Rattle.pg_values.specs.declared.value.Value.{Value}
 use Rattle.checked_sql.specs.Sound.{are_fit}
-use Rattle.typed_effects.specs.Typed.{IsStored, AreAllStored}
+use Rattle.backend_trait.specs.Typed.{IsStored, AreAllStored}
 use Rattle.backend_trait.proofs.RowLaws.{laid_over-none}
 use Rattle.copy_laws.proofs.Ending.{commit_answer, commit_rows, commit_next, lock_leaves}
 use Rattle.copy_laws.proofs.Reading.{rows_answered, read_left}

@@ -4,7 +4,7 @@ use Rattle.std.specs.Prelude.{is_some, Option, Some, None}
 use Rattle.pool_base.specs.Sets.{has}
 use Rattle.pool_base.specs.declared.session_id.SessionId.{SessionId}
 use Rattle.pool_base.specs.declared.backend_set.BackendSet.{BackendSet}
-use Rattle.schema_print.specs.Allowed.{AreAllowed}
+use Rattle.schema.specs.Allowed.{AreAllowed}
 use Rattle.backend_trait.specs.declared.request.Request.TheVariants as requests
 use Rattle.session_orders.specs.declared.order.OrderBody.{OrderBody}
 use Rattle.session_orders.specs.declared.order.OrderBody.TheVariants as orders

@@ -4,10 +4,10 @@ use Rattle.std.proofs.Common.{◌≡◌, ◌≢◌, ℕ, ℤ, Bool, true, false,
 use Rattle.std.specs.Prelude.{if◌then◌else◌, slice_get, Option, Some, None}
 use Rattle.std.specs.FinMap as fin
 use Rattle.schema.specs.declared.catalogue.TableDef.{TableDef}
-use Rattle.schema_print.specs.Allowed.{AreAllowed}
+use Rattle.schema.specs.Allowed.{AreAllowed}
 use Rattle.catalogue.specs.declared.checked.Checked.{Checked}
 use Rattle.sql_eval.specs.declared.row.Row.{Row}
-use Rattle.typed_effects.specs.Typed.{IsStored, AreAllStored}
+use Rattle.backend_trait.specs.Typed.{IsStored, AreAllStored}
 use Rattle.outcomes.specs.Stored as sets
 use Rattle.outcomes.proofs.Shaped.{rows_shaped}
 use Rattle.outcomes.proofs.StoredRows.{laid_stored, left_stored}

@@ -15,7 +15,7 @@ use Rattle.backend_trait.specs.Effect.{both_wants}
 use Rattle.backend_trait.proofs.RowLaws.{row_over, get-laid_over}
 use Rattle.sql_eval.specs.declared.row.Row.{Row}
 use Rattle.backend_trait.specs.Store.{Live, Transaction, Absent, Alive, Dead, Pending, Store, begun, posted, where_live, made_stale, table_lock, committed_by, answered, refused, is_refusal}
-use Rattle.plain_store.specs.Acting.{acted_by, died}
+use Rattle.backend_trait.specs.Acting.{acted_by, died}
 use Rattle.session_machine.specs.declared.work.Work.{Work}
 use Rattle.session_machine.specs.declared.machine.Stage.{Stage}
 use Rattle.session_machine.specs.declared.machine.Stage.TheVariants.{Inserting}

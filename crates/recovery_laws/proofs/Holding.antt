@@ -4,7 +4,7 @@ use Rattle.std.specs.Prelude.{Some}
 use Rattle.pool_base.specs.Sets.{has}
 use Rattle.pool_base.specs.declared.session_id.SessionId.{SessionId}
 use Rattle.pool_base.specs.declared.backend_set.BackendSet.{BackendSet}
-use Rattle.schema_print.specs.Allowed.{AreAllowed}
+use Rattle.schema.specs.Allowed.{AreAllowed}
 use Rattle.backend_trait.specs.declared.request.Request.TheVariants as requests
 use Rattle.session_machine.specs.declared.machine.ReadPolicy.{ReadPolicy}
 use Rattle.online_recovery.specs.declared.layout.Layout.{Layout}

@@ -8,7 +8,7 @@ use Rattle.backend_trait.specs.declared.answer.Answer.{Answer}
 use Rattle.backend_trait.specs.Rows.{with_at}
 use Rattle.backend_trait.specs.Effect.{table_in, draws_of}
 use Rattle.backend_trait.specs.Store.{Transaction, Absent, Alive, Dead, Pending, Store, WhereLive, MaySetIn, MayPost, first_of, first_number, numbered, with_draws, next_for, drawn, posted, settled, committed_by, answered, refused, is_refusal, acted, request_in}
-use Rattle.plain_store.specs.Acting.{acted_by, drawn_waiting, died}
+use Rattle.backend_trait.specs.Acting.{acted_by, drawn_waiting, died}
 use Rattle.one_copy_model.specs.declared.deed.Deed.{Deed}
 use Rattle.one_copy_model.specs.declared.deed.Deed.TheVariants.{Asks, Gets, Falls}
 use Rattle.one_copy_model.specs.declared.deed.Entry.{Entry}

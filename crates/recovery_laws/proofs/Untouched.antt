@@ -2,7 +2,7 @@
 use Rattle.std.proofs.Common.{◌≡◌, ◌<◌, List, [], ◌∷◌, ◌++◌, false}
 use Rattle.std.specs.FinMap as fin
 use Rattle.pool_base.specs.declared.backend_set.BackendSet.{BackendSet}
-use Rattle.schema_print.specs.Allowed.{AreAllowed}
+use Rattle.schema.specs.Allowed.{AreAllowed}
 use Rattle.backend_trait.specs.Keys.{Place}
 use Rattle.session_machine.specs.declared.machine.ReadPolicy.{ReadPolicy}
 use Rattle.online_recovery.specs.declared.layout.Layout.{Layout}

@@ -3,7 +3,7 @@ ghost use Rattle.std.specs.Prelude.{◌≡◌, ◌<◌, ℕ, true, List, Some};
 ghost use Rattle.pool_base.specs.Sets.{has};
 ghost use Rattle.pool_base.specs.declared.session_id.SessionId.{SessionId};
 ghost use Rattle.pool_base.specs.declared.backend_set.BackendSet.{BackendSet};
-ghost use Rattle.schema_print.specs.Allowed.{AreAllowed};
+ghost use Rattle.schema.specs.Allowed.{AreAllowed};
 ghost use Rattle.backend_trait.specs.declared.request.Request.TheVariants.{ReadSerial, TakeSnapshot};
 ghost use Rattle.session_machine.specs.declared.machine.ReadPolicy.{ReadPolicy};
 ghost use Rattle.online_recovery.specs.declared.layout.Layout.{Layout};

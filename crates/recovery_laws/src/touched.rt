@@ -2,7 +2,7 @@
 ghost use Rattle.std.specs.Prelude.{◌≡◌, ◌<◌, false, List};
 ghost use Rattle.std.specs.FinMap as fin;
 ghost use Rattle.pool_base.specs.declared.backend_set.BackendSet.{BackendSet};
-ghost use Rattle.schema_print.specs.Allowed.{AreAllowed};
+ghost use Rattle.schema.specs.Allowed.{AreAllowed};
 ghost use Rattle.backend_trait.specs.Keys.{Place};
 ghost use Rattle.session_machine.specs.declared.machine.ReadPolicy.{ReadPolicy};
 ghost use Rattle.online_recovery.specs.declared.layout.Layout.{Layout};

@@ -11,7 +11,7 @@ use Rattle.backend_trait.specs.Rows.{Changes}
 use Rattle.backend_trait.specs.Effect.{Wants, these_places, Conflicts, Given, Fails, Gives, table_in}
 use Rattle.backend_trait.specs.Store.{Live, Transaction, Absent, Alive, Dead, Pending, Store, held_by, view_of, next_for}
 use Rattle.backend_trait.specs.Acts.{IsStale, MayAnswer, Answers, WhereSome, given_of, wants_in, wants_of_run, asked_by}
-use Rattle.plain_store.specs.Acting.{MayAct}
+use Rattle.backend_trait.specs.Acting.{MayAct}
 use Rattle.online_recovery.specs.Copies.{all_rows_in}
 use Rattle.world_frames.proofs.Turns.{no_left}
 use Rattle.world_laws.proofs.ActsEffects.{reads_nothing}

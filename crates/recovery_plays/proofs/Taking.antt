@@ -10,7 +10,7 @@ use Rattle.backend_trait.specs.Rows.{with_at}
 use Rattle.backend_trait.specs.Effect.{Wants, Conflicts}
 use Rattle.backend_trait.specs.Store.{Transaction, Absent, Pending, Store, acted}
 use Rattle.backend_trait.specs.Acts.{Answers, asked_by}
-use Rattle.plain_store.specs.Acting.{MayAct, acted_by}
+use Rattle.backend_trait.specs.Acting.{MayAct, acted_by}
 use Rattle.session_machine.specs.declared.action.SessionEvent.TheVariants as events
 use Rattle.session_machine.specs.Rules.{after as machine_after}
 use Rattle.online_recovery.specs.declared.standing.Due.{Due}

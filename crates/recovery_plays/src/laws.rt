@@ -1,7 +1,7 @@
 //! What holds of all plays with recoveries.
 ghost use Rattle.std.specs.Prelude.{◌<◌, List, length};
 ghost use Rattle.pool_base.specs.declared.backend_set.BackendSet.{BackendSet};
-ghost use Rattle.schema_print.specs.Allowed.{AreAllowed};
+ghost use Rattle.schema.specs.Allowed.{AreAllowed};
 ghost use Rattle.session_machine.specs.declared.machine.ReadPolicy.{ReadPolicy};
 ghost use Rattle.session_seat.specs.Shared.{first_shared};
 ghost use Rattle.online_recovery.specs.declared.layout.Layout.{Layout};

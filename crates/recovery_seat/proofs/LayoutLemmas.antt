@@ -23,7 +23,7 @@ use Rattle.schema.specs.contracts.catalogue.ColumnDefPartialEq.TheImpl as column
 use Rattle.schema.specs.declared.catalogue.TableDef.{TableDef}
 use Rattle.schema.specs.contracts.catalogue.TableDefPartialEq.TheImpl as table_eq
 use Rattle.schema.specs.Grammar.{IsWithin}
-use Rattle.schema_print.specs.Allowed.{AreAllowed, AreTables}
+use Rattle.schema.specs.Allowed.{AreAllowed, AreTables}
 use Rattle.online_recovery.specs.declared.layout.Layout.{Layout}
 use Rattle.online_recovery.specs.declared.standing.Standing.{Standing}
 use Rattle.online_recovery.specs.State.{new_standing}

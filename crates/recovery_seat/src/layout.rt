@@ -1,16 +1,16 @@
 //! The layout of a recovery: how many backends are configured, and the tables.
 ghost use Rattle.std.specs.Prelude.{◌≡◌, IfOk, true};
-ghost use Rattle.schema_print.specs.Allowed.{AreAllowed};
+ghost use Rattle.schema.specs.Allowed.{AreAllowed};
 ghost use Rattle.online_recovery.specs.declared.layout.Layout.{Layout as Plan};
 ghost use Rattle.online_recovery.specs.Asking.{standing_in};
 ghost use Rattle.online_recovery.specs.State.{new_standing};
 ghost use Rattle.recovery_seat.specs.Places.{IsLayout};
 
+use checked_sql::catalogue_copied;
 use online_recovery::{Layout, Recovery};
 use pool_base::SessionId;
 use schema::TableDef;
 use session_seat::{Setting, StepFault};
-use sql_copies::catalogue_copied;
 
 /// The layout of a configuration and its tables.
 pub(crate) fn layout_in(setting: Setting) -> Result<Layout, StepFault>

@@ -1,6 +1,6 @@
 //! The order of a recovery.
 ghost use Rattle.std.specs.Prelude.{◌≡◌, ◌<◌, ◌≤◌, ℕ, None, Some, length, IfOk, OnOk};
-ghost use Rattle.schema_print.specs.Allowed.{AreAllowed};
+ghost use Rattle.schema.specs.Allowed.{AreAllowed};
 ghost use Rattle.pgproto.specs.declared.line.Mark.TheVariants as marks;
 ghost use Rattle.session_orders.specs.declared.order.OrderBody.TheVariants as orders;
 ghost use Rattle.session_machine.specs.declared.action.SessionEvent.TheVariants as events;

@@ -1,7 +1,7 @@
 //! The Swap: a blank store takes the place of the backend that is brought in.
 ghost use Rattle.std.specs.Prelude.{◌≡◌, ◌<◌, ◌≤◌, false, length, IfOk};
-ghost use Rattle.schema_print.specs.Allowed.{AreAllowed};
-ghost use Rattle.schema_print.specs.Printed.{AreInRange};
+ghost use Rattle.schema.specs.Allowed.{AreAllowed};
+ghost use Rattle.schema.specs.Ranges.{AreInRange};
 ghost use Rattle.session_machine.specs.Rules.{next_action as session_action};
 ghost use Rattle.session_engine.specs.Cores.{machine_in};
 ghost use Rattle.online_recovery.specs.declared.ask.RecoveryAsk.TheVariants as asks;

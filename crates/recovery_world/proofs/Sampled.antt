@@ -4,7 +4,7 @@ use Rattle.std.specs.Prelude.{pos, ◌==◌, if◌then◌else◌, []}
 use Rattle.pool_base.specs.Sets.{has}
 use Rattle.pool_base.specs.declared.gate_call.GateCall.TheVariants as calls
 use Rattle.pool_base.specs.declared.gate_call.GateAnswer.TheVariants.{Granted}
-use Rattle.schema_print.specs.Allowed.{AreAllowed}
+use Rattle.schema.specs.Allowed.{AreAllowed}
 use Rattle.backend_trait.specs.declared.request.Request.{Request}
 use Rattle.backend_trait.specs.declared.request.Request.TheVariants as requests
 use Rattle.session_orders.specs.declared.order.OrderBody.TheVariants as orders

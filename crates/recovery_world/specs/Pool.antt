@@ -9,7 +9,7 @@ use Rattle.backend_trait.specs.declared.answer.Answer.{Answer}
 use Rattle.backend_trait.specs.Rows.{with_at}
 use Rattle.backend_trait.specs.Store.{Transaction, Absent, Alive, Dead, Store, prepared, acted}
 use Rattle.backend_trait.specs.Acts.{MayAnswer}
-use Rattle.plain_store.specs.Acting.{MayAct}
+use Rattle.backend_trait.specs.Acting.{MayAct}
 use Rattle.session_orders.specs.declared.order.OrderBody.{OrderBody}
 use Rattle.session_orders.specs.declared.order.OrderBody.TheVariants as orders
 use Rattle.session_machine.specs.declared.status.Status.TheVariants.{Idle}

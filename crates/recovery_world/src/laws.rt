@@ -4,7 +4,7 @@ ghost use Rattle.pool_base.specs.declared.gate_call.GateAnswer.TheVariants.{Held
 ghost use Rattle.pool_base.specs.declared.gate_call.GateCall.TheVariants.{EnterQuiet};
 ghost use Rattle.pool_base.specs.Sets.{has};
 ghost use Rattle.pool_base.specs.declared.backend_set.BackendSet.{BackendSet};
-ghost use Rattle.schema_print.specs.Allowed.{AreAllowed};
+ghost use Rattle.schema.specs.Allowed.{AreAllowed};
 ghost use Rattle.session_machine.specs.declared.machine.ReadPolicy.{ReadPolicy};
 ghost use Rattle.snapshot_gate.specs.Function.{refuse, step};
 ghost use Rattle.snapshot_gate.specs.Runs.{AreApart};

@@ -2,8 +2,8 @@
 use Rattle.std.proofs.Common.{◌≡◌, ◌≤◌, ◌-◌, ℕ, List, [], ◌∷◌, length, take, codes, Option, Some, None, IfSome, refl, sym, subst, arith}
 use Rattle.std.specs.Prelude.{Bool as Truth, true, false, reverse, slice_get}
 use Rattle.std.specs.List.{AllByRecursion}
-use Rattle.sql_grammar.specs.declared.fault.Awaited.{Awaited}
-use Rattle.sql_grammar.specs.declared.fault.Awaited.TheVariants as awaits
+use Rattle.sql_tokens.specs.declared.fault.Awaited.{Awaited}
+use Rattle.sql_tokens.specs.declared.fault.Awaited.TheVariants as awaits
 use Rattle.sql_tokens.specs.declared.mark.Mark.TheVariants as mark
 use Rattle.sql_tokens.specs.declared.token.Placed.{Placed}
 use Rattle.sql_tokens.specs.declared.token.Token.{Token}
@@ -12,10 +12,10 @@ use Rattle.sql_tokens.specs.declared.token.TokenFault.TheVariants as fault
 use Rattle.sql_tokens.specs.declared.word.Word.{Word}
 use Rattle.sql_tokens.specs.declared.word.Word.TheVariants as word
 use Rattle.sql_tokens.specs.Words.{spelling}
-use Rattle.sql_text.specs.declared.fault.TextFault.{TextFault}
-use Rattle.sql_text.specs.declared.fault.TextFault.TheVariants as text_fault
-use Rattle.sql_refusal.specs.Rules.{name_where, numeric_literal, callee, opened, is_operand, called, joined, ordered_by_expression, behind_word, is_listed, listed_word, other_marks}
-use Rattle.sql_refusal.specs.Refusal.{first_of, name_at, named, told_at, told, place_or, place_of}
+use Rattle.sql_reader.specs.declared.text_fault.TextFault.{TextFault}
+use Rattle.sql_reader.specs.declared.text_fault.TextFault.TheVariants as text_fault
+use Rattle.sql_reader.specs.Rules.{name_where, numeric_literal, callee, opened, is_operand, called, joined, ordered_by_expression, behind_word, is_listed, listed_word, other_marks}
+use Rattle.sql_reader.specs.Refusal.{first_of, name_at, named, told_at, told, place_or, place_of}
 use Rattle.sql_reader.specs.declared.fault.SqlFault.{SqlFault}
 use Rattle.sql_reader.specs.declared.fault.SqlFault.TheVariants.{Syntax, Outside, TooLong, NoMemory}
 use Rattle.sql_reader.specs.Text.{IsRefusedBy, fault_of, told_of, tokens_of, places_of}

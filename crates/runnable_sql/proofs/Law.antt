@@ -8,7 +8,7 @@ use Rattle.schema.specs.declared.catalogue.ColumnDef.{ColumnDef}
 use Rattle.schema.specs.declared.catalogue.Fill.{Fill}
 use Rattle.schema.specs.declared.catalogue.Fill.TheVariants as fill
 use Rattle.schema.specs.declared.catalogue.TableDef.{TableDef}
-use Rattle.schema_print.specs.Allowed.{AreAllowed, AreColumns, AreTables, IsFillOf}
+use Rattle.schema.specs.Allowed.{AreAllowed, AreColumns, AreTables, IsFillOf}
 use Rattle.sql_tree.specs.declared.statement.Statement.{Statement}
 use Rattle.sql_tree.specs.declared.statement.Statement.TheVariants as statement
 use Rattle.sql_reader.specs.Text.{IsTextOf}

@@ -2,7 +2,7 @@
 ghost use Rattle.std.specs.Prelude.{◌≡◌, ℕ, ℤ, List, [], ◌∷◌, None, Ok};
 ghost use Rattle.pg_values.specs.Range.{IsMoment};
 ghost use Rattle.schema.specs.declared.catalogue.TableDef.{TableDef};
-ghost use Rattle.schema_print.specs.Allowed.{AreAllowed};
+ghost use Rattle.schema.specs.Allowed.{AreAllowed};
 ghost use Rattle.sql_tree.specs.declared.statement.Statement.{Statement};
 ghost use Rattle.sql_reader.specs.Text.{IsTextOf};
 ghost use Rattle.catalogue.specs.declared.checked.Checked.{Checked};

@@ -4,3 +4,5 @@ pub mod Open
 pub mod Steps
 pub mod Grammar
 pub mod Reading
+pub mod Allowed
+pub mod Ranges

@@ -9,7 +9,7 @@ use Rattle.schema.specs.Grammar.{IsSchema}
 use Rattle.schema.specs.Reading.{Says, as_text}
 use Rattle.schema.proofs.Texts.{whole}
 use Rattle.schema_print.specs.Printed.{IsSchemaText}
-use Rattle.schema_print.specs.Allowed.{AreAllowed}
+use Rattle.schema.specs.Allowed.{AreAllowed}
 use Rattle.schema_print.proofs.Tokens.{tokens_of_text}
 use Rattle.schema_print.proofs.Tables.{tables_read, all_few}
 

@@ -21,8 +21,9 @@ use Rattle.schema.specs.Types.{kind_of, may_be_key}
 use Rattle.schema.specs.Types as types
 use Rattle.schema.specs.Open.{has_column, bare_column, may_take_type, may_take_key, may_take_fill, with_not_null, with_key, with_fill, fill_by, fill_or_nothing, whole_column, with_column}
 use Rattle.schema.specs.Grammar.{FillOf, PartOf, not_null, key, filled, PartsOf, TypeOf, ColumnOf}
-use Rattle.schema_print.specs.Printed.{IsColumnText, IsFillText, is_serial, kind_text, serial_text, rule_text}
-use Rattle.schema_print.specs.Allowed.{IsColumn, IsFillOf, IsKeyIf, is_key_kind}
+use Rattle.schema_print.specs.Printed.{IsColumnText, IsFillText, kind_text, serial_text, rule_text}
+use Rattle.schema.specs.Allowed.{is_serial}
+use Rattle.schema.specs.Allowed.{IsColumn, IsFillOf, IsKeyIf, is_key_kind}
 use Rattle.schema_print.proofs.Runs.{IsCalm, Stops, calm_name}
 use Rattle.schema_print.proofs.Tokens.{AreRead, space_read}
 use Rattle.schema_print.proofs.Lexed.{spaced_word, type_word_read, name_of, bare_name, bare_read, name_read}

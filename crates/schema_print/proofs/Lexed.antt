@@ -15,7 +15,7 @@ use Rattle.sql_tokens.specs.Bytes.{begins_with, behind}
 use Rattle.sql_tokens.specs.Pieces.{PieceOf, MinusOf, Reads, Skips}
 use Rattle.sql_tokens.specs.Words.{spelling}
 use Rattle.sql_print.specs.Spelling.{is_plain, in_quotes, spelled, name, string}
-use Rattle.schema_print.specs.Allowed.{HasNoZero, IsName}
+use Rattle.schema.specs.Allowed.{HasNoZero, IsName}
 use Rattle.schema_print.proofs.Runs.{Stops, IsCalm, calm_name, calm_double, calm_quote, whole_piece, decimal_apart}
 use Rattle.schema_print.proofs.Names.{word_piece, plain_piece, type_word_piece, short_name}
 use Rattle.schema_print.proofs.Quoted.{string_piece, quoted_piece}

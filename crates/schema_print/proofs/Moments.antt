@@ -5,7 +5,8 @@ use Rattle.pg_values.specs.declared.value.Value.TheVariants as value
 use Rattle.pg_values.specs.Range.{IsInRange}
 use Rattle.pg_values.specs.Text.{IsTextOf}
 use Rattle.sql_print.specs.Spelling.{spelled, string}
-use Rattle.schema_print.specs.Printed.{IsMomentInRange, IsConstantInRange, IsConstantText}
+use Rattle.schema_print.specs.Printed.{IsConstantText}
+use Rattle.schema.specs.Ranges.{IsMomentInRange, IsConstantInRange}
 
 pub in_range : (v : Value) → IsMomentInRange v → IsInRange v
 in_range (value.Moment m) is = is

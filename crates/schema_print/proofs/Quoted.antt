@@ -10,7 +10,7 @@ use Rattle.sql_tokens.specs.Bytes.{begins_with, behind}
 use Rattle.sql_tokens.specs.Pieces.{doubled, Closes, QuotedOf, PieceOf, next, quoted_name}
 use Rattle.sql_tokens.proofs.Runs.{before_last}
 use Rattle.sql_print.specs.Spelling.{inside, in_quotes}
-use Rattle.schema_print.specs.Allowed.{HasNoZero}
+use Rattle.schema.specs.Allowed.{HasNoZero}
 
 no_zero_append : (xs ys : List ℕ) → HasNoZero xs → HasNoZero ys → HasNoZero (xs ++ ys)
 no_zero_append [] ys x y = y

@@ -17,7 +17,7 @@ use Rattle.schema.specs.Types.{is_serial}
 use Rattle.schema.specs.Values.{is_within, number_value, truth_value, StringValue}
 use Rattle.schema.specs.Open.{with_column, whole_column, whole_table_with, fill_or_nothing}
 use Rattle.schema.specs.Grammar.{FillOf, number, negative, least, string, truth, falsehood, null, now, current, PartOf, not_null, key, filled, PartsOf, ColumnOf, ColumnsOf, TableOf, TablesOf}
-use Rattle.schema_print.specs.Printed.{IsFillInRange, AreColumnsInRange, AreInRange}
+use Rattle.schema.specs.Ranges.{IsFillInRange, AreColumnsInRange, AreInRange}
 
 abbrev InRange : Value → Type 0
 InRange v = IsFillInRange (fill.Constant v)

@@ -16,8 +16,9 @@ use Rattle.schema.specs.declared.open.OpenTable.{OpenTable}
 use Rattle.schema.specs.Types as types
 use Rattle.schema.specs.Open.{has_column, empty_table, with_column, whole_column, whole_table, number_or}
 use Rattle.schema.specs.Grammar.{ColumnOf, ColumnsOf, TableOf, TablesOf}
-use Rattle.schema_print.specs.Printed.{is_serial, comma, IsColumnText, AreColumnsText, IsTableText, IsSchemaText}
-use Rattle.schema_print.specs.Allowed.{IsColumn, is_at, AreColumns, IsBelow, IsTable, AreTables}
+use Rattle.schema_print.specs.Printed.{comma, IsColumnText, AreColumnsText, IsTableText, IsSchemaText}
+use Rattle.schema.specs.Allowed.{is_serial}
+use Rattle.schema.specs.Allowed.{IsColumn, is_at, AreColumns, IsBelow, IsTable, AreTables}
 use Rattle.schema_print.proofs.Runs.{IsCalm}
 use Rattle.schema_print.proofs.Tokens.{AreRead, space_read, line_read, none_read}
 use Rattle.schema_print.proofs.Lexed.{word_read, name_of, name_read, open_read, close_read, comma_read, semicolon_read}

@@ -30,7 +30,7 @@ use Rattle.schema.specs.declared.catalogue.Fill.TheVariants as fill
 use Rattle.schema.specs.Values.{is_within, number_value}
 use Rattle.schema.specs.Grammar.{FillOf, number, negative, least, string as string_fill, truth, falsehood, null, now}
 use Rattle.schema_print.specs.Printed.{IsConstantText, IsFillText, truth_text}
-use Rattle.schema_print.specs.Allowed.{HasNoZero, IsConstantOf}
+use Rattle.schema.specs.Allowed.{HasNoZero, IsConstantOf}
 use Rattle.schema_print.proofs.Runs.{IsCalm, calm_name, whole_piece, decimal_apart}
 use Rattle.schema_print.proofs.Tokens.{AreRead, token_read}
 use Rattle.schema_print.proofs.Lexed.{word_read, spaced_word, string_read, minus_read, open_read, close_read, bare_name, bare_read}

@@ -1,23 +1,17 @@
 -- The one text of a schema: a CREATE TABLE with a line of its own for each table.
 use Rattle.std.specs.Prelude.{◌≡◌, ◌==◌, ◌+◌, ◌&&◌, ℕ, Bool as Truth, true, false, not, List, [], ◌∷◌, ◌++◌, codes, if◌then◌else◌}
-use Rattle.std.specs.List.{AllByRecursion}
 use Rattle.std.specs.Fmt.{signed_decimal}
 use Rattle.pg_values.specs.declared.col_type.ColType.{ColType}
 use Rattle.pg_values.specs.declared.col_type.ColType.TheVariants as kind
 use Rattle.pg_values.specs.declared.value.Value.{Value}
 use Rattle.pg_values.specs.declared.value.Value.TheVariants.{Null, Bool, Int4, Int8, Text, Moment}
-use Rattle.pg_values.specs.Range.{IsMoment}
 use Rattle.pg_values.specs.Moments.{IsPrintedMoment}
 use Rattle.schema.specs.declared.catalogue.ColumnDef.{ColumnDef}
 use Rattle.schema.specs.declared.catalogue.Fill.{Fill}
 use Rattle.schema.specs.declared.catalogue.Fill.TheVariants as fill
 use Rattle.schema.specs.declared.catalogue.TableDef.{TableDef}
 use Rattle.sql_print.specs.Spelling.{spelled, name, string}
-
--- the column has numbers of its own
-abbrev pub is_serial : Fill → Truth
-is_serial fill.Serial = true
-is_serial _ = false
+use Rattle.schema.specs.Allowed.{is_serial}
 
 abbrev pub serial_text : ColType → List ℕ
 serial_text kind.Int8 = codes "bigserial"
@@ -85,27 +79,6 @@ abbrev pub IsSchemaText : List TableDef → List ℕ → Type 0
 IsSchemaText [] text = text ≡ []
 IsSchemaText (table ∷ tables) text =
     (one others : List ℕ) × IsTableText table one × IsSchemaText tables others × (text ≡ one ++ others)
-
--- ---- what has a text
-
-abbrev pub IsMomentInRange : Value → Type 0
-IsMomentInRange (Moment micros) = IsMoment micros
-IsMomentInRange _ = ⊥
-
-abbrev pub IsConstantInRange : Value → Type 0
-IsConstantInRange (Moment micros) = IsMoment micros
-IsConstantInRange _ = Unit {0}
-
-abbrev pub IsFillInRange : Fill → Type 0
-IsFillInRange (fill.Constant value) = IsConstantInRange value
-IsFillInRange _ = Unit {0}
-
-abbrev pub AreColumnsInRange : List ColumnDef → Type 0
-AreColumnsInRange columns = AllByRecursion (λ c. IsFillInRange c.fill) columns
-
--- each moment is in its range
-abbrev pub AreInRange : List TableDef → Type 0
-AreInRange tables = AllByRecursion (λ t. AreColumnsInRange t.columns) tables
 
 -- ---- what calls inside the crate add to a text
 

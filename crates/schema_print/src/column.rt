@@ -1,7 +1,9 @@
 //! The text of a column.
 ghost use Rattle.std.specs.Prelude.{◌≡◌, ◌++◌, OnOk, IfOk, Some, string_bytes};
 ghost use Rattle.pg_values.specs.Text.{IsTextOf};
-ghost use Rattle.schema_print.specs.Printed.{Adds, IsColumnText, IsConstantInRange, IsConstantText, IsFillInRange, IsFillText, IsMomentInRange, comma, is_serial, kind_text, rule_text, serial_text, truth_text, type_text};
+ghost use Rattle.schema_print.specs.Printed.{Adds, IsColumnText, IsConstantText, IsFillText, comma, kind_text, rule_text, serial_text, truth_text, type_text};
+ghost use Rattle.schema.specs.Ranges.{IsConstantInRange, IsFillInRange, IsMomentInRange};
+ghost use Rattle.schema.specs.Allowed.{is_serial};
 
 use pg_values::{ColType, Value, text_of};
 use pool_base::{NoMemory, Text};

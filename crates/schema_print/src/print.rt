@@ -1,8 +1,9 @@
 //! The text of a schema, table by table.
 ghost use Rattle.std.specs.Prelude.{◌≡◌, IfOk, OnOk, string_bytes};
 ghost use Rattle.schema.specs.Reading.{Says};
-ghost use Rattle.schema_print.specs.Allowed.{AreAllowed};
-ghost use Rattle.schema_print.specs.Printed.{Adds, AreColumnsInRange, AreColumnsText, AreInRange, IsSchemaText, IsTableText};
+ghost use Rattle.schema.specs.Allowed.{AreAllowed};
+ghost use Rattle.schema_print.specs.Printed.{Adds, AreColumnsText, IsSchemaText, IsTableText};
+ghost use Rattle.schema.specs.Ranges.{AreColumnsInRange, AreInRange};
 
 use crate::column::{push_column, push_comma};
 use pool_base::{NoMemory, Text};

@@ -17,7 +17,7 @@ use Rattle.schema.specs.Open.{has_column, bare_column, may_take_type, with_colum
 use Rattle.schema.specs.Grammar.{PartOf, not_null, key, filled, PartsOf, TypeOf, ColumnOf, ColumnsOf}
 use Rattle.schema.proofs.Completing.{both_of}
 use Rattle.schema_print.specs.Printed as printed
-use Rattle.schema_print.specs.Allowed.{IsName, IsColumn, IsFillOf, IsKeyIf, is_key_kind, is_at, IsBelow}
+use Rattle.schema.specs.Allowed.{IsName, IsColumn, IsFillOf, IsKeyIf, is_key_kind, is_at, IsBelow}
 use Rattle.schema_round.proofs.Names.{AreClean}
 use Rattle.schema_round.proofs.Constants.{IsFillOfKind, fill_given}
 use Rattle.schema_round.proofs.Lists.{IsNext, AreNext, same_columns, one_more, stays, is_new, below_next}

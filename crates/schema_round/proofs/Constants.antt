@@ -16,7 +16,7 @@ use Rattle.schema.specs.declared.catalogue.Fill.TheVariants as fill
 use Rattle.schema.specs.Values.{is_within, number_value, truth_value, StringValue}
 use Rattle.schema.specs.Grammar.{FillOf, number, negative, least, string, truth, falsehood, null, now, current}
 use Rattle.schema.proofs.Completing.{nothing, same, both_of}
-use Rattle.schema_print.specs.Allowed.{HasNoZero, IsConstantOf}
+use Rattle.schema.specs.Allowed.{HasNoZero, IsConstantOf}
 use Rattle.schema_round.proofs.Names.{AreClean}
 
 -- what a DEFAULT of this type can be

@@ -5,7 +5,7 @@ use Rattle.std.proofs.lemmas.Bool.{ne_eqb, eq-eqb, true≢false}
 use Rattle.std.proofs.lemmas.List.{append-nil}
 use Rattle.schema.specs.declared.catalogue.ColumnDef.{ColumnDef}
 use Rattle.schema.specs.Open.{has_column, number_or}
-use Rattle.schema_print.specs.Allowed.{IsColumn, is_at, AreColumns, IsBelow}
+use Rattle.schema.specs.Allowed.{IsColumn, is_at, AreColumns, IsBelow}
 
 -- behind these columns one may stand, of a table with this key and this serial column, if it has them yet
 abbrev pub IsNext : Option ℕ → Option ℕ → List ColumnDef → ColumnDef → Type 0

@@ -13,7 +13,7 @@ use Rattle.sql_tokens.specs.declared.token.Token.{Token as AnyToken}
 use Rattle.sql_tokens.specs.declared.token.Token.TheVariants as token
 use Rattle.sql_tokens.specs.Bytes.{front, behind, begins_name, is_space, is_strange, kind_of_sign, kind_of_mark, begins_with, begins_digit}
 use Rattle.sql_tokens.specs.Pieces.{Reads, Skips, IsCalled, name_token, quoted_name, whole_token, param_token, QuotedOf, BlockOf, after_end, next, PieceBy, PieceOf, value_of, has_fraction}
-use Rattle.schema_print.specs.Allowed.{HasNoZero, IsName}
+use Rattle.schema.specs.Allowed.{HasNoZero, IsName}
 use Rattle.schema_round.proofs.Zeros.{BeginsZero, zero_next, no_zero_name}
 
 -- a token's name is the name of a table or a column, and its string has no zero byte

@@ -11,7 +11,7 @@ use Rattle.schema.specs.Grammar.{TableOf, TablesOf}
 use Rattle.schema.specs.Reading.{Says, as_text, start, tokens_of}
 use Rattle.schema.proofs.Completing.{nothing, same}
 use Rattle.schema.proofs.Whole.{is_read}
-use Rattle.schema_print.specs.Allowed.{IsName, IsBelow, IsTable, AreTables, AreAllowed}
+use Rattle.schema.specs.Allowed.{IsName, IsBelow, IsTable, AreTables, AreAllowed}
 use Rattle.schema_round.proofs.Faults.{all_sound}
 use Rattle.schema_round.proofs.Names.{AreClean, all_clean}
 use Rattle.schema_round.proofs.Lists.{AreNext, all_columns}

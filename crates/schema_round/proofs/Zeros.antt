@@ -7,7 +7,7 @@ use Rattle.sql_tokens.specs.declared.bytes.Class.TheVariants.{Name, But}
 use Rattle.sql_tokens.specs.Bytes.{has, front, behind}
 use Rattle.sql_tokens.specs.Pieces.{doubled, Closes, next}
 use Rattle.sql_tokens.proofs.Runs.{before_last}
-use Rattle.schema_print.specs.Allowed.{HasNoZero}
+use Rattle.schema.specs.Allowed.{HasNoZero}
 
 -- the bytes begin with a zero byte
 abbrev pub BeginsZero : List ℕ → Type 0

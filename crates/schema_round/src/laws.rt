@@ -2,7 +2,7 @@
 ghost use Rattle.std.specs.Prelude.{ℕ, List};
 ghost use Rattle.schema.specs.declared.catalogue.TableDef.{TableDef};
 ghost use Rattle.schema.specs.Reading.{Says};
-ghost use Rattle.schema_print.specs.Allowed.{AreAllowed};
+ghost use Rattle.schema.specs.Allowed.{AreAllowed};
 
 /// The tables that a text says are tables that a schema can have.
 pub fn schemas_are_allowed()

@@ -25,7 +25,7 @@ use Rattle.session_core.specs.Standing.{IsAlone, Stands, IsAsked}
 use Rattle.session_core.specs.Statements.{IsReady}
 use Rattle.session_core.proofs.Asking.{with_at-same, with_at-other, not_crossed}
 use Rattle.session_core.proofs.Going.{same_or_other}
-use Rattle.session_core.proofs.Numbers.{numbers_apart}
+use Rattle.backend_trait.proofs.Undrawn.{numbers_apart}
 
 idle_after : (s : ℕ) (st : Store) (request : Request) → IsAlone s st → (o : ℕ) → with_at (posted st s request).pending s None o ≡ None
 idle_after s st request alone o = elim (same_or_other o s) [

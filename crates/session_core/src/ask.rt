@@ -8,8 +8,8 @@ ghost use Rattle.session_core.specs.Chains.{AreThere, MayAllPost, WereAsked, Ask
 ghost use Rattle.session_core.specs.Steps.{request_of};
 
 use backend_trait::{Answer, Backend, Checked, Polled, Posted, Request};
+use checked_sql::checked_copied;
 use pool_base::{BackendId, BackendSet, NoMemory, SessionId};
-use sql_copies::checked_copied;
 use write_path::{Chain, ChainKind};
 
 /// A step of a statement, the same at each backend.

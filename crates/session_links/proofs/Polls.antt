@@ -3,7 +3,7 @@ use Rattle.std.proofs.Common.{◌≡◌, ℕ, Option, Some, None}
 use Rattle.backend_trait.specs.declared.request.Request.{Request}
 use Rattle.backend_trait.specs.declared.answer.Answer.{Answer}
 use Rattle.backend_trait.specs.declared.answer.Polled.TheVariants as polls
-use Rattle.link_words.specs.Forms.{IsPolled}
+use Rattle.backend_trait.specs.LinkForms.{IsPolled}
 use Rattle.session_links.specs.Slots.{AnswersTo}
 
 pub answered : (old new : Option Request) (answer : Answer) (before after : ℕ) → IsPolled (polls.Answered answer) old new before after → (new ≡ None) × AnswersTo old answer

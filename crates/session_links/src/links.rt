@@ -5,8 +5,7 @@ ghost use Rattle.session_links.specs.Slots.{IsFound, IsSent, are_sound, is_await
 
 use crate::maker::LinkMaker;
 use crate::slot::{Found, Sent, Slot, given_up, look, put, settled};
-use backend_trait::Request;
-use link_words::Link;
+use backend_trait::{Link, Request};
 use pg_messages::Pair;
 use pool_base::{BackendId, BackendSet, NoMemory};
 use std::alloc::Global;

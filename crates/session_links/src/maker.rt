@@ -2,7 +2,7 @@
 ghost use Rattle.std.specs.Prelude.{◌≡◌, ◌≤◌, ℕ, None};
 ghost use Rattle.pool_base.specs.Outside.{Rose};
 
-use link_words::Link;
+use backend_trait::Link;
 use pg_messages::Pair;
 use pool_base::BackendId;
 

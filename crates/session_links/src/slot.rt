@@ -11,8 +11,7 @@ ghost use Rattle.session_links.specs.Slots.{IsFound, IsSent, is_awaited, is_soun
 
 use crate::loss::Loss;
 use crate::maker::{Connected, LinkMaker};
-use backend_trait::{Answer, Polled, Posted, Request};
-use link_words::Link;
+use backend_trait::{Answer, Link, Polled, Posted, Request};
 use pg_messages::Pair;
 use pool_base::BackendId;
 

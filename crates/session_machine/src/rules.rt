@@ -7,9 +7,9 @@ use crate::machine::{GatePhase, Stage};
 use crate::status::Status;
 use crate::work::{Class, Verb, Work};
 use backend_trait::{Answer, Request};
+use checked_sql::checked_copied;
 use pool_base::{Boxed, Code, NoMemory};
 use session_orders::{Outcome, Tag};
-use sql_copies::checked_copied;
 use time_rewrite::{RewriteFault, rewrite};
 
 /// What a stage asks of a backend. The copy of a statement wants memory.

@@ -10,8 +10,8 @@
 //! fewer than 2^64 events, so turns and rounds end.
 ghost use Rattle.std.specs.Prelude.{◌≡◌, ◌↔◌, ◌<◌, ◌≤◌, ℕ, suc, length, Some, IsTrue, IfOk, OnOk, false, slice_index_or};
 ghost use Rattle.pool_base.specs.declared.session_id.SessionId.{SessionId};
-ghost use Rattle.schema_print.specs.Allowed.{AreAllowed};
-ghost use Rattle.schema_print.specs.Printed.{AreInRange};
+ghost use Rattle.schema.specs.Allowed.{AreAllowed};
+ghost use Rattle.schema.specs.Ranges.{AreInRange};
 ghost use Rattle.session_machine.specs.Rules.{new_machine};
 ghost use Rattle.session_engine.specs.Cores.{machine_in};
 ghost use Rattle.session_seat.specs.declared.seat.Turn.TheVariants.{Held};

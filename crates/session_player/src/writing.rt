@@ -4,7 +4,7 @@ ghost use Rattle.pgproto.specs.Line.{line_of};
 ghost use Rattle.pgproto.specs.Spelling.{IsOfGrammar};
 ghost use Rattle.pool_base.specs.Outside.{Appends, Rose};
 ghost use Rattle.pool_config.specs.Configuration.{IsAllowed};
-ghost use Rattle.schema_print.specs.Printed.{AreInRange};
+ghost use Rattle.schema.specs.Ranges.{AreInRange};
 ghost use Rattle.session_player.specs.declared.fault.PlayFault.TheVariants as faults;
 ghost use Rattle.session_player.specs.Journals.{IsPut};
 ghost use Rattle.session_player.specs.Written.{Grew, echo_of};

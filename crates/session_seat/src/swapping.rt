@@ -1,8 +1,8 @@
 //! A spare comes in the place of a backend that is not attached.
 ghost use Rattle.std.specs.Prelude.{◌≡◌, ◌↔◌, ◌<◌, true, false, length, IfErr, IfSome, OnErr, OnOk, None};
 ghost use Rattle.pool_base.specs.Sets.{has};
-ghost use Rattle.schema_print.specs.Allowed.{AreAllowed};
-ghost use Rattle.schema_print.specs.Printed.{AreInRange};
+ghost use Rattle.schema.specs.Allowed.{AreAllowed};
+ghost use Rattle.schema.specs.Ranges.{AreInRange};
 ghost use Rattle.backend_trait.specs.Rows.{with_at};
 ghost use Rattle.backend_trait.specs.Store.{prepared};
 ghost use Rattle.backend_rolls.specs.Spares.{IsFirstFree, IsNoneFree, spare_at};

@@ -37,7 +37,7 @@ use Rattle.sound_check.proofs.Nodes.{Sound, Stood, all_true, column_sound, good,
 use Rattle.sound_check.proofs.Tables.{Filled, Whole, table_there}
 use Rattle.sound_check.proofs.Trees.{tree_layer}
 use Rattle.sound_check.proofs.Writes.{BodyIs, FilterIs, filter_keeps, some_item}
-use Rattle.schema_print.specs.Allowed.{AreAllowed}
+use Rattle.schema.specs.Allowed.{AreAllowed}
 
 -- ---- names of columns
 

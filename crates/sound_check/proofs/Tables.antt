@@ -12,7 +12,7 @@ use Rattle.schema.specs.declared.catalogue.ColumnDef.{ColumnDef}
 use Rattle.schema.specs.declared.catalogue.TableDef.{TableDef}
 use Rattle.schema.specs.declared.catalogue.Fill.{Fill}
 use Rattle.schema.specs.declared.catalogue.Fill.TheVariants as fill
-use Rattle.schema_print.specs.Allowed.{AreAllowed, AreColumns, AreTables, HasNoZero, IsConstantOf, IsFillOf, IsName, IsTable}
+use Rattle.schema.specs.Allowed.{AreAllowed, AreColumns, AreTables, HasNoZero, IsConstantOf, IsFillOf, IsName, IsTable}
 use Rattle.typed_sql.specs.Places.{are_alike}
 use Rattle.typed_sql.specs.Steps.{Fault}
 use Rattle.typed_sql.specs.Typing.{literal}

@@ -1,6 +1,6 @@
 -- What is read behind a token that begins a nesting.
 use Rattle.std.proofs.Common.{◌≡◌, ◌≢◌, ℕ, zero, suc, ◌+◌, ◌-◌, List, length, Err, refl, ap, arith}
-use Rattle.sql_grammar.specs.declared.fault.Fault.TheVariants.{TooDeep}
+use Rattle.sql_tokens.specs.declared.fault.Fault.TheVariants.{TooDeep}
 use Rattle.sql_tokens.specs.declared.token.Token.{Token}
 use Rattle.sql_expr.specs.declared.opening.Function.{Function}
 use Rattle.sql_expr.specs.declared.opening.Opening.{Opening}

@@ -1,8 +1,8 @@
 -- What may follow each level of the grammar, and the marks of its chains.
 use Rattle.std.proofs.Common.{◌≡◌, Bool as Boolean, true, false, List, [], ◌∷◌, Some, None, refl}
-use Rattle.sql_grammar.specs.Reading.{Marks}
-use Rattle.sql_grammar.proofs.Good.{Any, Stops, HasMark, AreMarks}
-use Rattle.sql_grammar.proofs.Told.{head, by_none, by_head}
+use Rattle.sql_tokens.specs.Reading.{Marks}
+use Rattle.sql_tokens.proofs.Good.{Any, Stops, HasMark, AreMarks}
+use Rattle.sql_tokens.proofs.Told.{head, by_none, by_head}
 use Rattle.sql_tokens.specs.declared.mark.Mark.TheVariants as mark
 use Rattle.sql_tokens.specs.declared.token.Token.{Token}
 use Rattle.sql_tokens.specs.declared.token.Token.TheVariants as token

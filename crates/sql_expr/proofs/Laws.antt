@@ -1,8 +1,8 @@
 -- What is read is of the grammar, and what is of the grammar is read, level by level.
 use Rattle.std.proofs.Common.{◌≡◌, ℕ, zero, suc, ◌<◌, List, ◌∷◌, length, Option, Some, None, Ok, refl, ap, subst, ◌∙◌, arith, inl, inr}
-use Rattle.sql_grammar.specs.Grammar.{Form, ChainedOf, part}
-use Rattle.sql_grammar.specs.Reading.{◌>>=◌, Parse}
-use Rattle.sql_grammar.proofs.Good.{Has, Any, Good, then_has, has_map, good_chained}
+use Rattle.sql_tokens.specs.Grammar.{Form, ChainedOf, part}
+use Rattle.sql_tokens.specs.Reading.{◌>>=◌, Parse}
+use Rattle.sql_tokens.proofs.Good.{Has, Any, Good, then_has, has_map, good_chained}
 use Rattle.sql_tokens.specs.declared.mark.Mark.TheVariants as mark
 use Rattle.sql_tokens.specs.declared.token.Name.{Name}
 use Rattle.sql_tokens.specs.declared.token.Token.{Token}

@@ -3,8 +3,8 @@ use Rattle.std.proofs.Common.{◌≡◌, ℕ, ◌<◌, Bool as Boolean, true, fa
 use Rattle.std.specs.Prelude.{codes}
 use Rattle.std.specs.Str.{bytes_eq}
 use Rattle.std.proofs.lemmas.Slice.Eq.{bytes_eq-Decides}
-use Rattle.sql_grammar.specs.Grammar.{Form}
-use Rattle.sql_grammar.proofs.Good.{Has, Any, Good, then_has}
+use Rattle.sql_tokens.specs.Grammar.{Form}
+use Rattle.sql_tokens.proofs.Good.{Has, Any, Good, then_has}
 use Rattle.sql_tokens.specs.declared.mark.Mark.TheVariants as mark
 use Rattle.sql_tokens.specs.declared.token.Name.{Name}
 use Rattle.sql_tokens.specs.declared.token.Token.{Token}

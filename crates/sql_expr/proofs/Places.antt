@@ -1,12 +1,12 @@
 -- Each level fails at the first token at which no text of it can go on, or that passes the limit.
 use Rattle.std.proofs.Common.{◌≡◌, ℕ, zero, suc, Bool as Boolean, true, false, List, [], ◌∷◌, length, Option, Some, None, Ok, Err, refl, ap, subst, ◌∙◌, inl, inr, ◌⊎◌}
-use Rattle.sql_grammar.specs.declared.fault.Awaited.TheVariants.{Operand, Word}
-use Rattle.sql_grammar.specs.declared.fault.Fault.TheVariants.{Syntax}
-use Rattle.sql_grammar.specs.Grammar.{Form, ChainedOf, part}
-use Rattle.sql_grammar.specs.Reading.{◌>>=◌, Parse}
-use Rattle.sql_grammar.proofs.Good.{Any}
-use Rattle.sql_grammar.proofs.Told.{Told, told_then, told_map, takes, refuses, stops, behind as taking, otherwise, narrowed, loosened, by_none, by_head}
-use Rattle.sql_grammar.proofs.Chains.{chained_told}
+use Rattle.sql_tokens.specs.declared.fault.Awaited.TheVariants.{Operand, Word}
+use Rattle.sql_tokens.specs.declared.fault.Fault.TheVariants.{Syntax}
+use Rattle.sql_tokens.specs.Grammar.{Form, ChainedOf, part}
+use Rattle.sql_tokens.specs.Reading.{◌>>=◌, Parse}
+use Rattle.sql_tokens.proofs.Good.{Any}
+use Rattle.sql_tokens.proofs.Told.{Told, told_then, told_map, takes, refuses, stops, behind as taking, otherwise, narrowed, loosened, by_none, by_head}
+use Rattle.sql_tokens.proofs.Chains.{chained_told}
 use Rattle.sql_tokens.specs.declared.mark.Mark.TheVariants as mark
 use Rattle.sql_tokens.specs.declared.token.Name.{Name}
 use Rattle.sql_tokens.specs.declared.token.Token.{Token}

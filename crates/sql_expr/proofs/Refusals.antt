@@ -1,10 +1,10 @@
 -- What stands for one or two tokens is refused at the first that does not fit.
 use Rattle.std.proofs.Common.{◌≡◌, true, false, List, [], ◌∷◌, length, Ok, Err, refl, ap, inl, inr}
-use Rattle.sql_grammar.specs.declared.fault.Awaited.TheVariants.{Word, Arguments, Close}
-use Rattle.sql_grammar.specs.declared.fault.Fault.TheVariants.{Syntax}
-use Rattle.sql_grammar.specs.Reading.{◌>>=◌}
-use Rattle.sql_grammar.proofs.Good.{Any}
-use Rattle.sql_grammar.proofs.Told.{Told, told_map, takes, refuses, behind, by_none, by_head}
+use Rattle.sql_tokens.specs.declared.fault.Awaited.TheVariants.{Word, Arguments, Close}
+use Rattle.sql_tokens.specs.declared.fault.Fault.TheVariants.{Syntax}
+use Rattle.sql_tokens.specs.Reading.{◌>>=◌}
+use Rattle.sql_tokens.proofs.Good.{Any}
+use Rattle.sql_tokens.proofs.Told.{Told, told_map, takes, refuses, behind, by_none, by_head}
 use Rattle.sql_tokens.specs.declared.mark.Mark.TheVariants as mark
 use Rattle.sql_tokens.specs.declared.token.Name.{Name}
 use Rattle.sql_tokens.specs.declared.token.Token.{Token}

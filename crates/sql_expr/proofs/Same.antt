@@ -1,8 +1,8 @@
 -- A reader of expressions that may nest deeper gives the same, but for TooDeep.
 use Rattle.std.proofs.Common.{ℕ, zero, suc, List, ◌∷◌, Option, Some, None, refl, inl, inr}
-use Rattle.sql_grammar.specs.Grammar.{part}
-use Rattle.sql_grammar.specs.Reading.{Parse}
-use Rattle.sql_grammar.proofs.Depth.{Same, after_same, same_then, same_last, same_chained}
+use Rattle.sql_tokens.specs.Grammar.{part}
+use Rattle.sql_tokens.specs.Reading.{Parse}
+use Rattle.sql_tokens.proofs.Depth.{Same, after_same, same_then, same_last, same_chained}
 use Rattle.sql_tokens.specs.declared.mark.Mark.TheVariants as mark
 use Rattle.sql_tokens.specs.declared.token.Name.{Name}
 use Rattle.sql_tokens.specs.declared.token.Token.{Token}

@@ -1,14 +1,14 @@
 -- The laws of a whole text.
 use Rattle.std.proofs.Common.{◌≡◌, ℕ, List, Result, Ok, Err}
 use Rattle.std.specs.Prelude.{IfOk}
-use Rattle.sql_grammar.specs.declared.fault.Awaited.{Awaited}
-use Rattle.sql_grammar.specs.declared.fault.Awaited.TheVariants.{End}
-use Rattle.sql_grammar.specs.declared.fault.Fault.TheVariants.{Syntax, TooDeep}
-use Rattle.sql_grammar.specs.declared.fault.ReadError.{ReadError}
-use Rattle.sql_grammar.specs.declared.fault.ReadError.TheVariants as errors
-use Rattle.sql_grammar.specs.Grammar.{IsPlace, IsTooDeep}
-use Rattle.sql_grammar.specs.Reading.{Gives}
-use Rattle.sql_grammar.proofs.Whole as whole
+use Rattle.sql_tokens.specs.declared.fault.Awaited.{Awaited}
+use Rattle.sql_tokens.specs.declared.fault.Awaited.TheVariants.{End}
+use Rattle.sql_tokens.specs.declared.fault.Fault.TheVariants.{Syntax, TooDeep}
+use Rattle.sql_tokens.specs.declared.fault.ReadError.{ReadError}
+use Rattle.sql_tokens.specs.declared.fault.ReadError.TheVariants as errors
+use Rattle.sql_tokens.specs.Grammar.{IsPlace, IsTooDeep}
+use Rattle.sql_tokens.specs.Reading.{Gives}
+use Rattle.sql_tokens.proofs.Whole as whole
 use Rattle.sql_tokens.specs.declared.token.Token.{Token}
 use Rattle.sql_tree.specs.declared.expr.Expr.{Expr}
 use Rattle.sql_expr.specs.Grammar.{OrOf, Behind, IsText, IsTextWithin}

@@ -1,6 +1,6 @@
 -- The grammar of expressions, by productions. R ts e rest says: ts is a text of e, and then rest.
 use Rattle.std.specs.Prelude.{◌≡◌, ℕ, zero, suc, ℤ, pos, neg_ℤ, Bool as Boolean, true, false, List, [], ◌∷◌, Some, None, codes, ◌⊎◌}
-use Rattle.sql_grammar.specs.Grammar.{Form, ChainedOf, part}
+use Rattle.sql_tokens.specs.Grammar.{Form, ChainedOf, part}
 use Rattle.sql_tokens.specs.declared.mark.Mark.TheVariants as mark
 use Rattle.sql_tokens.specs.declared.token.Name.{Name}
 use Rattle.sql_tokens.specs.declared.token.Token.{Token}

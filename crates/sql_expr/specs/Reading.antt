@@ -1,11 +1,11 @@
 -- Reading expressions from left to right, with the first fault that is met.
 use Rattle.std.specs.Prelude.{ℕ, zero, suc, Bool as Boolean, true, false, cond, List, ◌∷◌, length, Option, Some, None, Result, Ok, Err, codes}
 use Rattle.std.specs.Str.{bytes_eq}
-use Rattle.sql_grammar.specs.declared.fault.Awaited.TheVariants.{Operand, Word, Arguments, Close, End}
-use Rattle.sql_grammar.specs.declared.fault.Fault.{Fault}
-use Rattle.sql_grammar.specs.declared.fault.Fault.TheVariants.{Syntax, TooDeep}
-use Rattle.sql_grammar.specs.Grammar.{part}
-use Rattle.sql_grammar.specs.Reading.{◌>>=◌, Parse, Marks, chained, whole_of}
+use Rattle.sql_tokens.specs.declared.fault.Awaited.TheVariants.{Operand, Word, Arguments, Close, End}
+use Rattle.sql_tokens.specs.declared.fault.Fault.{Fault}
+use Rattle.sql_tokens.specs.declared.fault.Fault.TheVariants.{Syntax, TooDeep}
+use Rattle.sql_tokens.specs.Grammar.{part}
+use Rattle.sql_tokens.specs.Reading.{◌>>=◌, Parse, Marks, chained, whole_of}
 use Rattle.sql_tokens.specs.declared.mark.Mark.TheVariants as mark
 use Rattle.sql_tokens.specs.declared.token.Name.{Name}
 use Rattle.sql_tokens.specs.declared.token.Token.{Token}

@@ -1,15 +1,14 @@
 //! Reads a whole expression, or the one at the front.
 ghost use Rattle.std.specs.Prelude.{◌≡◌, ◌<◌, length, IfOk, Ok, Err};
-ghost use Rattle.sql_grammar.specs.declared.fault.Fault.TheVariants.{Syntax, TooDeep};
-ghost use Rattle.sql_grammar.specs.declared.fault.ReadError.TheVariants.{Fault as ReadFault};
-ghost use Rattle.sql_grammar.specs.Grammar.{IsPlace, IsTooDeep};
-ghost use Rattle.sql_grammar.specs.Reading.{Gives};
+ghost use Rattle.sql_tokens.specs.declared.fault.Fault.TheVariants.{Syntax, TooDeep};
+ghost use Rattle.sql_tokens.specs.declared.fault.ReadError.TheVariants.{Fault as ReadFault};
+ghost use Rattle.sql_tokens.specs.Grammar.{IsPlace, IsTooDeep};
+ghost use Rattle.sql_tokens.specs.Reading.{Gives};
 ghost use Rattle.sql_expr.specs.Grammar.{IsText, IsTextWithin};
 ghost use Rattle.sql_expr.specs.Reading.{expr_at, whole_at};
 
 use crate::reading::disjunction;
-use sql_grammar::{Awaited, ReadError, unexpected};
-use sql_tokens::Token;
+use sql_tokens::{Awaited, ReadError, Token, unexpected};
 use sql_tree::Expr;
 use std::alloc::Global;
 

@@ -1,7 +1,7 @@
 //! Reads expressions from left to right, a function for each level of the grammar.
 ghost use Rattle.std.specs.Prelude.{◌≡◌, ◌<◌, ◌≤◌, length, IfOk};
-ghost use Rattle.sql_grammar.specs.Grammar.{part};
-ghost use Rattle.sql_grammar.specs.Reading.{Gives, tails};
+ghost use Rattle.sql_tokens.specs.Grammar.{part};
+ghost use Rattle.sql_tokens.specs.Reading.{Gives, tails};
 ghost use Rattle.sql_expr.specs.declared.opening.Opening.TheVariants.{Parenthesis};
 ghost use Rattle.sql_expr.specs.Grammar.{sum_part, product_part};
 ghost use Rattle.sql_expr.specs.Reading.{after_or, after_and, after_is, after_comma, after_bars, after_sign, after_factor_sign, nullity_at, named_with, prim_with, un_with, product_with, sum_with, cat_with, items_with, list_with, member_with, mem_rest, mem_with, compared_with, cmp_rest, cmp_with, test_with, not_with, and_with, or_with, minus_with, negated_with, behind};
@@ -13,8 +13,7 @@ use crate::marks::{
 use crate::opening::Opening;
 use crate::words::{called, close, function_of, name, nullity, string, word_in};
 use pool_base::{Boxed, List};
-use sql_grammar::{Awaited, Fault, ReadError, unexpected};
-use sql_tokens::{Mark, Name, Token, Word};
+use sql_tokens::{Awaited, Fault, Mark, Name, ReadError, Token, Word, unexpected};
 use sql_tree::{Comparison, Expr, ProductPart, SumPart};
 use std::alloc::Global;
 

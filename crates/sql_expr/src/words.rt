@@ -1,12 +1,11 @@
 //! One or two tokens that must stand at the front.
 ghost use Rattle.std.specs.Prelude.{◌≡◌, ◌<◌, length, IfOk};
-ghost use Rattle.sql_grammar.specs.Reading.{Gives};
+ghost use Rattle.sql_tokens.specs.Reading.{Gives};
 ghost use Rattle.sql_expr.specs.Reading.{close_at, in_at, null_at, name_at, string_at, nullity_at, called_at, function_of};
 
 use crate::opening::Function;
 use pool_base::Text;
-use sql_grammar::{Awaited, ReadError, unexpected};
-use sql_tokens::{Mark, Name, Token, Word};
+use sql_tokens::{Awaited, Mark, Name, ReadError, Token, Word, unexpected};
 use sql_tree::Expr;
 
 /// What follows the `)` of an expression.

@@ -1,7 +1,7 @@
 -- What holds of a text of statements that holds of what follows it: no token is a fault.
 use Rattle.std.proofs.Common.{◌≡◌, ℕ, zero, suc, List, [], ◌∷◌, ◌++◌, Option, Some, None, refl, sym, subst, inl, inr, ◌⊎◌}
 use Rattle.std.specs.Prelude.{Bool as Truth, true, false, codes}
-use Rattle.sql_grammar.specs.Grammar.{Form, TailOf, ChainedOf, part}
+use Rattle.sql_tokens.specs.Grammar.{Form, TailOf, ChainedOf, part}
 use Rattle.sql_tokens.specs.declared.mark.Mark.TheVariants as mark
 use Rattle.sql_tokens.specs.declared.token.Token.{Token}
 use Rattle.sql_tokens.specs.declared.token.Token.TheVariants as token
@@ -19,14 +19,14 @@ use Rattle.sql_tree.specs.declared.statement.Statement.TheVariants as statement
 use Rattle.sql_expr.specs.declared.opening.Opening.{Opening}
 use Rattle.sql_expr.specs.declared.opening.Opening.TheVariants as opening
 use Rattle.sql_expr.specs.Grammar.{and_word, bars, comma, is_word, or_word, or_of, and_of, tests_of, concat_of, sum_of, product_of, list_of, sum_part, product_part, sign, factor_sign, comparison_mark, PrimOf, number, string, truth, falsehood, null, parameter, column, qualified, parenthesis, current, call, moment, UnOf, negative, prim, ProductOf, SumOf, CatOf, ListOf, MemOf, cat, within, without, CmpOf, mem, compared, NullityOf, TestOf, NotOf, negated, test, AndOf, OrOf, MinusOf, Behind, ExprOf}
-use Rattle.sql_statement.specs.declared.verb.Verb.{Verb}
-use Rattle.sql_statement.specs.declared.verb.Verb.TheVariants as verb
-use Rattle.sql_statement.specs.Parts.{Done, Then, Made, OneOf, Maybe, Either, Listed, all_of}
-use Rattle.sql_statement.specs.Parts.{Behind as BehindMark}
-use Rattle.sql_statement.specs.Words.{from_word, where_word, into_word, values_word, set_word, by_word, update_word, level_word, repeatable_word, read_word, as_word, limit_word, order_word, for_word, isolation_word, transaction_word, default_word, open_mark, close_mark, equal_mark, dot_mark, work_word, direction_word, name_token, plain_name, semicolon_mark}
-use Rattle.sql_statement.specs.Grammar.{NameOf, kept, Closed, FilterOf, delete_of, DeleteOf, set_item, SetOf, update_of, UpdateOf, WorkOf, IsolationOf, always, BeginOf, StartOf, EndingOf, ShowOf, BackendOf, recover_of, RecoverOf, given_cell, CellOf, RowOf, ColumnsOf, insert_of, InsertOf, select_item, ItemOf, items_of, order_item, OrderItemOf, OrderOf, LimitOf, SizeOf, LockOf, SourceOf, select_of, SelectOf, verb_token, BehindVerb}
-use Rattle.sql_statement.specs.Grammar as grammar
-use Rattle.sql_text.specs.Grammar.{PartOf, written, TextOf, IsTextWithin}
+use Rattle.sql_reader.specs.declared.verb.Verb.{Verb}
+use Rattle.sql_reader.specs.declared.verb.Verb.TheVariants as verb
+use Rattle.sql_reader.specs.Parts.{Done, Then, Made, OneOf, Maybe, Either, Listed, all_of}
+use Rattle.sql_reader.specs.Parts.{Behind as BehindMark}
+use Rattle.sql_reader.specs.Words.{from_word, where_word, into_word, values_word, set_word, by_word, update_word, level_word, repeatable_word, read_word, as_word, limit_word, order_word, for_word, isolation_word, transaction_word, default_word, open_mark, close_mark, equal_mark, dot_mark, work_word, direction_word, name_token, plain_name, semicolon_mark}
+use Rattle.sql_reader.specs.Grammar.{NameOf, kept, Closed, FilterOf, delete_of, DeleteOf, set_item, SetOf, update_of, UpdateOf, WorkOf, IsolationOf, always, BeginOf, StartOf, EndingOf, ShowOf, BackendOf, recover_of, RecoverOf, given_cell, CellOf, RowOf, ColumnsOf, insert_of, InsertOf, select_item, ItemOf, items_of, order_item, OrderItemOf, OrderOf, LimitOf, SizeOf, LockOf, SourceOf, select_of, SelectOf, verb_token, BehindVerb}
+use Rattle.sql_reader.specs.Grammar as grammar
+use Rattle.sql_reader.specs.TextGrammar.{PartOf, written, TextOf, IsTextWithin}
 
 abbrev pub is_fault : Token → Truth
 is_fault (token.Fault fault) = true

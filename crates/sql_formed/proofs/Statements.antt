@@ -4,7 +4,7 @@ use Rattle.std.specs.Prelude.{Bool as Truth, true, false, codes, get_or}
 use Rattle.std.specs.Prelude.{All as Each_of}
 use Rattle.std.specs.List.{AllByRecursion}
 use Rattle.std.proofs.lemmas.List.Elements.{All-nil, All-cons}
-use Rattle.sql_grammar.specs.Grammar.{Form, TailOf, part}
+use Rattle.sql_tokens.specs.Grammar.{Form, TailOf, part}
 use Rattle.sql_tokens.specs.declared.mark.Mark.TheVariants as mark
 use Rattle.sql_tokens.specs.declared.token.Token.{Token}
 use Rattle.sql_tokens.specs.declared.token.Token.TheVariants as token
@@ -22,14 +22,14 @@ use Rattle.sql_tree.specs.declared.statement.Statement.{Statement}
 use Rattle.sql_tree.specs.declared.statement.Statement.TheVariants as statement
 use Rattle.sql_tree.specs.Trees.{IsAlone, IsCell, IsDelete, IsInsert, IsItem, IsLimit, IsList, IsLiteral, IsName, IsOrder, IsRow, IsSelect, IsSet, IsStatement, IsTree, IsUpdate}
 use Rattle.sql_expr.specs.Grammar.{ExprOf, comma, least}
-use Rattle.sql_statement.specs.declared.verb.Verb.{Verb}
-use Rattle.sql_statement.specs.declared.verb.Verb.TheVariants as verb
-use Rattle.sql_statement.specs.Parts.{Done, Then, Made, OneOf, Maybe, Either, Listed, all_of}
-use Rattle.sql_statement.specs.Parts.{Behind as BehindMark}
-use Rattle.sql_statement.specs.Words.{from_word, where_word, into_word, values_word, set_word, by_word, update_word, level_word, repeatable_word, read_word, as_word, limit_word, order_word, for_word, isolation_word, transaction_word, default_word, open_mark, close_mark, equal_mark, dot_mark, work_word, direction_word, name_token, plain_name, semicolon_mark}
-use Rattle.sql_statement.specs.Grammar.{NameOf, kept, Closed, FilterOf, delete_of, DeleteOf, set_item, SetOf, update_of, UpdateOf, WorkOf, IsolationOf, always, BeginOf, StartOf, EndingOf, ShowOf, BackendOf, recover_of, RecoverOf, given_cell, CellOf, RowOf, ColumnsOf, insert_of, InsertOf, select_item, ItemOf, items_of, order_item, OrderItemOf, OrderOf, LimitOf, SizeOf, LockOf, Source, SourceOf, order_of, is_there, select_of, SelectOf, verb_token, BehindVerb}
-use Rattle.sql_statement.specs.Grammar as grammar
-use Rattle.sql_text.specs.Grammar.{PartOf, written, TextOf, IsTextWithin, is_bare, HaveFrom}
+use Rattle.sql_reader.specs.declared.verb.Verb.{Verb}
+use Rattle.sql_reader.specs.declared.verb.Verb.TheVariants as verb
+use Rattle.sql_reader.specs.Parts.{Done, Then, Made, OneOf, Maybe, Either, Listed, all_of}
+use Rattle.sql_reader.specs.Parts.{Behind as BehindMark}
+use Rattle.sql_reader.specs.Words.{from_word, where_word, into_word, values_word, set_word, by_word, update_word, level_word, repeatable_word, read_word, as_word, limit_word, order_word, for_word, isolation_word, transaction_word, default_word, open_mark, close_mark, equal_mark, dot_mark, work_word, direction_word, name_token, plain_name, semicolon_mark}
+use Rattle.sql_reader.specs.Grammar.{NameOf, kept, Closed, FilterOf, delete_of, DeleteOf, set_item, SetOf, update_of, UpdateOf, WorkOf, IsolationOf, always, BeginOf, StartOf, EndingOf, ShowOf, BackendOf, recover_of, RecoverOf, given_cell, CellOf, RowOf, ColumnsOf, insert_of, InsertOf, select_item, ItemOf, items_of, order_item, OrderItemOf, OrderOf, LimitOf, SizeOf, LockOf, Source, SourceOf, order_of, is_there, select_of, SelectOf, verb_token, BehindVerb}
+use Rattle.sql_reader.specs.Grammar as grammar
+use Rattle.sql_reader.specs.TextGrammar.{PartOf, written, TextOf, IsTextWithin, is_bare, HaveFrom}
 use Rattle.sql_formed.specs.Formed.{IsShortItem, IsShortList, HasShortNames, HasFewRows}
 use Rattle.sql_formed.proofs.Walk.{IsShort, IsGood, Goods, Reads, Some_of, done, then, made, one, maybe, either, tail, listed, behind_1, int_tree, null_tree, expr_read, shift, longer}
 

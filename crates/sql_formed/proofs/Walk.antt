@@ -3,7 +3,7 @@ use Rattle.std.proofs.Common.{◌≡◌, ◌∙◌, ◌≤◌, ◌+◌, ℕ, zer
 use Rattle.std.specs.Prelude.{Bool as Truth, true, false, codes, ◌≤ℤ◌}
 use Rattle.std.specs.Prelude.{All as Each_of}
 use Rattle.std.specs.List.{AllByRecursion}
-use Rattle.sql_grammar.specs.Grammar.{Form, TailOf, ChainedOf, part}
+use Rattle.sql_tokens.specs.Grammar.{Form, TailOf, ChainedOf, part}
 use Rattle.sql_tokens.specs.declared.mark.Mark.TheVariants as mark
 use Rattle.sql_tokens.specs.declared.token.Name.{Name}
 use Rattle.sql_tokens.specs.declared.token.Token.{Token}
@@ -22,7 +22,7 @@ use Rattle.sql_expr.specs.declared.opening.Function.TheVariants as function
 use Rattle.sql_expr.specs.declared.opening.Opening.{Opening}
 use Rattle.sql_expr.specs.declared.opening.Opening.TheVariants as opening
 use Rattle.sql_expr.specs.Grammar.{and_word, bars, comma, is_word, or_word, or_of, and_of, tests_of, concat_of, sum_of, product_of, list_of, sum_part, product_part, sign, factor_sign, comparison_mark, function_tree, least, PrimOf, number, string, truth, falsehood, null, parameter, column, qualified, parenthesis, current, call, moment, UnOf, negative, prim, ProductOf, SumOf, CatOf, ListOf, MemOf, cat, within, without, CmpOf, mem, compared, NullityOf, TestOf, NotOf, negated, test, AndOf, OrOf, MinusOf, Behind, ExprOf}
-use Rattle.sql_statement.specs.Parts.{Done, Then, Made, OneOf, Maybe, Either, Listed, all_of}
+use Rattle.sql_reader.specs.Parts.{Done, Then, Made, OneOf, Maybe, Either, Listed, all_of}
 use Rattle.sql_formed.proofs.Layers.{layer_tree}
 
 -- a name of at most 63 bytes

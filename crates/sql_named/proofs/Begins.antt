@@ -1,14 +1,14 @@
 -- Readers put together from smaller ones. Where one fails, the tokens before begin a text, and what it awaited is due there;
 -- and behind such a beginning it fails so at a token that is strange to it.
 use Rattle.std.proofs.Common.{◌≡◌, ℕ, zero, suc, ◌≤◌, List, [], ◌∷◌, ◌++◌, length, Option, Some, None, Result, Ok, Err, refl, sym, ap, subst, ◌∙◌, arith, append_assoc, length-append, inl, inr}
-use Rattle.sql_grammar.specs.declared.fault.Awaited.{Awaited}
-use Rattle.sql_grammar.specs.declared.fault.Fault.{Fault}
-use Rattle.sql_grammar.specs.declared.fault.Fault.TheVariants.{Syntax, TooDeep}
-use Rattle.sql_grammar.specs.Grammar.{Form, TailOf, ChainedOf, part}
-use Rattle.sql_grammar.specs.Reading.{◌>>=◌, Parse, Marks, tail, tail_step, tails, chained}
-use Rattle.sql_grammar.proofs.Good.{Has, Any, Stops, HasMark, AreMarks, then_has, has_map}
-use Rattle.sql_statement.specs.Parts.{Done, Then, Made, OneOf, Maybe, Behind, Listed, all_of}
-use Rattle.sql_statement.specs.Steps.{done, both, made, needed_step, one_of, maybe_step, maybe, behind, listed}
+use Rattle.sql_tokens.specs.declared.fault.Awaited.{Awaited}
+use Rattle.sql_tokens.specs.declared.fault.Fault.{Fault}
+use Rattle.sql_tokens.specs.declared.fault.Fault.TheVariants.{Syntax, TooDeep}
+use Rattle.sql_tokens.specs.Grammar.{Form, TailOf, ChainedOf, part}
+use Rattle.sql_tokens.specs.Reading.{◌>>=◌, Parse, Marks, tail, tail_step, tails, chained}
+use Rattle.sql_tokens.proofs.Good.{Has, Any, Stops, HasMark, AreMarks, then_has, has_map}
+use Rattle.sql_reader.specs.Parts.{Done, Then, Made, OneOf, Maybe, Behind, Listed, all_of}
+use Rattle.sql_reader.specs.Steps.{done, both, made, needed_step, one_of, maybe_step, maybe, behind, listed}
 use Rattle.sql_named.specs.Beginnings.{Beginning, AtOnce, Nothing, ThenBegun, MarkBegun, OneBegun, BehindBegun, TailBegun, ChainBegun}
 
 -- A text of a form is one whatever follows it.

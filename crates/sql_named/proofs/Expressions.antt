@@ -1,12 +1,12 @@
 -- Where the reader of expressions fails, what it awaits is due; and it fails so behind each beginning of an expression.
 use Rattle.std.proofs.Common.{◌≡◌, ℕ, zero, suc, Bool as Boolean, true, false, List, [], ◌∷◌, ◌++◌, length, Option, Some, None, Result, Ok, Err, refl, sym, ap, subst, ◌∙◌, append_assoc, inl, inr, arith, length-append}
-use Rattle.sql_grammar.specs.declared.fault.Awaited.{Awaited}
-use Rattle.sql_grammar.specs.declared.fault.Awaited.TheVariants.{Operand, Word, Arguments, Close}
-use Rattle.sql_grammar.specs.declared.fault.Fault.{Fault}
-use Rattle.sql_grammar.specs.declared.fault.Fault.TheVariants.{Syntax}
-use Rattle.sql_grammar.specs.Grammar.{Form, part}
-use Rattle.sql_grammar.specs.Reading.{◌>>=◌, Parse}
-use Rattle.sql_grammar.proofs.Good.{Any, Good}
+use Rattle.sql_tokens.specs.declared.fault.Awaited.{Awaited}
+use Rattle.sql_tokens.specs.declared.fault.Awaited.TheVariants.{Operand, Word, Arguments, Close}
+use Rattle.sql_tokens.specs.declared.fault.Fault.{Fault}
+use Rattle.sql_tokens.specs.declared.fault.Fault.TheVariants.{Syntax}
+use Rattle.sql_tokens.specs.Grammar.{Form, part}
+use Rattle.sql_tokens.specs.Reading.{◌>>=◌, Parse}
+use Rattle.sql_tokens.proofs.Good.{Any, Good}
 use Rattle.sql_tokens.specs.declared.mark.Mark.TheVariants as mark
 use Rattle.sql_tokens.specs.declared.token.Name.{Name}
 use Rattle.sql_tokens.specs.declared.token.Token.{Token}

@@ -5,12 +5,12 @@ use Rattle.sql_tokens.specs.declared.token.Placed.{Placed}
 use Rattle.sql_tokens.specs.declared.token.Token.{Token}
 use Rattle.sql_tokens.specs.Tokens.{TokensOf}
 use Rattle.sql_tree.specs.declared.statement.Statement.{Statement}
-use Rattle.sql_text.specs.declared.fault.TextError.TheVariants as errors
-use Rattle.sql_text.specs.declared.fault.TextFault.{TextFault}
-use Rattle.sql_text.specs.declared.fault.TextFault.TheVariants as text_fault
-use Rattle.sql_text.specs.Reading.{text_at}
-use Rattle.sql_text.proofs.Reaches.{bare_told, many_told}
-use Rattle.sql_text.proofs.Whole.{is_found, is_few, has_from, is_place, is_deep, is_bare, is_many}
+use Rattle.sql_reader.specs.declared.text_fault.TextError.TheVariants as errors
+use Rattle.sql_reader.specs.declared.text_fault.TextFault.{TextFault}
+use Rattle.sql_reader.specs.declared.text_fault.TextFault.TheVariants as text_fault
+use Rattle.sql_reader.specs.TextReading.{text_at}
+use Rattle.sql_reader.proofs.Reaches.{bare_told, many_told}
+use Rattle.sql_reader.proofs.Whole.{is_found, is_few, has_from, is_place, is_deep, is_bare, is_many}
 use Rattle.sql_reader.specs.declared.fault.SqlFault.{SqlFault}
 use Rattle.sql_reader.specs.declared.fault.SqlFault.TheVariants.{Syntax, Outside, TooLong, NoMemory}
 use Rattle.sql_reader.specs.Text.{tokens_of, places_of, told_of, GoesWrong, AreRead, IsTextOf, IsReadAs, IsRefusedBy, IsToldAs}

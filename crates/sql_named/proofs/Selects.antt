@@ -1,13 +1,13 @@
 -- Where the reader of SELECT fails, what it awaits is due; and it fails so behind each beginning of a SELECT.
 use Rattle.std.proofs.Common.{◌≡◌, ℕ, suc, Bool as Boolean, true, false, List, [], ◌∷◌, ◌++◌, length, Option, Some, None, Result, Ok, Err, refl, sym, ap, subst, ◌∙◌, inl, inr}
 use Rattle.std.specs.Prelude.{codes}
-use Rattle.sql_grammar.specs.declared.fault.Awaited.{Awaited}
-use Rattle.sql_grammar.specs.declared.fault.Awaited.TheVariants.{Operand, Statement as Wanted, Item, Star}
-use Rattle.sql_grammar.specs.declared.fault.Fault.{Fault}
-use Rattle.sql_grammar.specs.declared.fault.Fault.TheVariants.{Syntax}
-use Rattle.sql_grammar.specs.Grammar.{Form}
-use Rattle.sql_grammar.specs.Reading.{tail}
-use Rattle.sql_grammar.proofs.Good.{Has, Any, Stops, HasMark}
+use Rattle.sql_tokens.specs.declared.fault.Awaited.{Awaited}
+use Rattle.sql_tokens.specs.declared.fault.Awaited.TheVariants.{Operand, Statement as Wanted, Item, Star}
+use Rattle.sql_tokens.specs.declared.fault.Fault.{Fault}
+use Rattle.sql_tokens.specs.declared.fault.Fault.TheVariants.{Syntax}
+use Rattle.sql_tokens.specs.Grammar.{Form}
+use Rattle.sql_tokens.specs.Reading.{tail}
+use Rattle.sql_tokens.proofs.Good.{Has, Any, Stops, HasMark}
 use Rattle.sql_tokens.specs.declared.mark.Mark.TheVariants as mark
 use Rattle.sql_tokens.specs.declared.token.Token.{Token}
 use Rattle.sql_tokens.specs.declared.token.Token.TheVariants as token
@@ -19,15 +19,15 @@ use Rattle.sql_tree.specs.declared.statement.SelectList.TheVariants as list
 use Rattle.sql_expr.specs.Grammar.{ExprOf, comma}
 use Rattle.sql_expr.specs.Reading.{expr_at, after_comma, named_with, prim_with, un_with, product_with, sum_with, cat_with, mem_rest, mem_with, cmp_rest, cmp_with, test_with, not_with, and_with, or_with}
 use Rattle.sql_expr.proofs.Ends.{EndsOr, comma_stops, comma_marks}
-use Rattle.sql_statement.specs.Parts.{Done, Then, Made, Maybe, Behind, Listed}
-use Rattle.sql_statement.specs.Steps.{done, both, one_of, maybe, behind, listed}
-use Rattle.sql_statement.specs.Words.{from_word, by_word, as_word, limit_word, order_word, for_word, update_word, close_mark, dot_mark, star_mark, direction_word, plain_name, after_from, after_by, after_as, after_limit, after_order, after_for, after_update, after_close, after_dot, after_star, after_direction, after_name, after_count}
-use Rattle.sql_statement.specs.Grammar.{NameOf, FilterOf, select_item, ItemOf, items_of, ListOf, star, count, items, order_item, OrderItemOf, OrderOf, LimitOf, number, negative, lowest, null, parameter, SizeOf, LockOf, SourceOf, select_of, SelectOf}
-use Rattle.sql_statement.specs.Reading.{name_at, filter_at, item_at, items_at, counted_at, list_step, list_at, order_item_at, order_at, negative_at, size_at, limit_at, for_update_at, source_at, select_at}
-use Rattle.sql_statement.proofs.Stage.{maybe_begins}
-use Rattle.sql_statement.proofs.Ends.{EndsFilter, EndsItem, EndsList, EndsOrderItem, EndsOrder, EndsSize, EndsLock, as_stops, from_list, order_filter, limit_filter, for_filter, limit_order, for_order, for_size, bound_filter, bound_list, bound_order, bound_size, bound_lock}
-use Rattle.sql_statement.proofs.Keyed.{from_keyed, by_keyed, as_keyed, limit_keyed, order_keyed, for_keyed, update_keyed, close_keyed, dot_keyed, star_keyed, direction_keyed, count_found}
-use Rattle.sql_statement.proofs.Selects.{list_stage}
+use Rattle.sql_reader.specs.Parts.{Done, Then, Made, Maybe, Behind, Listed}
+use Rattle.sql_reader.specs.Steps.{done, both, one_of, maybe, behind, listed}
+use Rattle.sql_reader.specs.Words.{from_word, by_word, as_word, limit_word, order_word, for_word, update_word, close_mark, dot_mark, star_mark, direction_word, plain_name, after_from, after_by, after_as, after_limit, after_order, after_for, after_update, after_close, after_dot, after_star, after_direction, after_name, after_count}
+use Rattle.sql_reader.specs.Grammar.{NameOf, FilterOf, select_item, ItemOf, items_of, ListOf, star, count, items, order_item, OrderItemOf, OrderOf, LimitOf, number, negative, lowest, null, parameter, SizeOf, LockOf, SourceOf, select_of, SelectOf}
+use Rattle.sql_reader.specs.Reading.{name_at, filter_at, item_at, items_at, counted_at, list_step, list_at, order_item_at, order_at, negative_at, size_at, limit_at, for_update_at, source_at, select_at}
+use Rattle.sql_reader.proofs.Stage.{maybe_begins}
+use Rattle.sql_reader.proofs.Ends.{EndsFilter, EndsItem, EndsList, EndsOrderItem, EndsOrder, EndsSize, EndsLock, as_stops, from_list, order_filter, limit_filter, for_filter, limit_order, for_order, for_size, bound_filter, bound_list, bound_order, bound_size, bound_lock}
+use Rattle.sql_reader.proofs.Keyed.{from_keyed, by_keyed, as_keyed, limit_keyed, order_keyed, for_keyed, update_keyed, close_keyed, dot_keyed, star_keyed, direction_keyed, count_found}
+use Rattle.sql_reader.proofs.Selects.{list_stage}
 use Rattle.sql_named.specs.Beginnings.{Beginning, AtOnce, Nothing, ThenBegun, MarkBegun, BehindBegun}
 use Rattle.sql_named.specs.Expressions.{ExprBegun}
 use Rattle.sql_named.specs.Statements.{Further, ListedBegun, FilterBegun, ItemBegun, SelectedBegun, rows_counted, items_listed, OrderItemBegun, OrderBegun, SizeBegun, LimitBegun, LockBegun, SourceBegun, SelectBegun}

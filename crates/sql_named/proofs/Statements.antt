@@ -2,13 +2,13 @@
 use Rattle.std.proofs.Common.{◌≡◌, ℕ, pos, suc, Bool as Boolean, true, false, cond, List, [], ◌∷◌, ◌++◌, length, Option, Some, None, Result, Ok, Err, refl, sym, ap, subst, ◌∙◌, inl, inr}
 use Rattle.std.specs.Prelude.{codes, nat_le}
 use Rattle.std.proofs.lemmas.Bool.{le-leb, leb-true}
-use Rattle.sql_grammar.specs.declared.fault.Awaited.{Awaited}
-use Rattle.sql_grammar.specs.declared.fault.Awaited.TheVariants.{Operand, End, Statement as Wanted, Values, Backend}
-use Rattle.sql_grammar.specs.declared.fault.Fault.{Fault}
-use Rattle.sql_grammar.specs.declared.fault.Fault.TheVariants.{Syntax}
-use Rattle.sql_grammar.specs.Grammar.{Form}
-use Rattle.sql_grammar.specs.Reading.{◌>>=◌, Parse}
-use Rattle.sql_grammar.proofs.Good.{Has, Any, Stops, HasMark, has_map}
+use Rattle.sql_tokens.specs.declared.fault.Awaited.{Awaited}
+use Rattle.sql_tokens.specs.declared.fault.Awaited.TheVariants.{Operand, End, Statement as Wanted, Values, Backend}
+use Rattle.sql_tokens.specs.declared.fault.Fault.{Fault}
+use Rattle.sql_tokens.specs.declared.fault.Fault.TheVariants.{Syntax}
+use Rattle.sql_tokens.specs.Grammar.{Form}
+use Rattle.sql_tokens.specs.Reading.{◌>>=◌, Parse}
+use Rattle.sql_tokens.proofs.Good.{Has, Any, Stops, HasMark, has_map}
 use Rattle.sql_tokens.specs.declared.mark.Mark.TheVariants as mark
 use Rattle.sql_tokens.specs.declared.token.Token.{Token}
 use Rattle.sql_tokens.specs.declared.token.Token.TheVariants as token
@@ -21,13 +21,13 @@ use Rattle.sql_tree.specs.declared.statement.Statement.TheVariants as statement
 use Rattle.sql_expr.specs.Grammar.{ExprOf, comma}
 use Rattle.sql_expr.specs.Reading.{expr_at, after_comma, prim_with, un_with, product_with, sum_with, cat_with, mem_with, cmp_with, test_with, not_with, and_with, or_with}
 use Rattle.sql_expr.proofs.Ends.{EndsOr, comma_stops, close_stops, comma_marks}
-use Rattle.sql_statement.specs.Parts.{Done, Then, Made, Behind, Listed}
-use Rattle.sql_statement.specs.Steps.{done, both, made, one_of, either_step, behind, listed}
-use Rattle.sql_statement.specs.Words.{from_word, where_word, into_word, values_word, set_word, level_word, repeatable_word, read_word, isolation_word, transaction_word, default_word, open_mark, close_mark, equal_mark, work_word, name_token, plain_name, after_from, after_where, after_into, after_values, after_set, after_level, after_repeatable, after_read, after_isolation, after_transaction, after_default, after_open, after_close, after_equal, after_work, after_name, after_plain}
-use Rattle.sql_statement.specs.Grammar.{NameOf, kept, Closed, FilterOf, delete_of, DeleteOf, set_item, SetOf, update_of, UpdateOf, WorkOf, IsolationOf, always, BeginOf, StartOf, EndingOf, ShowOf, BackendOf, recover_of, RecoverOf, given_cell, CellOf, RowOf, ColumnsOf, insert_of, InsertOf}
-use Rattle.sql_statement.specs.Reading.{name_at, filter_at, delete_at, set_at, update_at, work_at, isolation_at, begin_at, start_at, ending_at, show_at, backend_at, recover_at, closed, cell_at, row_at, columns_at, insert_at}
-use Rattle.sql_statement.proofs.Ends.{EndsFilter, EndsSets, EndsUpdate, EndsWork, EndsIsolation, EndsBegin, where_stops}
-use Rattle.sql_statement.proofs.Keyed.{from_keyed, where_keyed, into_keyed, values_keyed, set_keyed, level_keyed, repeatable_keyed, read_keyed, isolation_keyed, transaction_keyed, default_keyed, open_keyed, close_keyed, equal_keyed, work_keyed, name_keyed, plain_keyed}
+use Rattle.sql_reader.specs.Parts.{Done, Then, Made, Behind, Listed}
+use Rattle.sql_reader.specs.Steps.{done, both, made, one_of, either_step, behind, listed}
+use Rattle.sql_reader.specs.Words.{from_word, where_word, into_word, values_word, set_word, level_word, repeatable_word, read_word, isolation_word, transaction_word, default_word, open_mark, close_mark, equal_mark, work_word, name_token, plain_name, after_from, after_where, after_into, after_values, after_set, after_level, after_repeatable, after_read, after_isolation, after_transaction, after_default, after_open, after_close, after_equal, after_work, after_name, after_plain}
+use Rattle.sql_reader.specs.Grammar.{NameOf, kept, Closed, FilterOf, delete_of, DeleteOf, set_item, SetOf, update_of, UpdateOf, WorkOf, IsolationOf, always, BeginOf, StartOf, EndingOf, ShowOf, BackendOf, recover_of, RecoverOf, given_cell, CellOf, RowOf, ColumnsOf, insert_of, InsertOf}
+use Rattle.sql_reader.specs.Reading.{name_at, filter_at, delete_at, set_at, update_at, work_at, isolation_at, begin_at, start_at, ending_at, show_at, backend_at, recover_at, closed, cell_at, row_at, columns_at, insert_at}
+use Rattle.sql_reader.proofs.Ends.{EndsFilter, EndsSets, EndsUpdate, EndsWork, EndsIsolation, EndsBegin, where_stops}
+use Rattle.sql_reader.proofs.Keyed.{from_keyed, where_keyed, into_keyed, values_keyed, set_keyed, level_keyed, repeatable_keyed, read_keyed, isolation_keyed, transaction_keyed, default_keyed, open_keyed, close_keyed, equal_keyed, work_keyed, name_keyed, plain_keyed}
 use Rattle.sql_named.specs.Beginnings.{Beginning, AtOnce, Nothing, ThenBegun, BehindBegun}
 use Rattle.sql_named.specs.Expressions.{ExprBegun}
 use Rattle.sql_named.specs.Statements.{Further, ListedBegun, ClosedBegun, FilterBegun, DeleteBegun, SetBegun, UpdateBegun, IsolationBegun, BeginBegun, StartBegun, RecoverBegun, RowBegun, ColumnsBegun, InsertBegun}

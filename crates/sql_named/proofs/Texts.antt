@@ -1,11 +1,11 @@
 -- What the reader of texts awaits where it fails is due there, and nothing else is.
 use Rattle.std.proofs.Common.{◌≡◌, ℕ, suc, List, [], ◌∷◌, ◌++◌, length, Result, Ok, Err, refl, sym, ap, subst, ◌∙◌, arith, length-append, inl, inr}
-use Rattle.sql_grammar.specs.declared.fault.Awaited.{Awaited}
-use Rattle.sql_grammar.specs.declared.fault.Awaited.TheVariants.{End}
-use Rattle.sql_grammar.specs.declared.fault.Fault.{Fault}
-use Rattle.sql_grammar.specs.declared.fault.Fault.TheVariants as one
-use Rattle.sql_grammar.specs.Reading.{◌>>=◌, end_at, whole_of}
-use Rattle.sql_grammar.proofs.Good.{Any, Stops}
+use Rattle.sql_tokens.specs.declared.fault.Awaited.{Awaited}
+use Rattle.sql_tokens.specs.declared.fault.Awaited.TheVariants.{End}
+use Rattle.sql_tokens.specs.declared.fault.Fault.{Fault}
+use Rattle.sql_tokens.specs.declared.fault.Fault.TheVariants as one
+use Rattle.sql_tokens.specs.Reading.{◌>>=◌, end_at, whole_of}
+use Rattle.sql_tokens.proofs.Good.{Any, Stops}
 use Rattle.sql_tokens.specs.declared.mark.Mark.TheVariants as mark
 use Rattle.sql_tokens.specs.declared.token.Token.{Token}
 use Rattle.sql_tokens.specs.declared.token.Token.TheVariants as token
@@ -13,22 +13,22 @@ use Rattle.sql_tokens.specs.declared.token.TokenFault.TheVariants as fault
 use Rattle.sql_tree.specs.declared.statement.Statement.{Statement}
 use Rattle.sql_tree.specs.declared.statement.Statement.TheVariants as statement
 use Rattle.sql_expr.specs.Reading.{after_comma}
-use Rattle.sql_statement.specs.declared.verb.Verb.{Verb}
-use Rattle.sql_statement.specs.declared.verb.Verb.TheVariants as verb
-use Rattle.sql_statement.specs.Parts.{Listed}
-use Rattle.sql_statement.specs.Steps.{listed}
-use Rattle.sql_statement.specs.Words.{semicolon_mark, after_semicolon, after_verb}
-use Rattle.sql_statement.specs.Grammar.{InsertOf, UpdateOf, DeleteOf, BeginOf, StartOf, EndingOf, ShowOf, RecoverOf, verb_token, BehindVerb}
-use Rattle.sql_statement.specs.Reading.{insert_at, update_at, delete_at, begin_at, start_at, ending_at, show_at, recover_at, verb_at}
-use Rattle.sql_statement.proofs.Ends.{EndsFilter, EndsUpdate, EndsWork, EndsIsolation, EndsBegin, bound_update, bound_work, bound_isolation, bound_begin}
-use Rattle.sql_statement.proofs.Keyed.{semicolon_keyed}
-use Rattle.sql_statement.proofs.Verbs.{verb_keyed}
-use Rattle.sql_text.specs.declared.fault.TextFault.{TextFault}
-use Rattle.sql_text.specs.declared.fault.TextFault.TheVariants.{Syntax, WithoutFrom, TooDeep, TooMany}
-use Rattle.sql_text.specs.Grammar.{PartOf, written, TextOf}
-use Rattle.sql_text.specs.Reading.{then_read, lines_at, ended, text_at}
-use Rattle.sql_text.proofs.Texts.{part_at, texts_at}
-use Rattle.sql_text.proofs.Lines.{Lines, lines_told}
+use Rattle.sql_reader.specs.declared.verb.Verb.{Verb}
+use Rattle.sql_reader.specs.declared.verb.Verb.TheVariants as verb
+use Rattle.sql_reader.specs.Parts.{Listed}
+use Rattle.sql_reader.specs.Steps.{listed}
+use Rattle.sql_reader.specs.Words.{semicolon_mark, after_semicolon, after_verb}
+use Rattle.sql_reader.specs.Grammar.{InsertOf, UpdateOf, DeleteOf, BeginOf, StartOf, EndingOf, ShowOf, RecoverOf, verb_token, BehindVerb}
+use Rattle.sql_reader.specs.Reading.{insert_at, update_at, delete_at, begin_at, start_at, ending_at, show_at, recover_at, verb_at}
+use Rattle.sql_reader.proofs.Ends.{EndsFilter, EndsUpdate, EndsWork, EndsIsolation, EndsBegin, bound_update, bound_work, bound_isolation, bound_begin}
+use Rattle.sql_reader.proofs.Keyed.{semicolon_keyed}
+use Rattle.sql_reader.proofs.Verbs.{verb_keyed}
+use Rattle.sql_reader.specs.declared.text_fault.TextFault.{TextFault}
+use Rattle.sql_reader.specs.declared.text_fault.TextFault.TheVariants.{Syntax, WithoutFrom, TooDeep, TooMany}
+use Rattle.sql_reader.specs.TextGrammar.{PartOf, written, TextOf}
+use Rattle.sql_reader.specs.TextReading.{then_read, lines_at, ended, text_at}
+use Rattle.sql_reader.proofs.Texts.{part_at, texts_at}
+use Rattle.sql_reader.proofs.Lines.{Lines, lines_told}
 use Rattle.sql_named.specs.Beginnings.{Beginning, AtOnce, Nothing}
 use Rattle.sql_named.specs.Statements.{Further, ListedBegun, DeleteBegun, UpdateBegun, BeginBegun, StartBegun, RecoverBegun, InsertBegun, VerbBegun}
 use Rattle.sql_named.specs.Texts.{PartBegun, TextBegun, IsDue}

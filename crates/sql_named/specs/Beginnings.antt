@@ -1,7 +1,7 @@
 -- Beginnings of texts, over any tokens. D w ts says: ts begins a text of a form and is none yet, and behind it w is due.
 use Rattle.std.specs.Prelude.{◌≡◌, List, [], ◌∷◌, ◌⊎◌}
-use Rattle.sql_grammar.specs.declared.fault.Awaited.{Awaited}
-use Rattle.sql_grammar.specs.Grammar.{Form, TailOf}
+use Rattle.sql_tokens.specs.declared.fault.Awaited.{Awaited}
+use Rattle.sql_tokens.specs.Grammar.{Form, TailOf}
 
 abbrev pub Beginning : Type 0 → Type 1
 Beginning T = Awaited → List T → Type 0

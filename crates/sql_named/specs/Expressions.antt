@@ -1,8 +1,8 @@
 -- What is due behind the beginning of an expression, by the productions of its grammar.
 use Rattle.std.specs.Prelude.{◌≡◌, ℕ, zero, suc, List, ◌∷◌, ◌⊎◌}
-use Rattle.sql_grammar.specs.declared.fault.Awaited.{Awaited}
-use Rattle.sql_grammar.specs.declared.fault.Awaited.TheVariants.{Operand, Word, Arguments, Close}
-use Rattle.sql_grammar.specs.Grammar.{Form, ChainedOf, part}
+use Rattle.sql_tokens.specs.declared.fault.Awaited.{Awaited}
+use Rattle.sql_tokens.specs.declared.fault.Awaited.TheVariants.{Operand, Word, Arguments, Close}
+use Rattle.sql_tokens.specs.Grammar.{Form, ChainedOf, part}
 use Rattle.sql_tokens.specs.declared.mark.Mark.TheVariants as mark
 use Rattle.sql_tokens.specs.declared.token.Name.{Name}
 use Rattle.sql_tokens.specs.declared.token.Token.{Token}

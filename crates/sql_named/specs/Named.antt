@@ -3,10 +3,10 @@ use Rattle.std.specs.Prelude.{◌≡◌, ℕ, List, length}
 use Rattle.sql_tokens.specs.declared.token.Placed.{Placed}
 use Rattle.sql_tokens.specs.declared.token.Token.{Token}
 use Rattle.sql_tokens.specs.Tokens.{TokensOf}
-use Rattle.sql_text.specs.declared.fault.TextFault.{TextFault}
-use Rattle.sql_text.specs.declared.fault.TextFault.TheVariants as text_fault
-use Rattle.sql_text.specs.Grammar.{IsWithoutFrom, IsTooMany}
-use Rattle.sql_refusal.specs.Refusal.{place_of}
+use Rattle.sql_reader.specs.declared.text_fault.TextFault.{TextFault}
+use Rattle.sql_reader.specs.declared.text_fault.TextFault.TheVariants as text_fault
+use Rattle.sql_reader.specs.TextGrammar.{IsWithoutFrom, IsTooMany}
+use Rattle.sql_reader.specs.Refusal.{place_of}
 use Rattle.sql_reader.specs.declared.fault.SqlFault.{SqlFault}
 use Rattle.sql_reader.specs.declared.fault.SqlFault.TheVariants.{NoMemory}
 use Rattle.sql_reader.specs.Text.{tokens_of, places_of, told_of, GoesWrong}

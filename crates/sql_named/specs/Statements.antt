@@ -1,17 +1,17 @@
 -- What is due behind the beginning of a statement, by the productions of its grammar.
 use Rattle.std.specs.Prelude.{◌≡◌, ℕ, List, ◌∷◌, ◌⊎◌, codes}
-use Rattle.sql_grammar.specs.declared.fault.Awaited.{Awaited}
-use Rattle.sql_grammar.specs.declared.fault.Awaited.TheVariants.{End, Statement as Wanted, Values, Backend, Item, Star}
-use Rattle.sql_grammar.specs.Grammar.{Form, part}
+use Rattle.sql_tokens.specs.declared.fault.Awaited.{Awaited}
+use Rattle.sql_tokens.specs.declared.fault.Awaited.TheVariants.{End, Statement as Wanted, Values, Backend, Item, Star}
+use Rattle.sql_tokens.specs.Grammar.{Form, part}
 use Rattle.sql_tokens.specs.declared.mark.Mark.TheVariants as mark
 use Rattle.sql_tokens.specs.declared.token.Token.{Token}
 use Rattle.sql_tokens.specs.declared.token.Token.TheVariants as token
 use Rattle.sql_expr.specs.Grammar.{ExprOf, comma}
-use Rattle.sql_statement.specs.declared.verb.Verb.{Verb}
-use Rattle.sql_statement.specs.declared.verb.Verb.TheVariants as verb
-use Rattle.sql_statement.specs.Parts.{Listed}
-use Rattle.sql_statement.specs.Words.{from_word, where_word, into_word, values_word, set_word, by_word, level_word, repeatable_word, as_word, limit_word, order_word, for_word, isolation_word, transaction_word, open_mark, equal_mark, dot_mark, star_mark, plain_name}
-use Rattle.sql_statement.specs.Grammar.{NameOf, FilterOf, SetOf, WorkOf, CellOf, RowOf, ColumnsOf, ItemOf, ListOf, OrderItemOf, OrderOf, SizeOf}
+use Rattle.sql_reader.specs.declared.verb.Verb.{Verb}
+use Rattle.sql_reader.specs.declared.verb.Verb.TheVariants as verb
+use Rattle.sql_reader.specs.Parts.{Listed}
+use Rattle.sql_reader.specs.Words.{from_word, where_word, into_word, values_word, set_word, by_word, level_word, repeatable_word, as_word, limit_word, order_word, for_word, isolation_word, transaction_word, open_mark, equal_mark, dot_mark, star_mark, plain_name}
+use Rattle.sql_reader.specs.Grammar.{NameOf, FilterOf, SetOf, WorkOf, CellOf, RowOf, ColumnsOf, ItemOf, ListOf, OrderItemOf, OrderOf, SizeOf}
 use Rattle.sql_named.specs.Beginnings.{Beginning, AtOnce, Nothing, ThenBegun, MarkBegun, BehindBegun, ChainBegun}
 use Rattle.sql_named.specs.Expressions.{ExprBegun}
 

@@ -1,11 +1,11 @@
 -- What is due behind the beginning of a text.
 use Rattle.std.specs.Prelude.{◌≡◌, ℕ, List, ◌++◌, length}
-use Rattle.sql_grammar.specs.declared.fault.Awaited.{Awaited}
-use Rattle.sql_grammar.specs.declared.fault.Awaited.TheVariants.{End}
+use Rattle.sql_tokens.specs.declared.fault.Awaited.{Awaited}
+use Rattle.sql_tokens.specs.declared.fault.Awaited.TheVariants.{End}
 use Rattle.sql_tokens.specs.declared.token.Token.{Token}
-use Rattle.sql_statement.specs.Words.{semicolon_mark}
-use Rattle.sql_statement.specs.Grammar.{verb_token}
-use Rattle.sql_text.specs.Grammar.{PartOf, TextOf}
+use Rattle.sql_reader.specs.Words.{semicolon_mark}
+use Rattle.sql_reader.specs.Grammar.{verb_token}
+use Rattle.sql_reader.specs.TextGrammar.{PartOf, TextOf}
 use Rattle.sql_named.specs.Beginnings.{Beginning, AtOnce, ThenBegun, MarkBegun}
 use Rattle.sql_named.specs.Statements.{ListedBegun, VerbBegun}
 

@@ -1,8 +1,8 @@
 //! What is due where a text fails.
 ghost use Rattle.std.specs.Prelude.{◌≡◌, List as Sequence, Err};
 ghost use Rattle.sql_tokens.specs.declared.token.Token.{Token};
-ghost use Rattle.sql_text.specs.declared.fault.TextFault.TheVariants.{Syntax};
-ghost use Rattle.sql_text.specs.Reading.{text_at};
+ghost use Rattle.sql_reader.specs.declared.text_fault.TextFault.TheVariants.{Syntax};
+ghost use Rattle.sql_reader.specs.TextReading.{text_at};
 ghost use Rattle.sql_named.specs.Texts.{IsDue};
 
 /// What the reader awaits at the token that it refuses is due there by the productions of the

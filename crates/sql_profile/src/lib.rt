@@ -4,9 +4,8 @@
 
 pub use sql_named::read_statements;
 pub use sql_print::print_statement;
-pub use sql_reader::SqlFault;
+pub use sql_reader::{STATEMENT_LIMIT, SqlFault};
 pub use sql_round::statements_again;
-pub use sql_text::STATEMENT_LIMIT;
 pub use sql_tree::{
     Cell, Comparison, Delete, Expr, Insert, OrderItem, ProductPart, ProductSign, Select,
     SelectItem, SelectList, SetItem, Statement, SumPart, Update,

@@ -1,1 +1,15 @@
 pub mod Told
+pub mod Stage
+pub mod Keyed
+pub mod Ends
+pub mod OneStatement
+pub mod Rows
+pub mod Selects
+pub mod Verbs
+pub mod Backends
+pub mod Texts
+pub mod Added
+pub mod Lines
+pub mod Reaches
+pub mod Whole
+pub mod Loop

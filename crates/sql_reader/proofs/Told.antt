@@ -1,16 +1,16 @@
 -- What is told of a text, from what is answered of its tokens.
 use Rattle.std.proofs.Common.{◌≡◌, ◌≤◌, ℕ, List, length, Result, Ok, Err, sym, ap, subst, ◌∙◌}
-use Rattle.sql_grammar.specs.declared.fault.Awaited.{Awaited}
-use Rattle.sql_grammar.specs.Grammar.{IsPlace, IsTooDeep}
+use Rattle.sql_tokens.specs.declared.fault.Awaited.{Awaited}
+use Rattle.sql_tokens.specs.Grammar.{IsPlace, IsTooDeep}
 use Rattle.sql_tokens.specs.declared.token.Placed.{Placed}
 use Rattle.sql_tokens.specs.declared.token.Token.{Token}
 use Rattle.sql_tree.specs.declared.statement.Statement.{Statement}
-use Rattle.sql_text.specs.declared.fault.TextError.{TextError}
-use Rattle.sql_text.specs.declared.fault.TextError.TheVariants as errors
-use Rattle.sql_text.specs.declared.fault.TextFault.{TextFault}
-use Rattle.sql_text.specs.declared.fault.TextFault.TheVariants as text_fault
-use Rattle.sql_text.specs.Grammar.{IsText, IsTextWithin, HaveFrom, IsWithoutFrom, IsTooMany}
-use Rattle.sql_text.specs.Reading.{Answers}
+use Rattle.sql_reader.specs.declared.text_fault.TextError.{TextError}
+use Rattle.sql_reader.specs.declared.text_fault.TextError.TheVariants as errors
+use Rattle.sql_reader.specs.declared.text_fault.TextFault.{TextFault}
+use Rattle.sql_reader.specs.declared.text_fault.TextFault.TheVariants as text_fault
+use Rattle.sql_reader.specs.TextGrammar.{IsText, IsTextWithin, HaveFrom, IsWithoutFrom, IsTooMany}
+use Rattle.sql_reader.specs.TextReading.{Answers}
 use Rattle.sql_reader.specs.declared.fault.SqlFault.{SqlFault}
 use Rattle.sql_reader.specs.declared.fault.SqlFault.TheVariants.{Syntax, Outside, TooLong, NoMemory}
 use Rattle.sql_reader.specs.Text.{tokens_of, places_of, told_of, GoesWrong, AreRead, AreRefusedBy}

@@ -1,1 +1,11 @@
 pub mod Text
+pub mod Rules
+pub mod Refusal
+pub mod Parts
+pub mod Steps
+pub mod Words
+pub mod Grammar
+pub mod Reading
+pub mod Sources
+pub mod TextGrammar
+pub mod TextReading

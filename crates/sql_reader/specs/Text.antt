@@ -1,16 +1,16 @@
 -- Texts of SQL: the statements of one, and what is told of one that is refused.
 use Rattle.std.specs.Prelude.{◌≡◌, ◌≤◌, ℕ, List, length, map, Result, Ok, Err}
-use Rattle.sql_grammar.specs.Grammar.{IsPlace, IsTooDeep}
+use Rattle.sql_tokens.specs.Grammar.{IsPlace, IsTooDeep}
 use Rattle.sql_tokens.specs.declared.token.Placed.{Placed}
 use Rattle.sql_tokens.specs.declared.token.Token.{Token}
 use Rattle.sql_tokens.specs.Tokens.{TokensOf}
 use Rattle.sql_tree.specs.declared.statement.Statement.{Statement}
-use Rattle.sql_text.specs.declared.fault.TextFault.{TextFault}
-use Rattle.sql_text.specs.declared.fault.TextFault.TheVariants as text_fault
-use Rattle.sql_text.specs.Grammar.{IsText, IsTextWithin, HaveFrom, IsWithoutFrom, IsTooMany}
-use Rattle.sql_refusal.specs.declared.refusal.Refusal.{Refusal}
-use Rattle.sql_refusal.specs.declared.refusal.Refusal.TheVariants as refusal
-use Rattle.sql_refusal.specs.Refusal.{place_of, refusal_of}
+use Rattle.sql_reader.specs.declared.text_fault.TextFault.{TextFault}
+use Rattle.sql_reader.specs.declared.text_fault.TextFault.TheVariants as text_fault
+use Rattle.sql_reader.specs.TextGrammar.{IsText, IsTextWithin, HaveFrom, IsWithoutFrom, IsTooMany}
+use Rattle.sql_reader.specs.declared.refusal.Refusal.{Refusal}
+use Rattle.sql_reader.specs.declared.refusal.Refusal.TheVariants as refusal
+use Rattle.sql_reader.specs.Refusal.{place_of, refusal_of}
 use Rattle.sql_reader.specs.declared.fault.SqlFault.{SqlFault}
 use Rattle.sql_reader.specs.declared.fault.SqlFault.TheVariants.{Syntax, Outside, TooLong, NoMemory}
 

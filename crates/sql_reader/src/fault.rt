@@ -3,8 +3,8 @@ ghost use Rattle.std.specs.Prelude.{◌≡◌};
 ghost use Rattle.sql_reader.specs.declared.fault.SqlFault.TheVariants.{NoMemory as Memory};
 ghost use Rattle.sql_reader.specs.Text.{fault_of};
 
+use crate::refusal::Refusal;
 use pool_base::{NoMemory, Text};
-use sql_refusal::Refusal;
 
 /// Why a text is refused. A place counts bytes, from 0.
 #[derive(Debug, Drop)]

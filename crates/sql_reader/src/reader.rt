@@ -2,13 +2,13 @@
 ghost use Rattle.std.specs.Prelude.{◌≡◌, ◌<◌, ◌^◌, length, List as Sequence, IfOk, IfErr, Err};
 ghost use Rattle.sql_tokens.specs.declared.token.Placed.{Placed as PlacedToken};
 ghost use Rattle.sql_tokens.specs.Tokens.{TokensOf};
-ghost use Rattle.sql_text.specs.Reading.{text_at};
+ghost use Rattle.sql_reader.specs.TextReading.{text_at};
 ghost use Rattle.sql_reader.specs.Text.{tokens_of, places_of, told_of, AreRead, IsTextOf, IsReadAs, AreRefusedBy, IsRefusedBy, IsToldAs};
 
 use crate::fault::{SqlFault, fault_of};
+use crate::refusal::{place_at, refusal_at};
+use crate::text_fault::{TextError, TextFault};
 use pool_base::{List, NoMemory};
-use sql_refusal::{place_at, refusal_at};
-use sql_text::{TextError, TextFault};
 use sql_tokens::{Placed, Token, read_tokens};
 use sql_tree::Statement;
 use std::alloc::Global;
@@ -58,7 +58,7 @@ fn read_placed(alloc: Global, placed: List<Placed>, size: u32) -> Result<List<St
         → IsToldAs result (told_of (tokens_of placed) (places_of placed) size fault) }
 {
     let (tokens, places) = apart(alloc, placed)?;
-    match sql_text::read_statements(alloc, tokens.as_slice()) {
+    match crate::text::read_statements(alloc, tokens.as_slice()) {
         Ok(statements) => Ok(statements),
         Err(TextError::NoMemory) => Err(SqlFault::NoMemory),
         Err(TextError::Fault(fault)) => {

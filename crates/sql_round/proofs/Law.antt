@@ -20,9 +20,9 @@ use Rattle.sql_tree.specs.declared.statement.SetItem.{SetItem}
 use Rattle.sql_tree.specs.declared.statement.Statement.{Statement}
 use Rattle.sql_tree.specs.declared.statement.Statement.TheVariants as statement
 use Rattle.sql_tree.specs.Trees.{IsTree, IsItem, IsList, IsLimit, IsLiteral, IsSelect, IsRow, IsCell, IsName, IsSet, IsStatement, AreParts}
-use Rattle.sql_statement.specs.declared.verb.Verb.{Verb}
-use Rattle.sql_statement.specs.declared.verb.Verb.TheVariants as verb
-use Rattle.sql_statement.specs.Grammar.{LimitOf, number, negative, lowest, null, parameter, BehindVerb, verb_token}
+use Rattle.sql_reader.specs.declared.verb.Verb.{Verb}
+use Rattle.sql_reader.specs.declared.verb.Verb.TheVariants as verb
+use Rattle.sql_reader.specs.Grammar.{LimitOf, number, negative, lowest, null, parameter, BehindVerb, verb_token}
 use Rattle.sql_print.specs.Spelling.{Lexeme}
 use Rattle.sql_print.specs.Spelling as lexeme
 use Rattle.sql_print.specs.Printed.{Printed, part, joined, optional, expr_tokens, where_tokens, list_tokens, columns_tokens, row_tokens, set_tokens, tokens_of}

@@ -2,7 +2,7 @@
 use Rattle.std.proofs.Common.{◌≡◌, ◌∙◌, List, [], ◌∷◌, ◌++◌, map, refl, sym, ap, subst, append_assoc}
 use Rattle.std.specs.List.{flat_map}
 use Rattle.std.proofs.lemmas.List.{map-append}
-use Rattle.sql_grammar.specs.Grammar.{Form, TailOf, ChainedOf}
+use Rattle.sql_tokens.specs.Grammar.{Form, TailOf, ChainedOf}
 use Rattle.sql_tokens.specs.declared.token.Token.{Token}
 use Rattle.sql_tree.specs.declared.expr.Expr.{Expr}
 use Rattle.sql_expr.specs.declared.opening.Opening.{Opening}

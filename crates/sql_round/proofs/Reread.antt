@@ -1,14 +1,14 @@
 -- What stands behind the verb of a printed statement is read as the statement, unless it nests too deep.
 use Rattle.std.proofs.Common.{◌≡◌, ◌∙◌, ◌≤◌, ◌+◌, ℕ, zero, suc, List, [], ◌∷◌, Result, Ok, Err, map, sym, ap, subst, inl, inr, arith, ◌⊎◌}
 use Rattle.std.proofs.lemmas.List.{append-nil}
-use Rattle.sql_grammar.specs.declared.fault.Fault.{Fault}
-use Rattle.sql_grammar.specs.declared.fault.Fault.TheVariants.{Syntax, TooDeep}
-use Rattle.sql_grammar.proofs.Depth.{IsDeep, past, stays_past}
+use Rattle.sql_tokens.specs.declared.fault.Fault.{Fault}
+use Rattle.sql_tokens.specs.declared.fault.Fault.TheVariants.{Syntax, TooDeep}
+use Rattle.sql_tokens.proofs.Depth.{IsDeep, past, stays_past}
 use Rattle.sql_tokens.specs.declared.token.Token.{Token}
 use Rattle.sql_tree.specs.declared.statement.Statement.{Statement}
-use Rattle.sql_statement.specs.Grammar.{BehindVerb, verb_token}
-use Rattle.sql_statement.specs.Reading.{verb_at}
-use Rattle.sql_statement.proofs.Verbs.{verb_stage}
+use Rattle.sql_reader.specs.Grammar.{BehindVerb, verb_token}
+use Rattle.sql_reader.specs.Reading.{verb_at}
+use Rattle.sql_reader.proofs.Verbs.{verb_stage}
 use Rattle.sql_print.specs.Printed.{tokens_of}
 use Rattle.sql_again.specs.Lexemes.{token_of}
 use Rattle.sql_round.proofs.Law.{IsWritten}

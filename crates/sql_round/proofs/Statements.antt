@@ -1,7 +1,7 @@
 -- The tokens of a statement, whose expressions are of the grammar, are a text of it.
 use Rattle.std.proofs.Common.{◌≡◌, ℕ, not, List, [], ◌∷◌, ◌++◌, Bool, true, false, Option, Some, None, refl, sym, ap, ap₂, subst, inl, inr}
 use Rattle.std.specs.List.{flat_map}
-use Rattle.sql_grammar.specs.Grammar.{Form, part}
+use Rattle.sql_tokens.specs.Grammar.{Form, part}
 use Rattle.sql_tokens.specs.declared.mark.Mark.TheVariants as mark
 use Rattle.sql_tokens.specs.declared.token.Token.{Token}
 use Rattle.sql_tokens.specs.declared.word.Word.TheVariants as word
@@ -16,9 +16,9 @@ use Rattle.sql_tree.specs.declared.statement.SelectList.TheVariants as list
 use Rattle.sql_tree.specs.declared.statement.SetItem.{SetItem}
 use Rattle.sql_tree.specs.declared.statement.Statement.TheVariants as statement
 use Rattle.sql_expr.specs.Grammar.{ExprOf, comma}
-use Rattle.sql_statement.specs.Parts.{Done, Then, Made, Maybe, Behind, Listed}
-use Rattle.sql_statement.specs.Words.{from_word, into_word, values_word, set_word, by_word, as_word, open_mark, close_mark, equal_mark, direction_word}
-use Rattle.sql_statement.specs.Grammar.{delete_of, set_item, update_of, insert_of, select_item, order_item, order_of, is_there, NameOf, Closed, FilterOf, DeleteOf, SetOf, UpdateOf, CellOf, RowOf, ColumnsOf, InsertOf, ItemOf, ListOf, star, count, items, OrderItemOf, OrderOf, LimitOf, SizeOf, LockOf, Source, SourceOf, SelectOf}
+use Rattle.sql_reader.specs.Parts.{Done, Then, Made, Maybe, Behind, Listed}
+use Rattle.sql_reader.specs.Words.{from_word, into_word, values_word, set_word, by_word, as_word, open_mark, close_mark, equal_mark, direction_word}
+use Rattle.sql_reader.specs.Grammar.{delete_of, set_item, update_of, insert_of, select_item, order_item, order_of, is_there, NameOf, Closed, FilterOf, DeleteOf, SetOf, UpdateOf, CellOf, RowOf, ColumnsOf, InsertOf, ItemOf, ListOf, star, count, items, OrderItemOf, OrderOf, LimitOf, SizeOf, LockOf, Source, SourceOf, SelectOf}
 use Rattle.sql_print.specs.Spelling.{Lexeme, is_plain}
 use Rattle.sql_print.specs.Spelling as lexeme
 use Rattle.sql_print.specs.Printed.{joined, optional, expr_tokens, where_tokens, item_tokens, list_tokens, direction, order_item_tokens, order_tokens, update_lock, cell_tokens, row_tokens, columns_tokens, set_tokens}

@@ -2,10 +2,10 @@
 use Rattle.std.proofs.Common.{◌≡◌, ◌∙◌, ℕ, false, List, [], ◌∷◌, length, Option, Some, None, Result, Ok, Err, map, refl, sym, ap, subst, inl, inr, arith, ◌⊎◌}
 use Rattle.std.specs.Prelude.{IfOk, IfErr}
 use Rattle.std.proofs.lemmas.List.Elements.{All-nil, All-cons}
-use Rattle.sql_grammar.specs.declared.fault.Fault.{Fault}
-use Rattle.sql_grammar.specs.declared.fault.Fault.TheVariants as one
-use Rattle.sql_grammar.proofs.Good.{Has}
-use Rattle.sql_grammar.proofs.Depth.{IsDeep}
+use Rattle.sql_tokens.specs.declared.fault.Fault.{Fault}
+use Rattle.sql_tokens.specs.declared.fault.Fault.TheVariants as one
+use Rattle.sql_tokens.proofs.Good.{Has}
+use Rattle.sql_tokens.proofs.Depth.{IsDeep}
 use Rattle.sql_tokens.specs.declared.token.Token.{Token}
 use Rattle.sql_tokens.specs.declared.token.Placed.{Placed}
 use Rattle.sql_tokens.specs.Tokens.{TokensOf}
@@ -15,14 +15,14 @@ use Rattle.sql_tree.specs.declared.statement.SelectList.TheVariants as list
 use Rattle.sql_tree.specs.declared.statement.Statement.{Statement}
 use Rattle.sql_tree.specs.declared.statement.Statement.TheVariants as statement
 use Rattle.sql_tree.specs.Trees.{IsStatement}
-use Rattle.sql_statement.specs.declared.verb.Verb.{Verb}
-use Rattle.sql_statement.specs.Grammar.{BehindVerb, verb_token}
-use Rattle.sql_statement.specs.Reading.{verb_at}
-use Rattle.sql_statement.proofs.Verbs.{verb_keyed, verb_stage}
-use Rattle.sql_text.specs.declared.fault.TextFault.{TextFault}
-use Rattle.sql_text.specs.declared.fault.TextFault.TheVariants.{TooDeep}
-use Rattle.sql_text.specs.Grammar.{IsTextWithin, is_bare, is_bare_list}
-use Rattle.sql_text.specs.Reading.{then_read, lifted, placed, add_step, further_at, ended, text_at}
+use Rattle.sql_reader.specs.declared.verb.Verb.{Verb}
+use Rattle.sql_reader.specs.Grammar.{BehindVerb, verb_token}
+use Rattle.sql_reader.specs.Reading.{verb_at}
+use Rattle.sql_reader.proofs.Verbs.{verb_keyed, verb_stage}
+use Rattle.sql_reader.specs.declared.text_fault.TextFault.{TextFault}
+use Rattle.sql_reader.specs.declared.text_fault.TextFault.TheVariants.{TooDeep}
+use Rattle.sql_reader.specs.TextGrammar.{IsTextWithin, is_bare, is_bare_list}
+use Rattle.sql_reader.specs.TextReading.{then_read, lifted, placed, add_step, further_at, ended, text_at}
 use Rattle.sql_print.specs.Printed.{tokens_of, statement_text}
 use Rattle.sql_again.specs.Lexemes.{token_of}
 use Rattle.sql_again.proofs.Reread.{printed_tokens}

@@ -3,7 +3,7 @@ use Rattle.std.proofs.Common.{◌≡◌, ◌∙◌, ◌<◌, ℕ, suc, pos, ◌^
 use Rattle.std.specs.Prelude.{nat_lt, if◌then◌else◌, ◌==◌}
 use Rattle.std.specs.List.{flat_map}
 use Rattle.std.proofs.lemmas.Bool.{cond-true}
-use Rattle.sql_grammar.specs.Grammar.{TailOf, ChainedOf, part}
+use Rattle.sql_tokens.specs.Grammar.{TailOf, ChainedOf, part}
 use Rattle.sql_tokens.specs.declared.mark.Mark.TheVariants as mark
 use Rattle.sql_tokens.specs.declared.token.Token.{Token}
 use Rattle.sql_tokens.specs.declared.token.Token.TheVariants as token

@@ -7,3 +7,10 @@ pub mod Quotes
 pub mod Once
 pub mod Loop
 pub mod FirstByte
+pub mod Loops
+pub mod Good
+pub mod Told
+pub mod Turns
+pub mod Chains
+pub mod Depth
+pub mod Whole

@@ -2,9 +2,9 @@
 use Rattle.std.proofs.Common.{◌≡◌, ◌∙◌, ◌==◌, ◌<◌, ◌-◌, ◌^◌, ℕ, Bool, true, false, List, [], ◌∷◌, ◌++◌, length, map, Option, Some, None, Ok, refl, sym, ap, subst, inl, inr, ◌⊎◌, le_refl, append_assoc, length-append, arith, pos, Result, Err}
 use Rattle.std.specs.Prelude.{All, nat_lt, reverse, take, slice_get, if◌then◌else◌}
 use Rattle.std.proofs.lemmas.List.{append-nil, map-append}
-use Rattle.sql_grammar.specs.declared.fault.Awaited.{Awaited}
-use Rattle.sql_grammar.specs.declared.fault.Fault.{Fault}
-use Rattle.sql_grammar.specs.Grammar.{IsPlace, NoneGoesOn}
+use Rattle.sql_tokens.specs.declared.fault.Awaited.{Awaited}
+use Rattle.sql_tokens.specs.declared.fault.Fault.{Fault}
+use Rattle.sql_tokens.specs.Grammar.{IsPlace, NoneGoesOn}
 use Rattle.sql_tokens.specs.declared.mark.Mark.{Mark}
 use Rattle.sql_tokens.specs.declared.mark.Mark.TheVariants as mark
 use Rattle.sql_tokens.specs.declared.token.Placed.{Placed}
@@ -20,17 +20,17 @@ use Rattle.sql_tree.specs.declared.statement.SelectList.TheVariants as list
 use Rattle.sql_tree.specs.declared.statement.Statement.{Statement}
 use Rattle.sql_tree.specs.declared.statement.Statement.TheVariants as statement
 use Rattle.sql_tree.specs.Trees.{IsStatement}
-use Rattle.sql_statement.specs.declared.verb.Verb.{Verb}
-use Rattle.sql_statement.specs.declared.verb.Verb.TheVariants as verb
-use Rattle.sql_statement.specs.Grammar.{BehindVerb, Bound, verb_token}
-use Rattle.sql_statement.specs.Grammar as grammar
-use Rattle.sql_statement.specs.Reading.{verb_at}
-use Rattle.sql_statement.proofs.Verbs.{verb_stage}
-use Rattle.sql_text.specs.declared.fault.TextFault.{TextFault}
-use Rattle.sql_text.specs.declared.fault.TextFault.TheVariants as text_fault
-use Rattle.sql_text.specs.Grammar.{FrontOf, IsRows, IsText, IsTextWithin, IsWithoutFrom, is_bare, is_bare_list}
-use Rattle.sql_refusal.specs.declared.refusal.Refusal.TheVariants as refusal
-use Rattle.sql_refusal.specs.Refusal.{place_of, told}
+use Rattle.sql_reader.specs.declared.verb.Verb.{Verb}
+use Rattle.sql_reader.specs.declared.verb.Verb.TheVariants as verb
+use Rattle.sql_reader.specs.Grammar.{BehindVerb, Bound, verb_token}
+use Rattle.sql_reader.specs.Grammar as grammar
+use Rattle.sql_reader.specs.Reading.{verb_at}
+use Rattle.sql_reader.proofs.Verbs.{verb_stage}
+use Rattle.sql_reader.specs.declared.text_fault.TextFault.{TextFault}
+use Rattle.sql_reader.specs.declared.text_fault.TextFault.TheVariants as text_fault
+use Rattle.sql_reader.specs.TextGrammar.{FrontOf, IsRows, IsText, IsTextWithin, IsWithoutFrom, is_bare, is_bare_list}
+use Rattle.sql_reader.specs.declared.refusal.Refusal.TheVariants as refusal
+use Rattle.sql_reader.specs.Refusal.{place_of, told}
 use Rattle.sql_print.specs.Spelling.{Lexeme}
 use Rattle.sql_print.specs.Spelling as lexeme
 use Rattle.sql_print.specs.Printed.{statement_text, tokens_of}

@@ -5,7 +5,7 @@ use Rattle.backend_trait.specs.declared.answer.Polled.{Polled}
 use Rattle.backend_trait.specs.declared.answer.Polled.TheVariants as polls
 use Rattle.backend_trait.specs.Store.{Store}
 use Rattle.backend_trait.specs.Acts.{IsPromptly}
-use Rattle.plain_store.specs.Acting.{MayAct}
+use Rattle.backend_trait.specs.Acting.{MayAct}
 
 -- an answer that the table allows, as a prompt store gives it
 abbrev pub IsAnswer : Store → ℕ → Answer → Type 0

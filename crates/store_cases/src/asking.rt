@@ -1,9 +1,9 @@
 //! What a session does in a step of a history, as words: `1 insert 7 10`, `2 look`.
 use backend_trait::Request;
 use catalogue::Checked;
+use model_store::{delete_of, insert_of, select_of, serial_insert_of, update_of};
 use pool_base::{NoMemory, SessionId};
 use std::alloc::Global;
-use trial_statements::{delete_of, insert_of, select_of, serial_insert_of, update_of};
 
 /// What a session asks.
 #[derive(Clone, Copy)]

@@ -4,11 +4,10 @@ use crate::judge::is_right;
 use crate::shown::put_polled;
 use backend_trait::{Backend, Polled, Posted, Request};
 use case_lines::Told;
-use model_store::MemoryStore;
+use model_store::{MemoryStore, trial_tables};
 use plain_store::{Database, may_post};
 use pool_base::{NoMemory, SessionId};
 use std::alloc::Global;
-use trial_statements::trial_tables;
 
 /// Both stores.
 #[derive(Drop)]

@@ -5,10 +5,10 @@
 use crate::asking::{Ask, Deed, deed_of, first_word, request_of, session_of};
 use backend_trait::Answer;
 use case_lines::{Around, Told};
+use model_store::trial_tables;
 use plain_store::{Database, is_crossed, is_held_up, is_in_cycle, may_act, may_post};
 use pool_base::{Code, NoMemory, SessionId};
 use std::alloc::Global;
-use trial_statements::trial_tables;
 
 /// What a session is told that begins, writes one row or ends.
 fn reply_to(ask: Ask) -> Answer {

@@ -12,16 +12,15 @@
 //! the next snapshot, before another request, or where the link settles.
 ghost use Rattle.std.specs.Prelude.{◌≡◌, ◌<◌, ◌≤◌, ◌⊎◌, length, false, true, IfOk, IfNone, IfSome, None, Some};
 ghost use Rattle.pool_base.specs.Outside.{Rose};
-ghost use Rattle.link_words.specs.Forms.{IsPolled};
+ghost use Rattle.backend_trait.specs.LinkForms.{IsPolled};
 ghost use Rattle.tcp_link.specs.Links.{Answers, pending_of, faults_of};
 
 use crate::codes::PROGRAM_LIMIT_EXCEEDED;
 use crate::debt::{Debt, Ended};
 use crate::outbox::{Emptied, Outbox};
 use crate::wire::{Received, Wire};
-use backend_trait::{Polled, Posted, Request};
+use backend_trait::{Link, Polled, Posted, Request};
 use catalogue::Catalogue;
-use link_words::Link;
 use pool_base::{Code, NoMemory};
 use postgres_link::{Inbox, Reply, Wanted};
 use postgres_talk::{Ending, NotSpelled, Said, Spelled, Talk, answer_of, spell, spell_next};

@@ -7,7 +7,7 @@ use Rattle.schema.specs.declared.catalogue.TableDef.{TableDef}
 use Rattle.backend_trait.specs.declared.request.Request.{Request}
 use Rattle.backend_trait.specs.declared.answer.Answer.{Answer}
 use Rattle.backend_trait.specs.Store.{Pending, Store, posted, acted}
-use Rattle.plain_store.specs.Acting.{acted_by}
+use Rattle.backend_trait.specs.Acting.{acted_by}
 use Rattle.one_copy_model.specs.declared.deed.Deed.{Deed}
 use Rattle.one_copy_model.specs.declared.deed.Entry.{Entry}
 use Rattle.one_copy_model.specs.Marks.{is_crossed, with_mark, marked}

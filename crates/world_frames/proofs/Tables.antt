@@ -6,7 +6,7 @@ use Rattle.backend_trait.specs.declared.request.Request.{Request}
 use Rattle.backend_trait.specs.declared.request.Request.TheVariants as requests
 use Rattle.backend_trait.specs.declared.answer.Answer.{Answer}
 use Rattle.backend_trait.specs.Store.{Transaction, Absent, Alive, Dead, Pending, Store, is_refusal, committed_by, answered, refused}
-use Rattle.plain_store.specs.Acting.{acted_by}
+use Rattle.backend_trait.specs.Acting.{acted_by}
 use Rattle.one_copy_model.specs.declared.deed.Deed.{Deed}
 use Rattle.one_copy_model.specs.declared.deed.Deed.TheVariants.{Asks, Gets, Falls}
 use Rattle.one_copy_model.specs.declared.deed.Entry.{Entry}

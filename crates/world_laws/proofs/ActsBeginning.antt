@@ -5,7 +5,7 @@ use Rattle.std.specs.FinMap as fin
 use Rattle.std.proofs.lemmas.Bool.Decides.{leb_tells}
 use Rattle.pool_base.specs.declared.session_id.SessionId.{SessionId}
 use Rattle.pool_base.specs.declared.backend_id.BackendId.{BackendId}
-use Rattle.typed_effects.specs.Typed.{AreAllStored}
+use Rattle.backend_trait.specs.Typed.{AreAllStored}
 use Rattle.backend_trait.specs.declared.answer.Answer.{Answer}
 use Rattle.backend_trait.specs.declared.answer.Answer.TheVariants as answers
 use Rattle.backend_trait.specs.declared.request.Request.{Request}
@@ -14,7 +14,7 @@ use Rattle.backend_trait.specs.Keys.{Place, place_order}
 use Rattle.backend_trait.specs.Rows.{Rows}
 use Rattle.backend_trait.specs.Effect.{has_place}
 use Rattle.backend_trait.specs.Store.{Live, Transaction, Absent, Alive, Pending, Store, held_by, begun, acted}
-use Rattle.plain_store.specs.Acting.{MayAct}
+use Rattle.backend_trait.specs.Acting.{MayAct}
 use Rattle.backend_trait.specs.Acts.{MayAnswer, WhereSome}
 use Rattle.backend_trait.proofs.RowLaws.{same_rows}
 use Rattle.session_machine.specs.declared.machine.Ending.{Ending}

@@ -6,7 +6,7 @@ use Rattle.std.proofs.lemmas.Bool.Decides.{leb_tells}
 use Rattle.pool_base.specs.declared.session_id.SessionId.{SessionId}
 use Rattle.pool_base.specs.declared.backend_id.BackendId.{BackendId}
 use Rattle.sql_eval.specs.declared.row.Row.{Row}
-use Rattle.typed_effects.specs.Typed.{AreAllStored}
+use Rattle.backend_trait.specs.Typed.{AreAllStored}
 use Rattle.backend_trait.specs.declared.answer.Answer.{Answer}
 use Rattle.backend_trait.specs.declared.answer.Answer.TheVariants as answers
 use Rattle.backend_trait.specs.declared.request.Request.TheVariants as requests

@@ -16,10 +16,10 @@ use Rattle.sql_eval.specs.Reads.{alone, kept, entries_read, shown, listed, limit
 use Rattle.sql_eval.specs.Ordered.{ordered}
 use Rattle.sql_eval.specs.Effects as effects
 use Rattle.sql_eval.specs.Effects.{Reads, Writes, given_by}
-use Rattle.typed_effects.proofs.Walks.{behind_ok, given_is as ok_is}
+use Rattle.backend_trait.proofs.Walks.{behind_ok, given_is as ok_is}
 use Rattle.outcomes.proofs.Giving.{given_is}
-use Rattle.model_store.proofs.NumberLaws.{IsMovedBy, run_moved}
-use Rattle.session_core.proofs.Numbers.{numbers_apart}
+use Rattle.backend_trait.proofs.Moved.{IsMovedBy, run_moved}
+use Rattle.backend_trait.proofs.Undrawn.{numbers_apart}
 use Rattle.backend_trait.specs.Alone.{given_on}
 use Rattle.backend_trait.proofs.KeyLaws.{place_total}
 use Rattle.backend_trait.proofs.RowLaws.{same_changes, get-joined_changes, change_over}

@@ -8,11 +8,11 @@ use Rattle.std.proofs.lemmas.List.{append-nil}
 use Rattle.pool_base.specs.declared.session_id.SessionId.{SessionId}
 use Rattle.pool_base.specs.declared.backend_id.BackendId.{BackendId}
 use Rattle.schema.specs.declared.catalogue.TableDef.{TableDef}
-use Rattle.schema_print.specs.Allowed.{AreAllowed}
+use Rattle.schema.specs.Allowed.{AreAllowed}
 use Rattle.catalogue.specs.declared.checked.Checked.{Checked}
 use Rattle.classifier.specs.Classes.{lock_of}
 use Rattle.sql_eval.specs.declared.row.Row.{Row}
-use Rattle.typed_effects.specs.Typed.{IsStored, AreAllStored}
+use Rattle.backend_trait.specs.Typed.{IsStored, AreAllStored}
 use Rattle.outcomes.specs.Stored as sets
 use Rattle.outcomes.proofs.Shaped.{answer_shaped, rows_shaped}
 use Rattle.outcomes.proofs.StoredRows.{laid_stored, left_stored}

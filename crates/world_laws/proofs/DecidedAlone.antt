@@ -7,7 +7,7 @@ use Rattle.schema.specs.declared.catalogue.TableDef.{TableDef}
 use Rattle.backend_trait.specs.declared.answer.Answer.{Answer}
 use Rattle.backend_trait.specs.Rows.{with_at}
 use Rattle.backend_trait.specs.Store.{Alive, Absent, request_in as waiting_in}
-use Rattle.plain_store.specs.Acting.{drawn_waiting}
+use Rattle.backend_trait.specs.Acting.{drawn_waiting}
 use Rattle.session_orders.specs.declared.outcome.Outcome.{Outcome}
 use Rattle.session_machine.specs.declared.machine.Machine.{Machine}
 use Rattle.session_machine.specs.declared.machine.Stage.{Stage}

@@ -8,7 +8,7 @@ use Rattle.backend_trait.specs.declared.request.Request.TheVariants as requests
 use Rattle.backend_trait.specs.declared.answer.Answer.{Answer}
 use Rattle.backend_trait.specs.declared.answer.Answer.TheVariants as answers
 use Rattle.backend_trait.specs.Store.{Transaction, Absent, Alive, Dead, Pending, Store, posted, committed_by, answered, refused, is_refusal, where_live, made_stale}
-use Rattle.plain_store.specs.Acting.{acted_by}
+use Rattle.backend_trait.specs.Acting.{acted_by}
 use Rattle.session_orders.specs.declared.order.OrderBody.{OrderBody}
 use Rattle.session_orders.specs.declared.order.OrderBody.TheVariants as orders
 use Rattle.session_orders.specs.declared.outcome.Outcome.{Outcome}

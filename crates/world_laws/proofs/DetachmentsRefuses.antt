@@ -11,7 +11,7 @@ use Rattle.pool_base.specs.declared.gate_call.GateAnswer.{GateAnswer}
 use Rattle.schema.specs.declared.catalogue.TableDef.{TableDef}
 use Rattle.backend_trait.specs.declared.answer.Answer.{Answer}
 use Rattle.backend_trait.specs.declared.answer.Answer.TheVariants as answers
-use Rattle.plain_store.specs.Acting.{drawn_waiting}
+use Rattle.backend_trait.specs.Acting.{drawn_waiting}
 use Rattle.snapshot_gate.specs.Function.{step}
 use Rattle.session_machine.specs.declared.action.Cause.{Cause}
 use Rattle.session_machine.specs.declared.action.SessionEvent.{SessionEvent}

@@ -18,7 +18,7 @@ use Rattle.backend_trait.specs.Effect.{Conflicts, both_wants, these_places, tabl
 use Rattle.backend_trait.specs.Runnable.{IsRunnable, is_given}
 use Rattle.backend_trait.specs.Store.{Live, Transaction, Absent, Alive, Pending, Store, WhereLive, IsLocked, MayRunIn, view_of, next_for, held_by, table_lock, given_to, where_live, settled, acted, answered, refused, is_refusal, drawn_by, request_in as waiting_in}
 use Rattle.backend_trait.specs.Acts.{IsFree, IsFresh, IsOf, IsCrossed, MayRefuse, MayGive, MayRun, MayAnswer, WhereSome, given_of}
-use Rattle.plain_store.specs.Acting.{drawn_waiting}
+use Rattle.backend_trait.specs.Acting.{drawn_waiting}
 use Rattle.session_machine.specs.declared.work.Class.TheVariants as classes
 use Rattle.session_machine.specs.declared.work.Work.{Work}
 use Rattle.session_machine.specs.declared.machine.Stage.TheVariants.{Inserting}

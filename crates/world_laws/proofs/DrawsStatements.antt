@@ -9,7 +9,7 @@ use Rattle.classifier.specs.declared.class.Class.{Class as BodyClass}
 use Rattle.classifier.specs.declared.class.Class.TheVariants as class
 use Rattle.classifier.specs.Classes.{has_serial, class_of, locked, lock_of}
 use Rattle.sql_eval.specs.Effects.{table_in as table_of}
-use Rattle.session_core.proofs.Numbers.{numbers_apart}
+use Rattle.backend_trait.proofs.Undrawn.{numbers_apart}
 use Rattle.backend_trait.specs.declared.request.Request.TheVariants as requests
 use Rattle.backend_trait.specs.Rows.{Rows}
 use Rattle.backend_trait.specs.Effect.{Given, effect_of, table_in}

@@ -12,7 +12,7 @@ use Rattle.classifier.specs.Classes.{lock_of}
 use Rattle.backend_trait.specs.Effect.{nothing}
 use Rattle.backend_trait.specs.Rows.{with_at}
 use Rattle.backend_trait.specs.Store.{Live, Transaction, Absent, Alive, Dead, Pending, Store, IsLocked, where_live, made_stale, settled, committed_by, answered, refused, is_refusal, drawn, drawn_by, request_in as waiting_in}
-use Rattle.plain_store.specs.Acting.{acted_by, drawn_waiting}
+use Rattle.backend_trait.specs.Acting.{acted_by, drawn_waiting}
 use Rattle.session_machine.specs.declared.work.Class.{Class}
 use Rattle.session_machine.specs.declared.work.Class.TheVariants as classes
 use Rattle.session_machine.specs.declared.work.Work.{Work}
@@ -32,7 +32,7 @@ use Rattle.one_copy_model.specs.Invariant.{AtDeath, AtDeathIf, asks_at, wants_of
 use Rattle.world_frames.proofs.Places.{with_at-same, with_at-other}
 use Rattle.world_deeds.proofs.Deeds.{entry, deed_passes}
 use Rattle.world_deeds.proofs.Endings.{Ends}
-use Rattle.model_store.proofs.NumberLaws.{IsMovedBy, run_moved}
+use Rattle.backend_trait.proofs.Moved.{IsMovedBy, run_moved}
 use Rattle.world_laws.proofs.MarksWanting.{unlocked}
 
 -- what a work asks for there draws nothing: a serial insert asks for its table's lock, and another draws no number

@@ -32,7 +32,7 @@ use Rattle.world_deeds.proofs.Endings.{Ends}
 use Rattle.world_deeds.proofs.Livings.{none_of}
 use Rattle.world_deeds.proofs.Finding.{one_of_eight}
 use Rattle.world_laws.specs.Dying.{is_inserting}
-use Rattle.plain_store.specs.Acting.{drawn_waiting}
+use Rattle.backend_trait.specs.Acting.{drawn_waiting}
 use Rattle.world_frames.proofs.Tables.{tables_there}
 use Rattle.world_frames.proofs.Locks.{locks_ended}
 use Rattle.world_laws.proofs.FallsDeaths.{dies, point_asks, same_in}

@@ -4,7 +4,7 @@ use Rattle.pool_base.specs.declared.session_id.SessionId.{SessionId}
 use Rattle.pool_base.specs.declared.gate_call.GateCall.{GateCall}
 use Rattle.pool_base.specs.declared.gate_call.GateCall.TheVariants as calls
 use Rattle.pool_base.specs.declared.gate_call.GateAnswer.{GateAnswer}
-use Rattle.schema_print.specs.Allowed.{AreAllowed}
+use Rattle.schema.specs.Allowed.{AreAllowed}
 use Rattle.session_machine.specs.declared.action.SessionEvent.{SessionEvent}
 use Rattle.session_machine.specs.declared.action.SessionEvent.TheVariants as events
 use Rattle.one_copy_model.specs.declared.event.Event.{Event}

@@ -14,8 +14,8 @@ use Rattle.backend_trait.specs.Rows.{Changes, with_at}
 use Rattle.backend_trait.specs.Effect.{Wants, Given, Gives, Conflicts, same_place, same_table, table_left, table_right, has_place, these_places, is_among, table_in}
 use Rattle.backend_trait.specs.Store.{Live, Transaction, Absent, Alive, Dead, Store, WhereLive, is_refusal, held_by, table_lock, given_to, view_of, next_for}
 use Rattle.backend_trait.specs.Acts.{IsOf, given_of, wants_in}
-use Rattle.plain_store.proofs.Telling.{or_right}
-use Rattle.plain_store.proofs.PlaceLaws.{among_both}
+use Rattle.backend_trait.proofs.Telling.{or_right}
+use Rattle.backend_trait.proofs.Among.{among_both}
 use Rattle.session_machine.specs.declared.work.Class.{Class}
 use Rattle.session_machine.specs.declared.work.Work.{Work}
 use Rattle.session_machine.specs.Classes.{class_in as own_class}

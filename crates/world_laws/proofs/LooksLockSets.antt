@@ -12,9 +12,9 @@ use Rattle.backend_trait.specs.Keys.{Place}
 use Rattle.backend_trait.specs.Rows.{with_at}
 use Rattle.backend_trait.specs.Effect.{Wants, nothing, both_wants, Conflicts, same_place, same_table, table_left, table_right, is_among, Given, Fails, Gives, effect_of, table_in}
 use Rattle.backend_trait.specs.Store.{Live, Transaction, Absent, Alive, Dead, Store, held_by, table_lock, with_places, given_to, view_of, next_for, is_refusal}
-use Rattle.plain_store.proofs.Telling.{or_left}
-use Rattle.plain_store.proofs.PlaceLaws.{among_both}
-use Rattle.plain_store.proofs.HeldLaws.{to_right}
+use Rattle.backend_trait.proofs.Telling.{or_left}
+use Rattle.backend_trait.proofs.Among.{among_both}
+use Rattle.backend_trait.proofs.Among.{to_right}
 use Rattle.session_machine.specs.declared.work.Work.{Work}
 use Rattle.session_machine.specs.declared.work.Class.{Class}
 use Rattle.session_machine.specs.declared.work.Class.TheVariants as classes

@@ -37,7 +37,7 @@ use Rattle.one_copy_model.specs.declared.deed.Deed.TheVariants.{Asks, Falls}
 use Rattle.one_copy_model.specs.declared.deed.Entry.{Entry}
 use Rattle.one_copy_model.specs.declared.event.Event.TheVariants.{Of}
 use Rattle.one_copy_model.specs.Marks.{with_mark, marked}
-use Rattle.plain_store.specs.Acting.{drawn_waiting}
+use Rattle.backend_trait.specs.Acting.{drawn_waiting}
 use Rattle.one_copy_model.specs.SingleRun.{store_after, after_death, IsRun, of_session, deeds_of, deeds_since, answer_in}
 use Rattle.one_copy_model.specs.World.{World, MayHappen}
 use Rattle.one_copy_model.specs.Places.{at_granted, place_of, opening_of, refused_opening, refused_look, where_decided, where_refused, code_in, closing_look, closing_chain, one_kept, kept_of, decided_opening}

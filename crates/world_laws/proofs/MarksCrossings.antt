@@ -30,7 +30,7 @@ use Rattle.world_frames.proofs.Made.{ahead_made, made_by}
 use Rattle.world_laws.proofs.ChainsChaining.{class_in}
 use Rattle.world_laws.proofs.ChainsTaking.{none_below}
 use Rattle.world_frames.proofs.Tables.{tables_there}
-use Rattle.session_core.proofs.Numbers.{numbers_apart}
+use Rattle.backend_trait.proofs.Undrawn.{numbers_apart}
 use Rattle.world_laws.proofs.MarksWanting.{wants_within, wants_no_lock, serial_table, unlocked, under_lock}
 
 -- a statement that takes no lock first; another request asks for the same whatever the numbers

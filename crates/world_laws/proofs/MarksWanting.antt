@@ -18,8 +18,8 @@ use Rattle.sql_eval.specs.declared.effect.Change.{Change}
 use Rattle.sql_eval.specs.Walks.{Coded}
 use Rattle.sql_eval.specs.Reads.{alone}
 use Rattle.sql_eval.specs.Effects.{Given as Found, Reads, Writes, given_by, table_in as table_of}
-use Rattle.effect_laws.proofs.Places.{place_antisymmetric}
-use Rattle.effect_laws.proofs.Tables.{stay_in}
+use Rattle.backend_trait.proofs.Places.{place_antisymmetric}
+use Rattle.backend_trait.proofs.Tables.{stay_in}
 use Rattle.backend_trait.specs.Keys.{Place, place, place_order, is_place}
 use Rattle.backend_trait.specs.Rows.{Rows}
 use Rattle.backend_trait.specs.Effect.{Wants, Conflicts, same_place, same_table, table_left, table_right, both_wants, is_among, has_place, place_changed, keys_in, given_as, table_in, number_from, Given, Fails, Gives, effect_of}

@@ -5,7 +5,7 @@ use Rattle.std.specs.FinMap as fin
 use Rattle.pool_base.specs.Sets.{has}
 use Rattle.schema.specs.declared.catalogue.TableDef.{TableDef}
 use Rattle.backend_trait.specs.declared.answer.Answer.{Answer}
-use Rattle.typed_effects.specs.Typed.{IsStored, AreAllStored}
+use Rattle.backend_trait.specs.Typed.{IsStored, AreAllStored}
 use Rattle.backend_trait.specs.Rows.{Rows, with_at}
 use Rattle.backend_trait.specs.Effect.{Conflicts}
 use Rattle.backend_trait.specs.Store.{Live, Transaction, Alive, Pending, Store, held_by}

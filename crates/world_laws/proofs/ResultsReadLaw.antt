@@ -16,7 +16,7 @@ use Rattle.backend_trait.specs.Rows.{Changes, no_changes}
 use Rattle.backend_trait.specs.Effect.{Given, Fails, Gives, Conflicts, table_in}
 use Rattle.backend_trait.specs.Store.{Live, Transaction, Absent, Alive, Dead, Pending, Store, WhereLive, acted, is_refusal, held_by, given_to, view_of as seen_by_it, next_for, drawn, where_live as where_alive}
 use Rattle.backend_trait.specs.Acts.{MayAnswer, MayGive, WhereSome, given_of}
-use Rattle.plain_store.specs.Acting.{drawn_waiting}
+use Rattle.backend_trait.specs.Acting.{drawn_waiting}
 use Rattle.snapshot_gate.specs.Function.{view_of}
 use Rattle.session_machine.specs.declared.action.SessionEvent.{SessionEvent}
 use Rattle.session_machine.specs.declared.action.SessionEvent.TheVariants.{Called}

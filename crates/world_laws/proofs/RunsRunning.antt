@@ -15,9 +15,9 @@ use Rattle.backend_trait.specs.Rows.{Changes, no_changes, joined_changes, with_a
 use Rattle.backend_trait.specs.Effect.{Wants, nothing, Given, Gives, Conflicts, same_place, same_table, table_left, table_right, has_place, these_places, is_among, table_in}
 use Rattle.backend_trait.specs.Store.{Live, Transaction, Absent, Alive, Dead, Pending, Store, WhereLive, is_refusal, held_by, given_to, with_places, view_of as seen_by_it, next_for, drawn}
 use Rattle.backend_trait.specs.Acts.{MayAnswer, given_of}
-use Rattle.plain_store.specs.Acting.{drawn_waiting}
-use Rattle.plain_store.proofs.Telling.{or_right}
-use Rattle.plain_store.proofs.PlaceLaws.{among_both}
+use Rattle.backend_trait.specs.Acting.{drawn_waiting}
+use Rattle.backend_trait.proofs.Telling.{or_right}
+use Rattle.backend_trait.proofs.Among.{among_both}
 use Rattle.session_machine.specs.declared.work.Work.{Work}
 use Rattle.session_machine.specs.declared.work.Class.{Class}
 use Rattle.session_machine.specs.declared.work.Class.TheVariants as classes

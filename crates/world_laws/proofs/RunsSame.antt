@@ -10,7 +10,7 @@ use Rattle.sql_eval.specs.contracts.row.RowPartialEq.TheImpl as row_eq
 use Rattle.backend_trait.specs.declared.answer.Answer.{Answer}
 use Rattle.backend_trait.specs.declared.answer.Answer.TheVariants as answers
 use Rattle.backend_trait.specs.Store.{is_refusal}
-use Rattle.plain_store.proofs.Telling.{Tells}
+use Rattle.backend_trait.proofs.Telling.{Tells}
 use Rattle.session_machine.specs.Answers.{is_same}
 
 value_told : (x y : Value) → Tells ((value_eq.ghosts).eq x y) (x ≡ y)

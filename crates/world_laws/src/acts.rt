@@ -7,7 +7,7 @@ ghost use Rattle.backend_trait.specs.declared.answer.Answer.{Answer};
 ghost use Rattle.backend_trait.specs.declared.request.Request.TheVariants.{Commit, Lock, Rollback, Run, TakeSnapshot};
 ghost use Rattle.backend_trait.specs.Store.{Pending, is_refusal};
 ghost use Rattle.catalogue.specs.declared.checked.Checked.{Checked};
-ghost use Rattle.schema_print.specs.Allowed.{AreAllowed};
+ghost use Rattle.schema.specs.Allowed.{AreAllowed};
 ghost use Rattle.one_copy_model.specs.declared.event.Event.TheVariants.{Act};
 ghost use Rattle.one_copy_model.specs.World.{MayHappen};
 ghost use Rattle.one_copy_model.specs.Tracking.{Tracked, tracked_after};

@@ -4,7 +4,7 @@ ghost use Rattle.pool_base.specs.declared.backend_set.BackendSet.{BackendSet};
 ghost use Rattle.pool_base.specs.declared.gate_call.GateCall.{GateCall};
 ghost use Rattle.pool_base.specs.declared.session_id.SessionId.{SessionId};
 ghost use Rattle.schema.specs.declared.catalogue.TableDef.{TableDef};
-ghost use Rattle.schema_print.specs.Allowed.{AreAllowed};
+ghost use Rattle.schema.specs.Allowed.{AreAllowed};
 ghost use Rattle.session_machine.specs.declared.action.Action.TheVariants.{Gate};
 ghost use Rattle.session_machine.specs.declared.machine.ReadPolicy.{ReadPolicy};
 ghost use Rattle.session_machine.specs.Rules.{next_action};

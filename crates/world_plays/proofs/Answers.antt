@@ -10,7 +10,7 @@ use Rattle.backend_trait.specs.declared.answer.Answer.TheVariants as answers
 use Rattle.backend_trait.specs.Effect.{Wants, both_wants, Conflicts, Given, Fails, Gives, table_in}
 use Rattle.backend_trait.specs.Store.{Live, Transaction, Absent, Alive, Dead, Pending, Store, WhereLive, held_by, acted}
 use Rattle.backend_trait.specs.Acts.{MayRefuse, MayRun, MayLock, MayAnswer, Crosses, IsCrossed, Answers, WhereSome, given_of, wants_of_run, asked_by, has_lock}
-use Rattle.plain_store.specs.Acting.{MayAct, acted_by}
+use Rattle.backend_trait.specs.Acting.{MayAct, acted_by}
 use Rattle.one_copy_model.specs.Marks.{marked}
 use Rattle.one_copy_model.specs.SingleRun.{after_answer}
 use Rattle.world_plays.specs.Unmarked.{unmark, unmarked}

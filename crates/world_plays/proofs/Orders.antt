@@ -7,7 +7,7 @@ use Rattle.schema.specs.declared.catalogue.ColumnDef.{ColumnDef}
 use Rattle.schema.specs.declared.catalogue.Fill.{Fill}
 use Rattle.schema.specs.declared.catalogue.Fill.TheVariants as fill
 use Rattle.schema.specs.declared.catalogue.TableDef.{TableDef}
-use Rattle.schema_print.specs.Allowed.{AreAllowed, AreColumns, AreTables, IsFillOf}
+use Rattle.schema.specs.Allowed.{AreAllowed, AreColumns, AreTables, IsFillOf}
 use Rattle.catalogue.specs.declared.checked.Checked.{Checked}
 use Rattle.catalogue.specs.declared.checked.CheckedBody.{CheckedBody}
 use Rattle.catalogue.specs.declared.checked.CheckedBody.TheVariants as body

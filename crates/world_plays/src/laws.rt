@@ -2,7 +2,7 @@
 ghost use Rattle.std.specs.Prelude.{◌<◌, ℤ, List, length};
 ghost use Rattle.pool_base.specs.declared.backend_set.BackendSet.{BackendSet};
 ghost use Rattle.schema.specs.declared.catalogue.TableDef.{TableDef};
-ghost use Rattle.schema_print.specs.Allowed.{AreAllowed};
+ghost use Rattle.schema.specs.Allowed.{AreAllowed};
 ghost use Rattle.session_orders.specs.declared.order.OrderBody.{OrderBody};
 ghost use Rattle.session_machine.specs.declared.machine.ReadPolicy.{ReadPolicy};
 ghost use Rattle.session_machine.specs.declared.machine.Session.{Session};

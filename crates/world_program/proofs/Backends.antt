@@ -6,7 +6,7 @@ use Rattle.backend_trait.specs.declared.request.Request.{Request}
 use Rattle.backend_trait.specs.declared.answer.Answer.{Answer}
 use Rattle.backend_trait.specs.Store.{Pending}
 use Rattle.plain_store.specs.Meaning.{request_at, mark_in, pending_of}
-use Rattle.plain_store.proofs.Telling.{Tells, both_told, never}
+use Rattle.backend_trait.proofs.Telling.{Tells, both_told, never}
 use Rattle.one_copy_model.specs.World.{IsPending}
 use Rattle.world_program.specs.declared.data.Replica.{Replica}
 use Rattle.world_program.specs.Meaning.{store_in, answer_at, mail_in}

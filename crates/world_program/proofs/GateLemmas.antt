@@ -7,7 +7,7 @@ use Rattle.pool_base.specs.declared.gate_call.GateCall.{GateCall}
 use Rattle.pool_base.specs.declared.gate_call.GateCall.TheVariants as calls
 use Rattle.pool_base.specs.declared.gate_call.GateAnswer.{GateAnswer}
 use Rattle.pool_base.specs.declared.gate_call.GateAnswer.TheVariants.{Seen, Granted, Held, Spent}
-use Rattle.plain_store.proofs.Telling.{Tells, both_told, never, told_as, is_false}
+use Rattle.backend_trait.proofs.Telling.{Tells, both_told, never, told_as, is_false}
 use Rattle.snapshot_gate.specs.declared.state.GateState.{GateState}
 use Rattle.snapshot_gate.specs.Function.{step, MayCall}
 use Rattle.one_copy_model.specs.World.{GateGives}

@@ -10,3 +10,4 @@ mod UnderWay
 pub mod Alike
 pub mod Playing
 pub mod OneStore
+pub mod ProgramMarks

@@ -1,6 +1,6 @@
 -- Every schedule is of one store.
 use Rattle.std.proofs.Common.{ℕ, ◌<◌, List}
-use Rattle.schema_print.specs.Allowed.{AreAllowed}
+use Rattle.schema.specs.Allowed.{AreAllowed}
 use Rattle.one_copy_model.specs.declared.event.Event.{Event}
 use Rattle.one_copy_model.specs.World.{IsSchedule}
 use Rattle.world_laws.proofs.InductionSchedules.{one_copy, agreement, commits_done}

@@ -9,7 +9,7 @@ use Rattle.backend_trait.specs.declared.request.Request.TheVariants as requests
 use Rattle.backend_trait.specs.declared.answer.Answer.{Answer}
 use Rattle.backend_trait.specs.Rows.{with_at}
 use Rattle.backend_trait.specs.Store.{Store, Pending, Transaction, Absent, Alive, Dead, refused, answered, committed_by, is_refusal}
-use Rattle.plain_store.specs.Acting.{acted_by}
+use Rattle.backend_trait.specs.Acting.{acted_by}
 use Rattle.plain_store.specs.Kept.{IsKept}
 use Rattle.session_machine.specs.declared.action.SessionEvent.{SessionEvent}
 use Rattle.session_machine.specs.declared.action.SessionEvent.TheVariants as events

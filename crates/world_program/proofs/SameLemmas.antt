@@ -25,7 +25,7 @@ use Rattle.session_machine.specs.declared.action.Cause.TheVariants.{Fault, Diffe
 use Rattle.world_program.specs.Deciding.{same_call, same_request, same_tag, same_code, same_warning, same_outcome, same_cause, same_status}
 use Rattle.session_machine.proofs.Backends.{same_backend}
 use Rattle.session_machine.proofs.SameCode.{same_code as code_is}
-use Rattle.plain_store.proofs.Telling.{Tells, and_true, both_true}
+use Rattle.backend_trait.proofs.Telling.{Tells, and_true, both_true}
 use Rattle.world_program.proofs.Trees.{never, value_told}
 use Rattle.world_program.proofs.Statements.{checked_told}
 

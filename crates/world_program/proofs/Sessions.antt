@@ -18,7 +18,7 @@ use Rattle.session_machine.specs.Rules.{due, action_at, after, after_at}
 use Rattle.session_machine.proofs.Backends.{same_backend}
 use Rattle.session_engine.specs.Handing.{handed, asked_of, IsPost, IsDetach, IsReply, Posts, Detaches}
 use Rattle.session_engine.specs.Tidying.{tidied}
-use Rattle.plain_store.proofs.Telling.{Tells, both_told, never, itself, told_as}
+use Rattle.backend_trait.proofs.Telling.{Tells, both_told, never, itself, told_as}
 use Rattle.world_program.specs.Deciding.{is_call_due, post_due, detach_due, is_end_due, is_post, is_detach, is_reply}
 use Rattle.world_program.proofs.SameLemmas.{call_told, request_told, cause_told, outcome_told, status_told}
 

@@ -26,7 +26,7 @@ use Rattle.catalogue.specs.declared.checked.TypedCell.TheVariants as cells
 use Rattle.catalogue.specs.contracts.checked.TypedCellPartialEq.TheImpl as cell_eq
 use Rattle.catalogue.specs.declared.checked.TypedSet.{TypedSet}
 use Rattle.catalogue.specs.contracts.checked.TypedSetPartialEq.TheImpl as set_eq
-use Rattle.plain_store.proofs.Telling.{Tells, and_true, both_true}
+use Rattle.backend_trait.proofs.Telling.{Tells, and_true, both_true}
 use Rattle.world_program.proofs.Trees.{never, kind_told, expr_told}
 
 some_only : {A : Type 0} {test : A → A → Truth} → ((a b : A) → Tells (test a b) (a ≡ b)) → (x y : Option A) → option_eq test x y ≡ true → x ≡ y

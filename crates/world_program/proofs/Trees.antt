@@ -29,7 +29,7 @@ use Rattle.typed_sql.specs.contracts.typed.TypedSumPartPartialEq.TheImpl as summ
 use Rattle.typed_sql.specs.contracts.typed.TypedSumPartPartialEq.TheImpl.Laws as summand_laws
 use Rattle.typed_sql.specs.contracts.typed.TypedProductPartPartialEq.TheImpl as factor_eq
 use Rattle.typed_sql.specs.contracts.typed.TypedProductPartPartialEq.TheImpl.Laws as factor_laws
-use Rattle.plain_store.proofs.Telling.{Tells, and_true}
+use Rattle.backend_trait.proofs.Telling.{Tells, and_true}
 
 -- no test is both false and true
 pub never : {X : Type 0} → false ≡ true → X

@@ -1,8 +1,8 @@
 //! The world before its first event.
 ghost use Rattle.std.specs.Prelude.{◌≡◌, ◌<◌, ◌-◌, suc, min, None, IfOk, length};
 ghost use Rattle.backend_trait.specs.Store.{prepared};
-ghost use Rattle.schema_print.specs.Allowed.{AreAllowed};
-ghost use Rattle.schema_print.specs.Printed.{AreInRange};
+ghost use Rattle.schema.specs.Allowed.{AreAllowed};
+ghost use Rattle.schema.specs.Ranges.{AreInRange};
 ghost use Rattle.plain_store.specs.Blanks.{AllAre};
 ghost use Rattle.plain_store.specs.Meaning.{store_of};
 ghost use Rattle.one_copy_model.specs.Numbers.{session_of};
@@ -10,12 +10,12 @@ ghost use Rattle.world_program.specs.First.{AreNew, ArePrepared};
 
 use crate::data::{Replica, Replicas};
 use backend_trait::{Answer, Catalogue};
+use checked_sql::catalogue_copied;
 use plain_store::Database;
 use pool_base::{BackendSet, NoMemory, SessionId};
 use session_engine::Core;
 use session_machine::ReadPolicy;
 use snapshot_gate::Gate;
-use sql_copies::catalogue_copied;
 use std::alloc::Global;
 
 /// The number from 1 on that is nearest.

@@ -16,13 +16,13 @@ use crate::data::{Replica, Replicas};
 use crate::gates::gate_gives;
 use crate::takes::takes;
 use backend_trait::{Answer, Catalogue, Checked, is_runnable};
+use checked_sql::checked_copied;
 use one_copy_model::Event;
 use plain_store::may_act;
 use pool_base::{BackendId, Boxed, GateCall, NoMemory, SessionId};
 use session_engine::Standing;
 use session_machine::{GatePhase, SessionEvent, Status, Work, rewritten, work_of};
 use session_orders::{Order, OrderBody};
-use sql_copies::checked_copied;
 
 /// The moment of a statement that is ordered then.
 fn moment_at(standing: &Standing, ordered: i64) -> i64

@@ -18,11 +18,11 @@ use crate::data::Replicas;
 use crate::gates::gate_moved;
 use crate::session::moved;
 use backend_trait::{Answer, Request};
+use checked_sql::checked_copied;
 use one_copy_model::Event;
 use plain_store::Database;
 use pool_base::{BackendId, NoMemory, SessionId};
 use session_machine::SessionEvent;
-use sql_copies::checked_copied;
 use std::mem;
 
 fn request_copied(request: &Request) -> Result<Request, NoMemory>

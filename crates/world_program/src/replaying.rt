@@ -1,7 +1,7 @@
 //! The world behind a list of events.
 ghost use Rattle.std.specs.Prelude.{◌≡◌, ℕ, IfOk, Err};
-ghost use Rattle.schema_print.specs.Allowed.{AreAllowed};
-ghost use Rattle.schema_print.specs.Printed.{AreInRange};
+ghost use Rattle.schema.specs.Allowed.{AreAllowed};
+ghost use Rattle.schema.specs.Ranges.{AreInRange};
 ghost use Rattle.one_copy_model.specs.World.{after, after_all, MayHappen, IsSchedule, FailsAt};
 ghost use Rattle.world_program.specs.Meaning.{world_of};
 ghost use Rattle.world_program.specs.Alike.{AreAlike};
@@ -14,11 +14,11 @@ use crate::data::Replicas;
 use crate::fault::ReplayFault;
 use crate::may::may_happen;
 use crate::moving::step;
+use checked_sql::catalogue_copied;
 use one_copy_model::Event;
 use pool_base::BackendSet;
 use schema::Catalogue;
 use session_machine::ReadPolicy;
-use sql_copies::catalogue_copied;
 use std::alloc::Global;
 
 /// How a world begins: its tables, how the backend of a read is chosen, and the backends that are

@@ -7,11 +7,11 @@ ghost use Rattle.session_engine.specs.Cores.{machine_in};
 ghost use Rattle.session_engine.specs.Tidying.{tidied};
 
 use backend_trait::{Answer, Request};
+use checked_sql::checked_copied;
 use pool_base::{BackendId, Boxed, GateAnswer, GateCall, NoMemory};
 use session_engine::Core;
 use session_machine::{Cause, SessionEvent, Status};
 use session_orders::{Order, OrderBody, Outcome};
-use sql_copies::checked_copied;
 
 fn body_copied(body: &OrderBody) -> Result<OrderBody, NoMemory>
     ensures { IfOk result (λ copy. copy ≡ body.now) }

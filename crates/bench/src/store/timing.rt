@@ -1,12 +1,11 @@
 //! The runs that are timed, and what is told of them.
 use crate::store::turns::{ACTS, Load, key_behind, rounds};
 use backend_trait::Backend;
-use model_store::MemoryStore;
+use model_store::{MemoryStore, trial_tables};
 use pool_base::NoMemory;
 use std::alloc::Global;
 use std::io;
 use std::time::{Duration, Instant};
-use trial_statements::trial_tables;
 
 /// So many transactions are timed, whatever the number of sessions.
 const TRANSACTIONS: u8 = 192;

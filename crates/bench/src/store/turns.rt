@@ -2,10 +2,9 @@
 use crate::store::asking::is_granted;
 use crate::store::inserts::insert_of_rows;
 use backend_trait::Request;
-use model_store::MemoryStore;
+use model_store::{MemoryStore, select_of};
 use pool_base::{NoMemory, SessionId};
 use std::alloc::Global;
-use trial_statements::select_of;
 
 /// What each session asks in its transaction.
 pub const ACTS: u32 = 4;

@@ -1,7 +1,7 @@
 use Rattle.std.proofs.Common.{◌≡◌, take}
 use Rattle.std.specs.Prelude.{true}
 use Rattle.std.specs.List.{list_all}
-use Rattle.typed_effects.specs.Typed.{has_columns}
+use Rattle.backend_trait.specs.Typed.{has_columns}
 use Rattle.backend_trait.proofs.given.have_columns.Given as goal
 
 abbrev pub invariant-loop-row : goal.invariant-loop-row

@@ -2,7 +2,7 @@ use Rattle.std.proofs.Common.{◌≡◌, List, take, ap, sym, ◌∙◌, subst}
 use Rattle.std.specs.Prelude.{IfOk}
 use Rattle.std.proofs.lemmas.List.Elements.{All-take}
 use Rattle.sql_eval.specs.declared.effect.Change.{Change}
-use Rattle.typed_effects.specs.Typed.{AreAllStored}
+use Rattle.backend_trait.specs.Typed.{AreAllStored}
 use Rattle.backend_trait.specs.Effect.{changes_of, effect_of}
 use Rattle.backend_trait.specs.Rows.{Rows, laid_over}
 use Rattle.backend_trait.specs.Store.{next_for}

@@ -2,7 +2,7 @@ use Rattle.std.proofs.Common.{◌≡◌, ◌<◌, Bool, arith, subst, sym}
 use Rattle.std.specs.Prelude.{None}
 use Rattle.std.proofs.lemmas.Option.{slice_get_read}
 use Rattle.plain_store.specs.Meaning.{store_of}
-use Rattle.plain_store.proofs.Telling.{Tells}
+use Rattle.backend_trait.proofs.Telling.{Tells}
 use Rattle.plain_store.proofs.PostLaws.{idle_here}
 use Rattle.plain_store.proofs.posting.is_at_rest.Goals as goal
 

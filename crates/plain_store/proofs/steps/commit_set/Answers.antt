@@ -1,5 +1,5 @@
 use Rattle.std.proofs.Common.{List, subst, sym}
-use Rattle.typed_effects.specs.Typed.{AreAllStored}
+use Rattle.backend_trait.specs.Typed.{AreAllStored}
 use Rattle.outcomes.specs.declared.change.ChangeSet.{ChangeSet}
 use Rattle.outcomes.specs.Log.{rows_of}
 use Rattle.plain_store.specs.Meaning.{store_of}

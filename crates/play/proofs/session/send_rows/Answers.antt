@@ -6,7 +6,7 @@ use Rattle.pg_messages.specs.Server.{Fits}
 use Rattle.play.specs.Replies.{Sent, fields_of, tag_of}
 use Rattle.play.proofs.SendingLemmas.{sent_then, sent_on}
 use Rattle.play.proofs.RowLemmas.{RowsSent, columns_fit, is_at, row_in_range, row_is_countable, row_is_small, rows_all, rows_more, rows_none}
-use Rattle.typed_effects.specs.Typed.{has_columns}
+use Rattle.backend_trait.specs.Typed.{has_columns}
 use Rattle.play.proofs.session.send_rows.Goals as goal
 
 pub send-requires : goal.send-requires

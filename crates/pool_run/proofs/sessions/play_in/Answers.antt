@@ -3,7 +3,7 @@ use Rattle.pgproto.specs.Line.{line_of}
 use Rattle.session_player.specs.Written.{ArePlayed as AreSpoken}
 use Rattle.session_seat.specs.Policy.{policy_in}
 use Rattle.session_seat.specs.Shared.{first_shared, shared_of}
-use Rattle.schema_print.specs.Allowed.{AreAllowed}
+use Rattle.schema.specs.Allowed.{AreAllowed}
 use Rattle.recovery_seat.specs.Schedule.{IsSchedule, first_state, lines}
 use Rattle.recovery_seat.specs.Steps.{state}
 use Rattle.recovery_plays.specs.Following.{steps_of}

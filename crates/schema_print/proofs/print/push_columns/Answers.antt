@@ -1,7 +1,7 @@
 use Rattle.std.proofs.Common.{◌≡◌, ◌-◌, ◌+◌, List, [], ◌∷◌, length, take, drop, arith}
 use Rattle.std.specs.String.{string_bytes}
 use Rattle.schema.specs.declared.catalogue.ColumnDef.{ColumnDef}
-use Rattle.schema_print.specs.Printed.{IsFillInRange}
+use Rattle.schema.specs.Ranges.{IsFillInRange}
 use Rattle.schema_print.proofs.Steps.{first_and_others, fewer, one_column, no_column, empty, rest_of}
 use Rattle.schema_print.proofs.print.push_columns.Goals as goal
 

@@ -1,6 +1,6 @@
 use Rattle.std.proofs.Common.{length, ◌+◌, ◌≡◌}
 use Rattle.std.specs.String.{string_bytes}
-use Rattle.schema_print.specs.Printed.{AreColumnsInRange}
+use Rattle.schema.specs.Ranges.{AreColumnsInRange}
 use Rattle.schema_print.proofs.Steps.{ColumnsGoOn}
 use Rattle.schema_print.proofs.print.push_columns.Given as goal
 

@@ -1,7 +1,7 @@
 use Rattle.std.proofs.Common.{◌≡◌, ◌-◌, List, [], ◌∷◌, length, take, drop, arith}
 use Rattle.std.specs.String.{string_bytes}
 use Rattle.schema.specs.declared.catalogue.TableDef.{TableDef}
-use Rattle.schema_print.specs.Printed.{AreColumnsInRange}
+use Rattle.schema.specs.Ranges.{AreColumnsInRange}
 use Rattle.schema_print.proofs.Steps.{first_and_others, one_table, no_table, empty, rest_of}
 use Rattle.schema_print.proofs.print.push_tables.Goals as goal
 

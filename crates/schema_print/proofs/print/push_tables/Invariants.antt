@@ -1,6 +1,6 @@
 use Rattle.std.proofs.Common.{length}
 use Rattle.std.specs.String.{string_bytes}
-use Rattle.schema_print.specs.Printed.{AreInRange}
+use Rattle.schema.specs.Ranges.{AreInRange}
 use Rattle.schema_print.proofs.Steps.{GoesOn}
 use Rattle.schema_print.proofs.print.push_tables.Given as goal
 

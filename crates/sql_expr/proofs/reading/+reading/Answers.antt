@@ -1,11 +1,11 @@
 use Rattle.std.proofs.Common.{sym, subst, arith}
 use Rattle.std.proofs.lemmas.Result.{err_from_is_err_and}
-use Rattle.sql_grammar.specs.Grammar.{part}
-use Rattle.sql_grammar.specs.Reading.{Gives, tails}
+use Rattle.sql_tokens.specs.Grammar.{part}
+use Rattle.sql_tokens.specs.Reading.{Gives, tails}
 use Rattle.sql_expr.specs.declared.opening.Opening.TheVariants.{Parenthesis}
 use Rattle.sql_expr.specs.Grammar.{sum_part, product_part}
 use Rattle.sql_expr.specs.Reading.{after_or, after_and, after_comma, after_bars, after_sign, after_factor_sign, un_with, product_with, sum_with, not_with, and_with, behind}
-use Rattle.sql_grammar.proofs.Loops.{goes_on, ends, is_done}
+use Rattle.sql_tokens.proofs.Loops.{goes_on, ends, is_done}
 use Rattle.sql_expr.proofs.Behind.{behind_none, behind_minus, behind_not, behind_parenthesis, behind_call}
 use Rattle.sql_expr.proofs.reading.+reading.Goals as goal
 

@@ -1,10 +1,10 @@
 use Rattle.std.proofs.Common.{◌+◌, ◌*◌, ◌≤◌, length}
-use Rattle.sql_grammar.specs.Grammar.{part}
-use Rattle.sql_grammar.specs.Reading.{tails}
+use Rattle.sql_tokens.specs.Grammar.{part}
+use Rattle.sql_tokens.specs.Reading.{tails}
 use Rattle.sql_expr.specs.declared.opening.Opening.TheVariants.{Parenthesis}
 use Rattle.sql_expr.specs.Grammar.{sum_part, product_part}
 use Rattle.sql_expr.specs.Reading.{after_or, after_and, after_comma, after_bars, after_sign, after_factor_sign, un_with, product_with, sum_with, not_with, and_with, behind}
-use Rattle.sql_grammar.proofs.Loops.{Going}
+use Rattle.sql_tokens.proofs.Loops.{Going}
 use Rattle.sql_expr.proofs.reading.+reading.Given as goal
 
 abbrev pub decreases-nested : goal.decreases-nested

@@ -1,9 +1,9 @@
 use Rattle.std.proofs.Common.{sym, arith}
 use Rattle.std.proofs.lemmas.Result.{err_from_is_err_and}
-use Rattle.sql_grammar.specs.Grammar.{part}
-use Rattle.sql_grammar.specs.Reading.{tails}
+use Rattle.sql_tokens.specs.Grammar.{part}
+use Rattle.sql_tokens.specs.Reading.{tails}
 use Rattle.sql_expr.specs.Reading.{after_is, nullity_at}
-use Rattle.sql_grammar.proofs.Loops.{goes_on, ends, is_done}
+use Rattle.sql_tokens.proofs.Loops.{goes_on, ends, is_done}
 use Rattle.sql_expr.proofs.reading.tests.Goals as goal
 
 pub returns-in_err-part-clause-gives : goal.returns-in_err-part-clause-gives

@@ -1,8 +1,8 @@
 use Rattle.std.proofs.Common.{◌≤◌, length}
-use Rattle.sql_grammar.specs.Grammar.{part}
-use Rattle.sql_grammar.specs.Reading.{tails}
+use Rattle.sql_tokens.specs.Grammar.{part}
+use Rattle.sql_tokens.specs.Reading.{tails}
 use Rattle.sql_expr.specs.Reading.{after_is, nullity_at}
-use Rattle.sql_grammar.proofs.Loops.{Going}
+use Rattle.sql_tokens.proofs.Loops.{Going}
 use Rattle.sql_expr.proofs.reading.tests.Given as goal
 
 abbrev pub invariant-loop-after : goal.invariant-loop-after

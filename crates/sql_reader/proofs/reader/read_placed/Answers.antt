@@ -1,5 +1,5 @@
 use Rattle.std.proofs.Common.{Err, ap, ◌∙◌}
-use Rattle.sql_text.specs.declared.fault.TextError.{TextError}
+use Rattle.sql_reader.specs.declared.text_fault.TextError.{TextError}
 use Rattle.sql_reader.proofs.Told.{goes_wrong, are_read, only_read, refused}
 use Rattle.sql_reader.proofs.reader.read_placed.Goals as goal
 

@@ -1,5 +1,5 @@
 use Rattle.std.proofs.Common.{Bool, subst, sym}
-use Rattle.plain_store.proofs.Telling.{Tells, never}
+use Rattle.backend_trait.proofs.Telling.{Tells, never}
 use Rattle.one_copy_model.specs.World.{GateGives}
 use Rattle.world_program.proofs.GateLemmas.{given_told}
 use Rattle.world_program.proofs.gates.gate_gives.Goals as goal

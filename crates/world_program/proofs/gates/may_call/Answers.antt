@@ -1,6 +1,6 @@
 use Rattle.std.proofs.Common.{Bool, subst, sym}
 use Rattle.snapshot_gate.specs.Function.{MayCall}
-use Rattle.plain_store.proofs.Telling.{Tells}
+use Rattle.backend_trait.proofs.Telling.{Tells}
 use Rattle.world_program.proofs.GateLemmas.{call_told}
 use Rattle.world_program.proofs.gates.may_call.Goals as goal
 

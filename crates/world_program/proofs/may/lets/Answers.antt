@@ -1,6 +1,6 @@
 use Rattle.std.proofs.Common.{Bool, subst, sym}
 use Rattle.std.specs.Prelude.{slice_get}
-use Rattle.plain_store.proofs.Telling.{Tells}
+use Rattle.backend_trait.proofs.Telling.{Tells}
 use Rattle.session_machine.specs.declared.action.SessionEvent.{SessionEvent}
 use Rattle.session_machine.specs.declared.action.SessionEvent.TheVariants as events
 use Rattle.one_copy_model.specs.World.{Lets}

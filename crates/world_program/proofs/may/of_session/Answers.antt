@@ -1,4 +1,4 @@
-use Rattle.plain_store.proofs.Telling.{never}
+use Rattle.backend_trait.proofs.Telling.{never}
 use Rattle.world_program.proofs.Backends.{both_lets}
 use Rattle.world_program.proofs.may.of_session.Goals as goal
 

@@ -1,5 +1,5 @@
 use Rattle.plain_store.specs.Meaning.{store_of}
-use Rattle.one_copy_model.proofs.ProgramMarks.{acted_is}
+use Rattle.world_program.proofs.ProgramMarks.{acted_is}
 use Rattle.world_program.proofs.moving.store_acted.Goals as goal
 
 pub returns : goal.returns

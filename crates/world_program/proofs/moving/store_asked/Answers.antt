@@ -3,7 +3,7 @@ use Rattle.backend_trait.specs.declared.request.Request.{Request}
 use Rattle.backend_trait.specs.Store.{posted}
 use Rattle.plain_store.specs.Kept.{IsKept}
 use Rattle.plain_store.specs.Meaning.{store_of}
-use Rattle.one_copy_model.proofs.ProgramMarks.{asked_is}
+use Rattle.world_program.proofs.ProgramMarks.{asked_is}
 use Rattle.world_program.proofs.moving.store_asked.Goals as goal
 
 pub put-requires : goal.put-requires

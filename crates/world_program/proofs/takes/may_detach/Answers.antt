@@ -1,5 +1,5 @@
 use Rattle.std.proofs.Common.{sym, ap, ◌∙◌}
-use Rattle.plain_store.proofs.Telling.{never}
+use Rattle.backend_trait.proofs.Telling.{never}
 use Rattle.session_machine.specs.Rules.{next_action}
 use Rattle.session_engine.specs.Cores.{machine_in}
 use Rattle.world_program.specs.Deciding.{detach_due}

@@ -1,5 +1,5 @@
 use Rattle.std.proofs.Common.{Bool, sym, ap, ◌∙◌, subst}
-use Rattle.plain_store.proofs.Telling.{Tells}
+use Rattle.backend_trait.proofs.Telling.{Tells}
 use Rattle.session_machine.specs.Rules.{next_action}
 use Rattle.session_machine.specs.Allowed.{MayHappen}
 use Rattle.session_machine.specs.declared.action.SessionEvent.TheVariants as events

@@ -1,6 +1,6 @@
 use Rattle.std.proofs.Common.{List, ap, arith, sym, subst}
 use Rattle.schema.specs.declared.catalogue.TableDef.{TableDef}
-use Rattle.schema_print.specs.Allowed.{AreAllowed}
+use Rattle.schema.specs.Allowed.{AreAllowed}
 use Rattle.backend_trait.specs.Store.{Store}
 use Rattle.outcomes.specs.Next.{next_of}
 use Rattle.model_store.proofs.KeptLaws.{prepared_committed, prepared_given, prepared_is, prepared_stored}

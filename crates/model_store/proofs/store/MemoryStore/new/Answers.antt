@@ -1,6 +1,6 @@
 use Rattle.std.proofs.Common.{List, length, refl, ap, arith, length-append, sym, subst}
 use Rattle.schema.specs.declared.catalogue.TableDef.{TableDef}
-use Rattle.schema_print.specs.Allowed.{AreAllowed}
+use Rattle.schema.specs.Allowed.{AreAllowed}
 use Rattle.outcomes.specs.declared.change.ChangeSet.{ChangeSet}
 use Rattle.outcomes.specs.Next.{next_of}
 use Rattle.outcomes.specs.Stored.{AreAllStored}

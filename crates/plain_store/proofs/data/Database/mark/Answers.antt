@@ -2,7 +2,7 @@ use Rattle.std.proofs.Common.{◌≡◌, Bool, List, refl, sym, ap, ◌∙◌, s
 use Rattle.outcomes.specs.Next.{next_of}
 use Rattle.plain_store.specs.declared.sessions.Sessions.{Sessions}
 use Rattle.plain_store.specs.Meaning.{store_in, store_of}
-use Rattle.plain_store.specs.Acting.{IsMarked}
+use Rattle.backend_trait.specs.Acting.{IsMarked}
 use Rattle.plain_store.specs.Giving.{AreGiven}
 use Rattle.plain_store.specs.States.{States, states_of, states_in}
 use Rattle.plain_store.specs.Deciding.{marks_below}

@@ -1,9 +1,0 @@
-pub mod Truths
-pub mod Numbers
-pub mod Junctions
-pub mod Texts
-pub mod Values
-pub mod Walks
-pub mod Stood
-pub mod LeftRows
-pub mod ReadRows
