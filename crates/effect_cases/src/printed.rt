@@ -5,9 +5,9 @@ use crate::asked::{checked_with, tables_of};
 use case_lines::{Around, Told};
 use catalogue::{Catalogue, CheckFault, Checked};
 use checked_print::print_checked;
-use checked_round::{AgainFault, checked_again};
 use pool_base::List;
 use sql_profile::SqlFault;
+use statement_laws::{AgainFault, checked_again};
 use std::alloc::Global;
 
 /// The text of a checked statement.

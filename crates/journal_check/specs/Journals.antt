@@ -1,7 +1,7 @@
 -- Files whose text ends in a journal of a schedule of the replicated world.
 use Rattle.std.specs.Prelude.{◌≡◌, ℕ, List, ◌++◌}
 use Rattle.pool_base.specs.Outside.{Told, IsTold}
-use Rattle.world_plays.specs.Journals.{IsRun}
+use Rattle.play_laws.specs.Journals.{IsRun}
 
 -- such a run stands at the end of the text, behind whatever bytes
 pub record IsJournal (text : List ℕ) (n : ℕ) : Type 0 where

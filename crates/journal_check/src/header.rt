@@ -5,7 +5,7 @@ ghost use Rattle.pool_config.specs.Configuration.{IsAllowed};
 ghost use Rattle.schema.specs.Allowed.{AreAllowed};
 ghost use Rattle.schema.specs.Ranges.{AreInRange};
 ghost use Rattle.session_seat.specs.Shared.{AreFirst};
-ghost use Rattle.world_plays.specs.Journals.{IsStartOf};
+ghost use Rattle.play_laws.specs.Journals.{IsStartOf};
 
 use crate::fault::{JournalFault, of_config, of_schema};
 use crate::lines::{line_count, unmarked};
@@ -13,8 +13,8 @@ use pool_base::{BackendId, BackendSet};
 use pool_config::{Config, parse_config};
 use schema::{Catalogue, read_schema};
 use schema_print::tables_in_range;
-use schema_round::schemas_are_allowed;
 use session_seat::policy_of;
+use sql_profile::schemas_are_allowed;
 use std::alloc::Global;
 use world_program::Start;
 

@@ -1,6 +1,6 @@
 //! A journal: its header, and its events.
 ghost use Rattle.std.specs.Prelude.{◌≡◌, IfOk};
-ghost use Rattle.world_plays.specs.Journals.{IsRun};
+ghost use Rattle.play_laws.specs.Journals.{IsRun};
 ghost use Rattle.journal_check.specs.Journals.{IsJournal};
 
 use crate::fault::{JournalFault, of_run};

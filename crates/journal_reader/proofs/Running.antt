@@ -12,8 +12,8 @@ use Rattle.world_program.specs.UnderWay.{IsFit}
 use Rattle.world_program.proofs.Alike.{may_alike, after_alike}
 use Rattle.world_program.proofs.OneStore.{of_one_store}
 use Rattle.world_program.proofs.Playing.{fit_first, fit_all, fit_alike}
-use Rattle.journal_reader.specs.Lines.{line_of, lines_of}
-use Rattle.journal_reader.specs.Runs.{IsRunOf, IsRunOfOneStore, Leads}
+use Rattle.play_laws.specs.Lines.{line_of, lines_of}
+use Rattle.play_laws.specs.Runs.{IsRunOf, IsRunOfOneStore, Leads}
 
 schedule_snoc : (w : World) (es : List Event) (e : Event) → IsSchedule w es → MayHappen (after_all w es) e → IsSchedule w (es ++ e ∷ [])
 schedule_snoc w [] e s may = (may, tt)

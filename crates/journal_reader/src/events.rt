@@ -3,7 +3,7 @@ ghost use Rattle.std.specs.Prelude.{◌≡◌, ◌↔◌, IfOk, IsTrue};
 ghost use Rattle.schema.specs.Grammar.{IsWithin};
 ghost use Rattle.one_copy_model.specs.World.{MayHappen};
 ghost use Rattle.world_program.specs.Meaning.{world_of};
-ghost use Rattle.journal_reader.specs.Lines.{line_of};
+ghost use Rattle.play_laws.specs.Lines.{line_of};
 
 use crate::answers::answer;
 use crate::due::due_at;

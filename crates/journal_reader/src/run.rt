@@ -6,8 +6,8 @@ ghost use Rattle.schema.specs.Ranges.{AreInRange};
 ghost use Rattle.one_copy_model.specs.World.{MayHappen};
 ghost use Rattle.world_program.specs.Meaning.{world_of};
 ghost use Rattle.world_program.specs.UnderWay.{IsFit};
-ghost use Rattle.journal_reader.specs.Lines.{line_of};
-ghost use Rattle.journal_reader.specs.Runs.{IsRunOf, IsRunOfOneStore, Leads};
+ghost use Rattle.play_laws.specs.Lines.{line_of};
+ghost use Rattle.play_laws.specs.Runs.{IsRunOf, IsRunOfOneStore, Leads};
 
 use crate::events::read_event;
 use crate::fault::LineFault;

@@ -1,6 +1,6 @@
 //! The line of an event of the replicated world.
 ghost use Rattle.std.specs.Prelude.{◌≡◌, ◌++◌, ◌∷◌, [], IfOk, IsTrue};
-ghost use Rattle.journal_reader.specs.Lines.{line_at, line_of};
+ghost use Rattle.play_laws.specs.Lines.{line_at, line_of};
 
 use catalogue::Catalogue;
 use journal::print_event;

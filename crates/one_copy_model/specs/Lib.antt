@@ -11,3 +11,6 @@ pub mod Standing
 pub mod Chains
 pub mod Orders
 pub mod Invariant
+pub mod Facts
+pub mod Own
+pub mod Moments

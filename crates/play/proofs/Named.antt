@@ -22,8 +22,8 @@ use Rattle.sql_tree.specs.declared.statement.SelectList.TheVariants.{Star, Count
 use Rattle.sql_tree.specs.declared.statement.Statement.{Statement}
 use Rattle.sql_tree.specs.declared.statement.Statement.TheVariants as statement
 use Rattle.sql_reader.specs.Text.{IsTextOf}
-use Rattle.sql_formed.specs.Formed.{HasShortNames, IsShortItem, IsShortList}
-use Rattle.sql_formed.proofs.Law.{texts_are_formed}
+use Rattle.sql_profile.specs.Formed.{HasShortNames, IsShortItem, IsShortList}
+use Rattle.sql_profile.proofs.FormedLaw.{texts_are_formed}
 use Rattle.typed_sql.specs.declared.asks.Asks.{Asks}
 use Rattle.typed_sql.specs.declared.typed.TypedExpr.{TypedExpr}
 use Rattle.typed_sql.specs.Own.{Scope, alone, beside, column_from, column_meant, column_of, no_column, no_table as meant_in, over, wrong_table}
@@ -42,7 +42,7 @@ use Rattle.catalogue.specs.Naming.{item_name, own_name}
 use Rattle.catalogue.specs.Statements.{Body, BodyOf, Change, ColumnsOf, EndsOf, FilterOf, InsertInto, ItemOf, ListOf, ReadFrom, Remove, RowOf, SelectOf, SetOf, bare_read, change_of, column_desc, columns_from, has_room, insert_of, is_count, item_columns, no_table, read_of, remove_of, result_columns, table_from, table_named}
 use Rattle.checked_sql.specs.Sound.{Names, has_no_zero, is_sound}
 use Rattle.checked_sql.specs.OfCatalogue.{are_results, around, is_bare, is_body, is_change, is_count_result, is_empty, is_filter, is_insert, is_limit, is_list, is_name, is_none, is_order, is_plain, is_read_at, is_read_from, is_read_of, is_remove, is_result, of_table}
-use Rattle.runnable_sql.proofs.Law.{is_of_tables}
+use Rattle.statement_laws.proofs.RunnableLaw.{is_of_tables}
 use Rattle.play.specs.Answering.{AreNamed, IsNamed}
 use Rattle.play.proofs.Sure.{FoundIs, Sure, always, behind, gives, goes_on, made, made_of, told}
 use Rattle.play.proofs.RowLemmas.{no_zero}

@@ -17,10 +17,10 @@ use Rattle.classifier.specs.declared.class.Class.{Class}
 use Rattle.classifier.specs.declared.class.Class.TheVariants as class
 use Rattle.classifier.specs.Classes.{class_of, lock_of, locked, table_written}
 use Rattle.time_rewrite.specs.Rewriting.{at_moment}
-use Rattle.runnable_sql.proofs.Draws.{lock_stays}
-use Rattle.runnable_sql.proofs.Law.{can_be_run}
-use Rattle.sql_named.specs.Named.{IsNamedBy}
-use Rattle.refused_names.proofs.Law.{checked_is_told}
+use Rattle.statement_laws.proofs.Draws.{lock_stays}
+use Rattle.statement_laws.proofs.RunnableLaw.{can_be_run}
+use Rattle.sql_profile.specs.Named.{IsNamedBy}
+use Rattle.statement_laws.proofs.RefusedLaw.{checked_is_told}
 use Rattle.play.specs.Asked.{Asked, Asks, runs, unread, checked_asks, class_asks, IsAsked, no_text, of_text, faulty, empty, several, later, wrong, untimely, right}
 use Rattle.play.specs.Answering.{AreNamed, IsReady}
 use Rattle.play.proofs.Short.{code_short}

@@ -12,10 +12,10 @@ use Rattle.sql_tree.specs.declared.statement.Statement.TheVariants as statement
 use Rattle.sql_reader.specs.declared.fault.SqlFault.{SqlFault}
 use Rattle.sql_reader.specs.declared.fault.SqlFault.TheVariants as fault
 use Rattle.sql_reader.specs.Text.{IsRefusedBy}
-use Rattle.sql_named.specs.Named.{IsNamedBy}
-use Rattle.refused_names.specs.Told.{IsTold}
-use Rattle.refused_names.proofs.Refusals.{name_is_told, place_is_within}
-use Rattle.refused_names.proofs.Steps.{tested as name_tested}
+use Rattle.sql_profile.specs.Named.{IsNamedBy}
+use Rattle.statement_laws.specs.Told.{IsTold}
+use Rattle.statement_laws.proofs.Refusals.{name_is_told, place_is_within}
+use Rattle.statement_laws.proofs.Steps.{tested as name_tested}
 use Rattle.play.specs.Codes.{about, number_text, outside}
 use Rattle.play.specs.Asked.{left_out}
 use Rattle.play.specs.Answering.{IsShort}

@@ -9,7 +9,7 @@ use Rattle.sql_tree.specs.declared.statement.Statement.TheVariants as statement
 use Rattle.sql_reader.specs.declared.fault.SqlFault.{SqlFault}
 use Rattle.sql_reader.specs.declared.fault.SqlFault.TheVariants as fault
 use Rattle.sql_reader.specs.Text.{IsTextOf}
-use Rattle.sql_named.specs.Named.{IsNamedBy, LacksFromAt, HasTooMany}
+use Rattle.sql_profile.specs.Named.{IsNamedBy, LacksFromAt, HasTooMany}
 use Rattle.typed_sql.specs.declared.fault.CheckFault.TheVariants.{Refused}
 use Rattle.catalogue.specs.declared.checked.Checked.{Checked}
 use Rattle.catalogue.specs.Checking.{AnswersCheck}

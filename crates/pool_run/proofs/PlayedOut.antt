@@ -19,8 +19,8 @@ use Rattle.session_player.specs.Journals.{IsJournaled, IsPut}
 use Rattle.session_player.specs.Transcript.{IsTranscript}
 use Rattle.pool_run.specs.Replies.{kept_at}
 use Rattle.journal.specs.Header.{IsHeader}
-use Rattle.journal_reader.specs.Runs.{IsRunOfOneStore}
-use Rattle.world_plays.specs.Following.{started}
+use Rattle.play_laws.specs.Runs.{IsRunOfOneStore}
+use Rattle.play_laws.specs.Following.{started}
 use Rattle.pool_run.specs.Journals.{IsOfOneStore}
 use Rattle.pool_run.specs.declared.status.Status.{Status}
 use Rattle.pool_run.specs.declared.status.Status.TheVariants.{Done, NoneLeft}

@@ -17,10 +17,10 @@ use Rattle.recovery_seat.specs.Places.{IsLayout}
 use Rattle.recovery_seat.specs.Schedule.{AreOfSessions, Entry, IsSchedule, State, first_state, lines}
 use Rattle.session_player.specs.Written.{ArePlayed as AreSpoken}
 use Rattle.one_copy_model.specs.Statement.{ReplicasAgree}
-use Rattle.world_plays.specs.Journals.{IsRun}
-use Rattle.recovery_world.specs.Pool.{first_pool, pool_all, IsPlayed}
+use Rattle.play_laws.specs.Journals.{IsRun}
+use Rattle.recovery_laws.specs.Pool.{first_pool, pool_all, IsPlayed}
 use Rattle.recovery_laws.specs.Steps.{AllHold}
-use Rattle.recovery_plays.specs.Following.{steps_of}
+use Rattle.play_laws.specs.RecoveryFollowing.{steps_of}
 
 -- a text is the header of this configuration and these tables, and behind it the lines of a schedule of the replicated world that they say, and
 -- so of one run of one store

@@ -9,12 +9,12 @@ ghost use Rattle.pgproto.specs.Line.{line_of};
 ghost use Rattle.pool_run.specs.Drawing.{InsertDraws, LineDraws, NoneDraws, StatementDraws, StatementsDraw, TakesNone, TextDraws, is_numberless};
 
 use catalogue::{CheckFault, Checked, check};
-use check_laws::{checks_agree, none_is_checked_and_refused};
 use classifier::{Class, class_of};
 use pgproto::ScriptLine;
 use pool_base::NoMemory;
 use schema::{Catalogue, TableDef};
 use sql_tree::Statement;
+use statement_laws::{checks_agree, none_is_checked_and_refused};
 use std::alloc::Global;
 use wire_query::{Reading, read_text};
 

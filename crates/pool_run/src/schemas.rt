@@ -7,7 +7,7 @@ ghost use Rattle.pool_run.specs.Schemas.{IsSchemaAnswer, bad_schema_line};
 use pool_base::{List, NoMemory};
 use schema::{Catalogue, SchemaFault, read_schema};
 use schema_print::tables_in_range;
-use schema_round::schemas_are_allowed;
+use sql_profile::schemas_are_allowed;
 use std::alloc::Global;
 
 /// Why a schema is refused, or was not read.

@@ -14,16 +14,15 @@ use crate::running::prepare_first;
 use crate::status::Status;
 use backend_trait::Backend;
 use checked_sql::catalogue_copied;
+use play_laws::{plays_are_runs, plays_are_steps};
 use pool_base::{BackendSet, List, NoMemory, Sink};
 use recovery_laws::replicas_agree;
-use recovery_plays::plays_are_steps;
 use recovery_seat::without_recoveries;
 use schema::Catalogue;
 use session_player::{PlayFault, play};
 use session_seat::{Journal, Setting, World};
 use std::alloc::Global;
 use std::mem;
-use world_plays::plays_are_runs;
 
 /// Plays the script of a plan as sessions, over as many boxes as the configuration has backends.
 #[tactic(auto, using(crate::proofs::Ending::grows_none))]

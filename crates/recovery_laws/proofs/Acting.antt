@@ -9,10 +9,10 @@ use Rattle.pg_values.specs.declared.value.Value.{Value}
 use Rattle.checked_sql.specs.Sound.{are_fit}
 use Rattle.backend_trait.specs.Typed.{IsStored, AreAllStored}
 use Rattle.backend_trait.proofs.RowLaws.{laid_over-none}
-use Rattle.copy_laws.proofs.Ending.{commit_answer, commit_rows, commit_next, lock_leaves}
-use Rattle.copy_laws.proofs.Reading.{rows_answered, read_left}
-use Rattle.copy_laws.proofs.Emptying.{delete_leaves}
-use Rattle.copy_laws.proofs.Filled.{next_leaves}
+use Rattle.recovery_laws.proofs.Ending.{commit_answer, commit_rows, commit_next, lock_leaves}
+use Rattle.recovery_laws.proofs.Reading.{rows_answered, read_left}
+use Rattle.recovery_laws.proofs.Emptying.{delete_leaves}
+use Rattle.recovery_laws.proofs.Filled.{next_leaves}
 use Rattle.backend_trait.specs.declared.request.Request.{Request}
 use Rattle.backend_trait.specs.declared.request.Request.TheVariants as requests
 use Rattle.backend_trait.specs.declared.answer.Answer.{Answer}
@@ -29,8 +29,8 @@ use Rattle.online_recovery.specs.declared.standing.Task.TheVariants.{OpeningSour
 use Rattle.online_recovery.specs.State.{is_touched, is_copied, side_of}
 use Rattle.online_recovery.specs.Copies.{all_rows_in, no_rows_in, row_into, row_in}
 use Rattle.online_recovery.specs.Rules.{request_of}
-use Rattle.world_frames.proofs.Places.{with_at-same, with_at-other, same_or_other}
-use Rattle.copy_laws.specs.Copied.{Grants, Leaves, IsFilled, rows_copied}
+use Rattle.one_copy_model.proofs.Places.{with_at-same, with_at-other, same_or_other}
+use Rattle.recovery_laws.specs.Copied.{Grants, Leaves, IsFilled, rows_copied}
 use Rattle.recovery_laws.proofs.Copying.{AreStoredIn, view_stored}
 use Rattle.recovery_laws.proofs.Scenes.{Scene, Course, RightBy, BegunBy, Begun, Base, Draft, Drafted, Copy, InTurn, Read, Filled, Behind, BehindBy, IsWhole, Counting, Number, AllNumbers, IsPlainThere, AreOf, Before, Went, has_serial}
 

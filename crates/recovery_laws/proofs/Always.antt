@@ -30,13 +30,13 @@ use Rattle.one_copy_model.specs.Standing.{Leaving, standing_by, standing_of}
 use Rattle.one_copy_model.specs.Invariant.{Invariant, IsUnderWay}
 use Rattle.one_copy_model.proofs.InvariantLaws.{open_stays, agree}
 use Rattle.one_copy_model.proofs.FollowingLaws.{reply_point}
-use Rattle.recovery_world.specs.declared.step.Step.{Step}
-use Rattle.recovery_world.specs.declared.step.Step.TheVariants.{Serve, Recover, Answer as Answers}
-use Rattle.recovery_world.specs.Pool.{Pool, first_pool, world_of, after, MayStep, IsPlayed, pool_all}
-use Rattle.recovery_world.specs.Phases.{phases_after, phases_all, all_outside, AreMet}
-use Rattle.recovery_world.proofs.Meeting.{always_met}
+use Rattle.recovery_laws.specs.declared.step.Step.{Step}
+use Rattle.recovery_laws.specs.declared.step.Step.TheVariants.{Serve, Recover, Answer as Answers}
+use Rattle.recovery_laws.specs.Pool.{Pool, first_pool, world_of, after, MayStep, IsPlayed, pool_all}
+use Rattle.recovery_laws.specs.Phases.{phases_after, phases_all, all_outside, AreMet}
+use Rattle.recovery_laws.proofs.Meeting.{always_met}
 use Rattle.recovery_laws.specs.Steps.{AreFit, IsRightAt, AllHold}
-use Rattle.recovery_world.proofs.Apart.{together_never}
+use Rattle.recovery_laws.proofs.Apart.{together_never}
 use Rattle.recovery_laws.proofs.Basing.{base_is, number_is, step_adds}
 use Rattle.recovery_laws.proofs.Stepping.{Holds, step_holds, first_holds}
 

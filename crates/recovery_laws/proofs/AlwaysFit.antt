@@ -12,13 +12,13 @@ use Rattle.online_recovery.specs.declared.layout.Layout.{Layout}
 use Rattle.online_recovery.specs.Rules.{after as recovery_after}
 use Rattle.online_recovery.specs.Runs.{Phase}
 use Rattle.one_copy_model.specs.declared.event.Event.{Event}
-use Rattle.world_frames.proofs.Places.{each_at}
-use Rattle.recovery_world.specs.declared.step.Step.{Step}
-use Rattle.recovery_world.specs.declared.step.Step.TheVariants.{Serve, Recover, Answer as Answers}
-use Rattle.recovery_world.specs.Pool.{Pool, first_pool, world_of, answered, after, MayStep, IsPlayed, pool_all}
-use Rattle.recovery_world.specs.Phases.{phases_after, all_outside, MeetsAt, AreMet}
-use Rattle.recovery_world.proofs.Apart.{together_never}
-use Rattle.recovery_world.proofs.Meeting.{always_met}
+use Rattle.one_copy_model.proofs.Places.{each_at}
+use Rattle.recovery_laws.specs.declared.step.Step.{Step}
+use Rattle.recovery_laws.specs.declared.step.Step.TheVariants.{Serve, Recover, Answer as Answers}
+use Rattle.recovery_laws.specs.Pool.{Pool, first_pool, world_of, answered, after, MayStep, IsPlayed, pool_all}
+use Rattle.recovery_laws.specs.Phases.{phases_after, all_outside, MeetsAt, AreMet}
+use Rattle.recovery_laws.proofs.Apart.{together_never}
+use Rattle.recovery_laws.proofs.Meeting.{always_met}
 use Rattle.recovery_laws.specs.Steps.{AreFit}
 use Rattle.recovery_laws.proofs.Masks.{first_masked, step_masked}
 use Rattle.recovery_laws.proofs.Stepping.{Holds, step_holds, first_holds, step_tables}

@@ -26,11 +26,11 @@ use Rattle.online_recovery.specs.Runs.{Phase}
 use Rattle.online_recovery.proofs.Fitting.{Fits}
 use Rattle.one_copy_model.specs.World.{World}
 use Rattle.one_copy_model.specs.Tracking.{single}
-use Rattle.world_frames.proofs.Places.{with_at-same, with_at-other, same_or_other}
-use Rattle.recovery_world.specs.declared.step.Step.{Step}
-use Rattle.recovery_world.specs.declared.step.Step.TheVariants.{Answer as Answers}
-use Rattle.recovery_world.specs.Pool.{Pool, world_of, with_two, store_for, store_left, answered, after, MayTell}
-use Rattle.recovery_world.proofs.Calls.{gate_is}
+use Rattle.one_copy_model.proofs.Places.{with_at-same, with_at-other, same_or_other}
+use Rattle.recovery_laws.specs.declared.step.Step.{Step}
+use Rattle.recovery_laws.specs.declared.step.Step.TheVariants.{Answer as Answers}
+use Rattle.recovery_laws.specs.Pool.{Pool, world_of, with_two, store_for, store_left, answered, after, MayTell}
+use Rattle.recovery_laws.proofs.Calls.{gate_is}
 use Rattle.recovery_laws.specs.Ready.{IsSpare}
 use Rattle.recovery_laws.specs.Steps.{RunsIn, FitsAnswer}
 use Rattle.recovery_laws.proofs.Basing.{base_is, number_is}

@@ -28,12 +28,12 @@ use Rattle.one_copy_model.specs.Orders.{is_of_commit}
 use Rattle.one_copy_model.specs.Standing.{Standing, Nowhere, Leaving, standing_at, standing_by, standing_of, Stands, leaving_of}
 use Rattle.one_copy_model.specs.Invariant.{Invariant, FitsPoint, fits_stage, in_snapshot, in_transaction, IsSound, is_dead}
 use Rattle.one_copy_model.proofs.LossLaws.{none_fall}
-use Rattle.world_frames.specs.Own.{IsIn, IsPools, pools_moment, pools_counts, pools_backends, pools_refusal, pools_nodes, IsRightBy, stand, told_by}
-use Rattle.world_frames.specs.Facts.{Going, Inserted}
-use Rattle.world_frames.proofs.Counts.{count_some}
-use Rattle.world_frames.proofs.Calm.{inserts_none}
-use Rattle.world_frames.proofs.Locks.{no_right}
-use Rattle.world_frames.proofs.Turning.{FactsOf, facts_of, invariant_of}
+use Rattle.one_copy_model.specs.Own.{IsIn, IsPools, pools_moment, pools_counts, pools_backends, pools_refusal, pools_nodes, IsRightBy, stand, told_by}
+use Rattle.one_copy_model.specs.Facts.{Going, Inserted}
+use Rattle.one_copy_model.proofs.Counts.{count_some}
+use Rattle.one_copy_model.proofs.Calm.{inserts_none}
+use Rattle.one_copy_model.proofs.Locks.{no_right}
+use Rattle.one_copy_model.proofs.Turning.{FactsOf, facts_of, invariant_of}
 use Rattle.recovery_laws.specs.Ready.{IsReady, with_backend}
 
 -- A session that is in no snapshot and has no transaction at the gate has no chain, and stands nowhere.

@@ -25,13 +25,13 @@ use Rattle.one_copy_model.specs.Tracking.{single, in_commit}
 use Rattle.one_copy_model.specs.Statement.{NobodyCommits, NobodyInserts, IsInserting}
 use Rattle.one_copy_model.specs.Invariant.{count_below}
 use Rattle.one_copy_model.proofs.InvariantLaws.{agree}
-use Rattle.world_frames.proofs.Counts.{count_some}
-use Rattle.world_frames.proofs.Quiet.{below_65}
-use Rattle.recovery_world.specs.declared.step.Step.{Step}
-use Rattle.recovery_world.specs.declared.step.Step.TheVariants.{Serve, Recover, Answer as Answers}
-use Rattle.recovery_world.specs.Pool.{Pool, world_of, call_in, gate_after, tracked_recovered, answered, after}
-use Rattle.recovery_world.specs.Phases.{number_of}
-use Rattle.recovery_world.specs.Counting.{is_in_snapshot}
+use Rattle.one_copy_model.proofs.Counts.{count_some}
+use Rattle.one_copy_model.proofs.Quiet.{below_65}
+use Rattle.recovery_laws.specs.declared.step.Step.{Step}
+use Rattle.recovery_laws.specs.declared.step.Step.TheVariants.{Serve, Recover, Answer as Answers}
+use Rattle.recovery_laws.specs.Pool.{Pool, world_of, call_in, gate_after, tracked_recovered, answered, after}
+use Rattle.recovery_laws.specs.Phases.{number_of}
+use Rattle.recovery_laws.specs.Counting.{is_in_snapshot}
 use Rattle.recovery_laws.proofs.Attaching.{calm}
 use Rattle.recovery_laws.proofs.Freeing.{IsFree}
 use Rattle.recovery_laws.proofs.Lining.{WaitsAt, AsksFor}

@@ -53,11 +53,11 @@ use Rattle.one_copy_model.specs.Tracking.{Tracked, single, with_code, opened_if,
 use Rattle.one_copy_model.specs.Orders.{IsClassed, IsClassedIn, runs_at_once}
 use Rattle.one_copy_model.specs.Standing.{Nowhere, Standing, Stands, standing_by, standing_of, leaving_of}
 use Rattle.one_copy_model.specs.Invariant.{Invariant, asks_at, wants_of, where_live, request_in}
-use Rattle.world_frames.proofs.Places.{same_or_other, each_at}
-use Rattle.world_frames.proofs.Tables.{tables_there}
-use Rattle.world_deeds.proofs.Deeds.{entry}
-use Rattle.world_deeds.proofs.Livings.{alive_where}
-use Rattle.world_laws.proofs.ChainsChaining.{class_in}
+use Rattle.one_copy_model.proofs.Places.{same_or_other, each_at}
+use Rattle.one_copy_model.proofs.Tables.{tables_there}
+use Rattle.one_copy_model.proofs.Deeds.{entry}
+use Rattle.one_copy_model.proofs.Livings.{alive_where}
+use Rattle.one_copy_laws.proofs.ChainsChaining.{class_in}
 use Rattle.recovery_laws.specs.Masks.{IsWithin, Masked}
 use Rattle.recovery_laws.proofs.Doing.{within_absent, within_dead, within_empty, OnlyAsks, only_none, only_one, asked_only, IsNoRun, plain_within, falls_within, commit_within, rollback_within, commit_row, IsNoCommit, IsCalm, ArePlain, Stays, recorded_stays, recorded_other, recorded_only, gets_clear, fallen_within, fallen_only, fallen_stays, fallen_run, coded_store}
 use Rattle.recovery_laws.proofs.Masking.{grown, RunsIn, Leads, places_nothing, asks_on, commits_entered, commits_unchanged, rolls, falls, runs, inserts, insert_falls, Finishes, finish_is, IsEndAt, event_leads}

@@ -28,9 +28,9 @@ use Rattle.online_recovery.specs.Copies.{all_rows_in}
 use Rattle.online_recovery.specs.Rules.{request_of}
 use Rattle.one_copy_model.specs.World.{World}
 use Rattle.one_copy_model.specs.Chains.{AreShaped}
-use Rattle.world_frames.proofs.Places.{each_at, with_at-other}
-use Rattle.world_laws.proofs.ActsEffects.{no_numbers}
-use Rattle.recovery_world.specs.Pool.{store_left}
+use Rattle.one_copy_model.proofs.Places.{each_at, with_at-other}
+use Rattle.one_copy_laws.proofs.ActsEffects.{no_numbers}
+use Rattle.recovery_laws.specs.Pool.{store_left}
 use Rattle.recovery_laws.specs.Ready.{IsSpare}
 use Rattle.recovery_laws.specs.Steps.{RunsIn}
 

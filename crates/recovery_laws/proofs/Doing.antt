@@ -30,9 +30,9 @@ use Rattle.one_copy_model.specs.Deaths.{is_live, is_alive, stage_at, code_of_low
 use Rattle.one_copy_model.specs.Tracking.{with_code}
 use Rattle.one_copy_model.specs.Standing.{asks_commit}
 use Rattle.session_machine.specs.Answers.{lowest}
-use Rattle.world_frames.proofs.Places.{same_or_other, with_at-same, with_at-other}
-use Rattle.world_deeds.proofs.Deeds.{entry, gets_is, asked_waits}
-use Rattle.world_deeds.proofs.Livings.{and_true}
+use Rattle.one_copy_model.proofs.Places.{same_or_other, with_at-same, with_at-other}
+use Rattle.one_copy_model.proofs.Deeds.{entry, gets_is, asked_waits}
+use Rattle.one_copy_model.proofs.Livings.{and_true}
 use Rattle.recovery_laws.specs.Masks.{IsWithin}
 
 -- Changes within a mask.

@@ -31,10 +31,10 @@ use Rattle.online_recovery.specs.declared.standing.Held.{Held}
 use Rattle.online_recovery.specs.State.{backend_at, side_of, owed}
 use Rattle.online_recovery.specs.Rules.{action_at, closing_action, request_of}
 use Rattle.online_recovery.specs.Runs.{Phase}
-use Rattle.recovery_world.specs.declared.step.Step.{Step}
-use Rattle.recovery_world.specs.declared.step.Step.TheVariants.{Serve, Recover, Answer as Answers}
-use Rattle.recovery_world.specs.Pool.{Pool, world_of, MayStep}
-use Rattle.copy_laws.proofs.Running.{reads_run, deletes_run, inserts_run}
+use Rattle.recovery_laws.specs.declared.step.Step.{Step}
+use Rattle.recovery_laws.specs.declared.step.Step.TheVariants.{Serve, Recover, Answer as Answers}
+use Rattle.recovery_laws.specs.Pool.{Pool, world_of, MayStep}
+use Rattle.recovery_laws.proofs.Running.{reads_run, deletes_run, inserts_run}
 use Rattle.recovery_laws.specs.Masks.{Masked}
 use Rattle.recovery_laws.specs.Ready.{IsReady}
 use Rattle.recovery_laws.specs.Steps.{FitsCall, RunsIn, FitsAnswer, IsFit}

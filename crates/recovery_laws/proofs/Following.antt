@@ -38,11 +38,11 @@ use Rattle.one_copy_model.specs.Numbers.{session_of}
 use Rattle.one_copy_model.specs.World.{World, stores_after, after as world_after}
 use Rattle.one_copy_model.specs.Deaths.{stage_at}
 use Rattle.one_copy_model.specs.Tracking.{single}
-use Rattle.world_frames.proofs.Places.{each_at, with_at-other}
-use Rattle.recovery_world.specs.declared.step.Step.{Step}
-use Rattle.recovery_world.specs.declared.step.Step.TheVariants.{Serve, Recover}
-use Rattle.recovery_world.specs.Pool.{Pool, world_of, call_in, gate_after, after, MayStep}
-use Rattle.recovery_world.specs.Phases.{number_of}
+use Rattle.one_copy_model.proofs.Places.{each_at, with_at-other}
+use Rattle.recovery_laws.specs.declared.step.Step.{Step}
+use Rattle.recovery_laws.specs.declared.step.Step.TheVariants.{Serve, Recover}
+use Rattle.recovery_laws.specs.Pool.{Pool, world_of, call_in, gate_after, after, MayStep}
+use Rattle.recovery_laws.specs.Phases.{number_of}
 use Rattle.recovery_laws.specs.Masks.{Masked}
 use Rattle.recovery_laws.proofs.Attaching.{calm}
 use Rattle.recovery_laws.proofs.Freeing.{IsFree, Shows}

@@ -37,10 +37,10 @@ use Rattle.online_recovery.specs.Rules.{action_at, closing_action, after_at, aft
 use Rattle.online_recovery.specs.Allowed.{answers_call}
 use Rattle.online_recovery.specs.Runs.{Phase, Meets}
 use Rattle.one_copy_model.specs.Tracking.{single}
-use Rattle.world_frames.proofs.Places.{each_at, with_at-same, with_at-other}
-use Rattle.recovery_world.specs.declared.step.Step.TheVariants.{Recover}
-use Rattle.recovery_world.specs.Pool.{Pool, world_of, told_after, after, MayStep}
-use Rattle.recovery_world.proofs.Quieting.{open_unless}
+use Rattle.one_copy_model.proofs.Places.{each_at, with_at-same, with_at-other}
+use Rattle.recovery_laws.specs.declared.step.Step.TheVariants.{Recover}
+use Rattle.recovery_laws.specs.Pool.{Pool, world_of, told_after, after, MayStep}
+use Rattle.recovery_laws.proofs.GateQuieting.{open_unless}
 use Rattle.recovery_laws.proofs.Basing.{quiet_rows}
 use Rattle.recovery_laws.proofs.Lining.{WaitsAt}
 use Rattle.recovery_laws.proofs.Stepping.{Holds, step_tables}

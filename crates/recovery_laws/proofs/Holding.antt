@@ -10,8 +10,8 @@ use Rattle.session_machine.specs.declared.machine.ReadPolicy.{ReadPolicy}
 use Rattle.online_recovery.specs.declared.layout.Layout.{Layout}
 use Rattle.one_copy_model.specs.Tracking.{single}
 use Rattle.one_copy_model.specs.Statement.{ReplicasAgree}
-use Rattle.recovery_world.specs.declared.step.Step.{Step}
-use Rattle.recovery_world.specs.Pool.{first_pool, world_of, after, IsPlayed, pool_all}
+use Rattle.recovery_laws.specs.declared.step.Step.{Step}
+use Rattle.recovery_laws.specs.Pool.{first_pool, world_of, after, IsPlayed, pool_all}
 use Rattle.recovery_laws.specs.Steps.{AllHold}
 use Rattle.recovery_laws.proofs.Always.{always_hold, agree_at_last, rows_at_last, number_at_last, adds_at_last}
 use Rattle.recovery_laws.proofs.AlwaysFit.{always_fit}

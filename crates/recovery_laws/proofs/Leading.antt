@@ -28,9 +28,9 @@ use Rattle.online_recovery.specs.State.{is_shown, is_touched, is_copied, side_of
 use Rattle.online_recovery.specs.Rules.{refused, snapshot_entered, serial_due, numbers_due, copied_again, quiet_entered, source_opened, table_due, rows_read, filled, source_left, serial_read, proceeded, answered, shown}
 use Rattle.online_recovery.specs.Runs.{Phase}
 use Rattle.online_recovery.proofs.Fitting.{FitsTask, Agrees, Middle}
-use Rattle.world_deeds.proofs.Finding.{is_found}
-use Rattle.copy_laws.specs.Copied.{IsCopied}
-use Rattle.copy_laws.proofs.Filled.{copied}
+use Rattle.one_copy_model.proofs.Finding.{is_found}
+use Rattle.recovery_laws.specs.Copied.{IsCopied}
+use Rattle.recovery_laws.proofs.Filled.{copied}
 use Rattle.recovery_laws.proofs.Copying.{AreStoredIn, view_stored}
 use Rattle.recovery_laws.proofs.Scenes.{Scene, Course, course_of, Whole, BegunBy, Begun, Base, Copy, Filled, IsHalf, Behind, BehindBy, IsBetween, IsWhole, Counting, IsPlain, IsPlainThere, AreOf, Went, After, Stands, has_serial}
 use Rattle.recovery_laws.proofs.Turns.{next_is, none_next, next_serial_is, none_serial, above, below_or_behind, within_there}

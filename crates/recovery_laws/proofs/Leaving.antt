@@ -16,13 +16,13 @@ use Rattle.one_copy_model.specs.Deaths.{stage_at}
 use Rattle.one_copy_model.specs.Tracking.{Tracked, in_commit}
 use Rattle.one_copy_model.specs.Standing.{Nowhere, Fresh, Ahead, standing_in, standing_at, standing_by}
 use Rattle.one_copy_model.specs.Invariant.{Invariant, FitsPoint, fits_stage}
-use Rattle.world_frames.proofs.Turning.{live_there}
-use Rattle.world_deeds.proofs.Finding.{is_found, nobody_attached}
-use Rattle.world_deeds.proofs.Livings.{ahead_where}
-use Rattle.world_laws.proofs.FallsDying.{falls_kept}
-use Rattle.world_laws.proofs.DecidedParting.{left, few, behind, facts_left}
-use Rattle.world_laws.proofs.DecidedAlone.{alone_holds}
-use Rattle.world_laws.proofs.DecidedEnds.{ends_ahead}
+use Rattle.one_copy_model.proofs.Turning.{live_there}
+use Rattle.one_copy_model.proofs.Finding.{is_found, nobody_attached}
+use Rattle.one_copy_model.proofs.Livings.{ahead_where}
+use Rattle.one_copy_laws.proofs.FallsDying.{falls_kept}
+use Rattle.one_copy_laws.proofs.DecidedParting.{left, few, behind, facts_left}
+use Rattle.one_copy_laws.proofs.DecidedAlone.{alone_holds}
+use Rattle.one_copy_laws.proofs.DecidedEnds.{ends_ahead}
 use Rattle.recovery_laws.specs.Ready.{without_backend}
 
 -- Who is ahead of the single run is in no entered commit.

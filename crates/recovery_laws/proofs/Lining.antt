@@ -24,10 +24,10 @@ use Rattle.online_recovery.specs.declared.standing.Standing.{Standing}
 use Rattle.online_recovery.specs.State.{backend_at, side_of, owed}
 use Rattle.online_recovery.specs.Rules.{request_of, closing_action, action_at, next_action, undone, posted, after_at, after as recovery_after}
 use Rattle.online_recovery.specs.Allowed.{may_order}
-use Rattle.world_frames.proofs.Places.{each_at, each_at2}
-use Rattle.recovery_world.specs.declared.step.Step.{Step}
-use Rattle.recovery_world.specs.declared.step.Step.TheVariants.{Serve, Recover, Answer as Answers}
-use Rattle.recovery_world.specs.Pool.{Pool, answered, after, MayStep}
+use Rattle.one_copy_model.proofs.Places.{each_at, each_at2}
+use Rattle.recovery_laws.specs.declared.step.Step.{Step}
+use Rattle.recovery_laws.specs.declared.step.Step.TheVariants.{Serve, Recover, Answer as Answers}
+use Rattle.recovery_laws.specs.Pool.{Pool, answered, after, MayStep}
 
 -- the backend that it waits for
 abbrev pub WaitsAt : Held → Due → ℕ → Type 0

@@ -35,15 +35,15 @@ use Rattle.one_copy_model.specs.SingleRun.{store_after}
 use Rattle.one_copy_model.specs.World.{after as world_after, MayHappen}
 use Rattle.one_copy_model.specs.Tracking.{Tracked, single, tracked_after}
 use Rattle.one_copy_model.specs.Invariant.{Invariant}
-use Rattle.world_frames.proofs.Places.{each_at}
-use Rattle.world_laws.proofs.InductionEvents.{event_kept}
-use Rattle.recovery_world.specs.declared.step.Step.{Step}
-use Rattle.recovery_world.specs.declared.step.Step.TheVariants.{Serve, Recover, Answer as Answers}
-use Rattle.recovery_world.specs.Pool.{Pool, first_pool, world_of, call_in, call_of, gate_after, tracked_recovered, answered, after, MayStep, IsPlayed, pool_all}
-use Rattle.recovery_world.specs.Phases.{phases_after, phases_all, all_outside, AreMet}
-use Rattle.recovery_world.proofs.Calls.{MeetsCall, step_meets, gate_is}
-use Rattle.recovery_world.proofs.Counting.{step_both}
-use Rattle.recovery_world.proofs.Meeting.{always_met}
+use Rattle.one_copy_model.proofs.Places.{each_at}
+use Rattle.one_copy_laws.proofs.InductionEvents.{event_kept}
+use Rattle.recovery_laws.specs.declared.step.Step.{Step}
+use Rattle.recovery_laws.specs.declared.step.Step.TheVariants.{Serve, Recover, Answer as Answers}
+use Rattle.recovery_laws.specs.Pool.{Pool, first_pool, world_of, call_in, call_of, gate_after, tracked_recovered, answered, after, MayStep, IsPlayed, pool_all}
+use Rattle.recovery_laws.specs.Phases.{phases_after, phases_all, all_outside, AreMet}
+use Rattle.recovery_laws.proofs.Calls.{MeetsCall, step_meets, gate_is}
+use Rattle.recovery_laws.proofs.Counting.{step_both}
+use Rattle.recovery_laws.proofs.Meeting.{always_met}
 use Rattle.recovery_laws.specs.Masks.{Masked, IsQuietAlong}
 use Rattle.recovery_laws.specs.Steps.{AreFit}
 use Rattle.recovery_laws.proofs.Changing.{falls_masked, falls_rows, of_masked, of_rows}

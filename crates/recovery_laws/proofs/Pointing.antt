@@ -39,7 +39,7 @@ use Rattle.session_machine.specs.Answers.{all_backends, lowest, is_attached, is_
 use Rattle.read_balance.specs.Picking.{weight_of_all}
 use Rattle.session_machine.specs.Classes.{work_in}
 use Rattle.session_machine.specs.Rules as rules
-use Rattle.world_deeds.proofs.Finding.{is_found}
+use Rattle.one_copy_model.proofs.Finding.{is_found}
 use Rattle.recovery_laws.proofs.Turns.{both_true}
 
 abbrev pub ClearOf : ℕ → Point → Type 0

@@ -16,13 +16,13 @@ use Rattle.one_copy_model.specs.Deaths.{stage_at}
 use Rattle.one_copy_model.specs.Tracking.{Told, Tracked, in_commit}
 use Rattle.one_copy_model.specs.Standing.{standing_by, standing_open}
 use Rattle.one_copy_model.specs.Invariant.{Invariant, IsUnderWay, where_live, wants_of}
-use Rattle.world_frames.specs.Own.{told_by, stand, Own}
-use Rattle.world_frames.specs.Facts.{Shared}
-use Rattle.world_frames.proofs.Counts.{still}
-use Rattle.world_frames.proofs.Calm.{calm_own, free_of, is_waiting}
-use Rattle.world_frames.proofs.Turning.{FactsOf, facts_of, invariant_of, live_there}
-use Rattle.world_frames.proofs.Landing.{alive_same, with_at-self}
-use Rattle.world_frames.proofs.Quiet.{real, calm_silent, quiet_holds}
+use Rattle.one_copy_model.specs.Own.{told_by, stand, Own}
+use Rattle.one_copy_model.specs.Facts.{Shared}
+use Rattle.one_copy_model.proofs.Counts.{still}
+use Rattle.one_copy_model.proofs.Calm.{calm_own, free_of, is_waiting}
+use Rattle.one_copy_model.proofs.Turning.{FactsOf, facts_of, invariant_of, live_there}
+use Rattle.one_copy_model.proofs.Landing.{alive_same, with_at-self}
+use Rattle.one_copy_model.proofs.Quiet.{real, calm_silent, quiet_holds}
 use Rattle.recovery_laws.specs.Ready.{IsTurned, with_gate_of, with_new_session}
 use Rattle.recovery_laws.proofs.Sparing.{landed}
 

@@ -20,7 +20,7 @@ use Rattle.online_recovery.specs.declared.standing.Due.{Due}
 use Rattle.online_recovery.specs.declared.standing.Due.TheVariants.{Resting, LookDue, StartDue, SwapDue, EnterDue, PostDue, Waiting, ShowDue, LeaveSnapshotDue, FinishDue, AskDue, QuietDue, AttachDue, LostDue, Closing, Undoing}
 use Rattle.online_recovery.specs.declared.standing.Held.{Held}
 use Rattle.online_recovery.specs.State.{is_touched, is_copied, side_of}
-use Rattle.copy_laws.specs.Copied.{rows_copied, IsFilled}
+use Rattle.recovery_laws.specs.Copied.{rows_copied, IsFilled}
 
 -- what the facts read: the tables, the target's rows and next numbers, the recovery's transactions at its source and its target, the
 -- single run's rows and next numbers, and of the gate the touched tables and the attached backends

@@ -16,10 +16,10 @@ use Rattle.one_copy_model.specs.Standing.{Stands, leaving_of}
 use Rattle.one_copy_model.specs.Invariant.{Invariant, IsInLine, IsSound, numbers_behind}
 use Rattle.one_copy_model.proofs.InvariantLaws.{holds_first}
 use Rattle.one_copy_model.proofs.LossLaws.{none_fall}
-use Rattle.world_frames.specs.Own.{IsIn, stand}
-use Rattle.world_frames.specs.Facts.{Going, Inserted}
-use Rattle.world_frames.proofs.Places.{each_at}
-use Rattle.world_frames.proofs.Turning.{FactsOf, facts_of, invariant_of}
+use Rattle.one_copy_model.specs.Own.{IsIn, stand}
+use Rattle.one_copy_model.specs.Facts.{Going, Inserted}
+use Rattle.one_copy_model.proofs.Places.{each_at}
+use Rattle.one_copy_model.proofs.Turning.{FactsOf, facts_of, invariant_of}
 use Rattle.recovery_laws.specs.Ready.{IsSpare, with_spare}
 
 pub below_same : (p q : ℕ → Bool) → ((k : ℕ) → p k ≡ q k) → (n : ℕ) → some_below p n ≡ some_below q n

@@ -42,17 +42,17 @@ use Rattle.one_copy_model.specs.Numbers.{session_of}
 use Rattle.one_copy_model.specs.Tracking.{Tracked, joined}
 use Rattle.one_copy_model.specs.Invariant.{Invariant}
 use Rattle.one_copy_model.proofs.InvariantLaws.{holds_first}
-use Rattle.world_frames.proofs.Places.{each_at, each_at2}
-use Rattle.world_frames.proofs.Landing.{with_at-self}
-use Rattle.world_laws.proofs.InductionEvents.{event_kept}
-use Rattle.recovery_world.specs.declared.step.Step.{Step}
-use Rattle.recovery_world.specs.declared.step.Step.TheVariants.{Serve, Recover, Answer as Answers}
-use Rattle.recovery_world.specs.Pool.{Pool, first_pool, world_of, sessions_part, with_gate, with_store, with_world, store_for, store_left, call_in, call_of, gate_after, transactions_after, tracked_recovered, answered, after, IsOutside, LetsOrder, LetsRecovery, MayStep}
-use Rattle.recovery_world.specs.Phases.{IsStill, QuietIsOne, phases_after, all_outside, MeetsAt}
-use Rattle.recovery_world.proofs.Calls.{MeetsCall, step_meets, gate_is}
-use Rattle.recovery_world.proofs.Quieting.{step_one}
-use Rattle.recovery_world.proofs.Still.{step_still}
-use Rattle.recovery_world.specs.Counting.{with_counts, CountsBoth}
+use Rattle.one_copy_model.proofs.Places.{each_at, each_at2}
+use Rattle.one_copy_model.proofs.Landing.{with_at-self}
+use Rattle.one_copy_laws.proofs.InductionEvents.{event_kept}
+use Rattle.recovery_laws.specs.declared.step.Step.{Step}
+use Rattle.recovery_laws.specs.declared.step.Step.TheVariants.{Serve, Recover, Answer as Answers}
+use Rattle.recovery_laws.specs.Pool.{Pool, first_pool, world_of, sessions_part, with_gate, with_store, with_world, store_for, store_left, call_in, call_of, gate_after, transactions_after, tracked_recovered, answered, after, IsOutside, LetsOrder, LetsRecovery, MayStep}
+use Rattle.recovery_laws.specs.Phases.{IsStill, QuietIsOne, phases_after, all_outside, MeetsAt}
+use Rattle.recovery_laws.proofs.Calls.{MeetsCall, step_meets, gate_is}
+use Rattle.recovery_laws.proofs.GateQuieting.{step_one}
+use Rattle.recovery_laws.proofs.Still.{step_still}
+use Rattle.recovery_laws.specs.Counting.{with_counts, CountsBoth}
 use Rattle.recovery_laws.specs.Ready.{with_gate_of}
 use Rattle.recovery_laws.specs.Steps.{FitsCall, RunsIn, FitsAnswer, IsFit}
 use Rattle.recovery_laws.proofs.Sparing.{landed, spare_kept, swap_kept}
@@ -63,7 +63,7 @@ use Rattle.recovery_laws.proofs.Copying.{ReadsOnly, source_reads, read_same, Are
 use Rattle.recovery_laws.proofs.Freeing.{IsFree}
 use Rattle.recovery_laws.proofs.Lining.{WaitsAt, AsksFor, AllLines, step_lines}
 use Rattle.recovery_laws.proofs.Targets.{AllFit, AllFree, step_fits, step_free, is_steady, steady_leaves}
-use Rattle.recovery_world.proofs.Counting.{turned_both, step_both, first_both}
+use Rattle.recovery_laws.proofs.Counting.{turned_both, step_both, first_both}
 
 -- The session of a recovery under way rests outside of a transaction.
 

@@ -30,14 +30,14 @@ use Rattle.online_recovery.proofs.Fitting.{Good, Agrees, Fits, FitsTask, is_atta
 use Rattle.online_recovery.proofs.Proceeding.{detached_good, faulted_good, ordered_good, posted_good, swapped_good, taken_good}
 use Rattle.online_recovery.proofs.Calling.{called_good}
 use Rattle.one_copy_model.specs.declared.event.Event.TheVariants.{Of, Act, Lost}
-use Rattle.world_frames.proofs.Places.{each_at, each_at2}
-use Rattle.world_deeds.proofs.Finding.{one_of_eight}
-use Rattle.world_laws.proofs.FallsLeaving.{few_left, fewer_in}
-use Rattle.recovery_world.specs.declared.step.Step.{Step}
-use Rattle.recovery_world.specs.declared.step.Step.TheVariants.{Serve, Recover, Answer as Answers}
-use Rattle.recovery_world.specs.Pool.{Pool, call_in, gate_after, answered, after, MayStep}
-use Rattle.recovery_world.specs.Phases.{phases_after, MeetsAt, QuietIsOne}
-use Rattle.recovery_world.proofs.Quieting.{open_unless}
+use Rattle.one_copy_model.proofs.Places.{each_at, each_at2}
+use Rattle.one_copy_model.proofs.Finding.{one_of_eight}
+use Rattle.one_copy_laws.proofs.FallsLeaving.{few_left, fewer_in}
+use Rattle.recovery_laws.specs.declared.step.Step.{Step}
+use Rattle.recovery_laws.specs.declared.step.Step.TheVariants.{Serve, Recover, Answer as Answers}
+use Rattle.recovery_laws.specs.Pool.{Pool, call_in, gate_after, answered, after, MayStep}
+use Rattle.recovery_laws.specs.Phases.{phases_after, MeetsAt, QuietIsOne}
+use Rattle.recovery_laws.proofs.GateQuieting.{open_unless}
 use Rattle.recovery_laws.proofs.Freeing.{IsFree, Frees, Shows, ShowsIn, stays_free, attached_free, fewer_frees}
 
 -- Where a recovery stands at the gate fits what is due, at every step.

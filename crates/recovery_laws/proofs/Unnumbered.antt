@@ -14,7 +14,7 @@ use Rattle.one_copy_model.specs.declared.deed.Deed.TheVariants.{Asks, Gets, Fall
 use Rattle.one_copy_model.specs.declared.deed.Entry.{Entry}
 use Rattle.one_copy_model.specs.Marks.{with_mark, marked}
 use Rattle.one_copy_model.specs.SingleRun.{done_by, store_after, MayDo, IsRun}
-use Rattle.world_frames.proofs.Places.{each_at}
+use Rattle.one_copy_model.proofs.Places.{each_at}
 use Rattle.recovery_laws.proofs.Scenes.{has_serial}
 
 first_none : (column : Option ℕ) → is_some column ≡ false → first_of column ≡ None

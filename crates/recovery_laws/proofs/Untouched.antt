@@ -8,8 +8,8 @@ use Rattle.session_machine.specs.declared.machine.ReadPolicy.{ReadPolicy}
 use Rattle.online_recovery.specs.declared.layout.Layout.{Layout}
 use Rattle.online_recovery.specs.State.{is_touched}
 use Rattle.one_copy_model.specs.Tracking.{single}
-use Rattle.recovery_world.specs.declared.step.Step.{Step}
-use Rattle.recovery_world.specs.Pool.{Pool, first_pool, after, IsPlayed, pool_all}
+use Rattle.recovery_laws.specs.declared.step.Step.{Step}
+use Rattle.recovery_laws.specs.Pool.{Pool, first_pool, after, IsPlayed, pool_all}
 use Rattle.recovery_laws.specs.Masks.{IsQuietAlong, Masked}
 use Rattle.recovery_laws.specs.Steps.{AreFit}
 use Rattle.recovery_laws.proofs.AlwaysFit.{always_fit}

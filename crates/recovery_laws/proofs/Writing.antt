@@ -35,12 +35,12 @@ use Rattle.backend_trait.proofs.RowLaws.{change_over, get-joined_changes}
 use Rattle.online_recovery.specs.State.{is_touched}
 use Rattle.one_copy_model.specs.declared.deed.Deed.TheVariants.{Gets}
 use Rattle.one_copy_model.specs.SingleRun.{done_by}
-use Rattle.world_frames.proofs.Places.{with_at-same}
-use Rattle.world_deeds.proofs.Deeds.{gets_is}
-use Rattle.world_deeds.proofs.Livings.{and_true}
-use Rattle.world_laws.proofs.ActsEffects.{changed_wanted}
-use Rattle.world_laws.proofs.MarksWanting.{wants_within}
-use Rattle.world_laws.proofs.RunsGiving.{IsResultWith, gives_rows, gives_count, given_forms}
+use Rattle.one_copy_model.proofs.Places.{with_at-same}
+use Rattle.one_copy_model.proofs.Deeds.{gets_is}
+use Rattle.one_copy_model.proofs.Livings.{and_true}
+use Rattle.one_copy_laws.proofs.ActsEffects.{changed_wanted}
+use Rattle.one_copy_laws.proofs.MarksWanting.{wants_within}
+use Rattle.one_copy_laws.proofs.RunsGiving.{IsResultWith, gives_rows, gives_count, given_forms}
 use Rattle.recovery_laws.specs.Masks.{IsWithin}
 use Rattle.recovery_laws.proofs.Doing.{alive_is, within_dead}
 use Rattle.recovery_laws.proofs.Masking.{grown}

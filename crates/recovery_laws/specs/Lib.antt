@@ -1,3 +1,9 @@
 pub mod Ready
 pub mod Steps
 pub mod Masks
+pub mod Copied
+pub mod Pool
+pub mod Counting
+pub mod Phases
+pub mod Sample
+pub mod Waiting

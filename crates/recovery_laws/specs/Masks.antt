@@ -6,8 +6,8 @@ use Rattle.backend_trait.specs.Store.{Live, Transaction, Alive}
 use Rattle.session_machine.specs.Rules.{tables_of}
 use Rattle.online_recovery.specs.State.{is_touched}
 use Rattle.one_copy_model.specs.Tracking.{Tracked, single}
-use Rattle.recovery_world.specs.declared.step.Step.{Step}
-use Rattle.recovery_world.specs.Pool.{Pool, after}
+use Rattle.recovery_laws.specs.declared.step.Step.{Step}
+use Rattle.recovery_laws.specs.Pool.{Pool, after}
 
 -- what a transaction has changed is in tables of the mask, each of which is one of the 64 that a mask can have
 abbrev pub IsWithin : ℕ → Transaction → Type 0

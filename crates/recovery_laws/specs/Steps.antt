@@ -11,9 +11,9 @@ use Rattle.session_machine.specs.declared.action.SessionEvent.TheVariants as eve
 use Rattle.one_copy_model.specs.Tracking.{Tracked}
 use Rattle.one_copy_model.specs.Replies.{RepliesRight, Acknowledged}
 use Rattle.one_copy_model.specs.Invariant.{Invariant}
-use Rattle.recovery_world.specs.declared.step.Step.{Step}
-use Rattle.recovery_world.specs.declared.step.Step.TheVariants.{Serve, Recover, Answer as Answers}
-use Rattle.recovery_world.specs.Pool.{Pool, world_of, after}
+use Rattle.recovery_laws.specs.declared.step.Step.{Step}
+use Rattle.recovery_laws.specs.declared.step.Step.TheVariants.{Serve, Recover, Answer as Answers}
+use Rattle.recovery_laws.specs.Pool.{Pool, world_of, after}
 use Rattle.recovery_laws.specs.Ready.{IsReady}
 
 -- the target is ready where it is attached

@@ -9,8 +9,8 @@ ghost use Rattle.session_machine.specs.declared.machine.ReadPolicy.{ReadPolicy};
 ghost use Rattle.online_recovery.specs.declared.layout.Layout.{Layout};
 ghost use Rattle.one_copy_model.specs.Statement.{ReplicasAgree};
 ghost use Rattle.one_copy_model.specs.Tracking.{single};
-ghost use Rattle.recovery_world.specs.declared.step.Step.{Step};
-ghost use Rattle.recovery_world.specs.Pool.{after, first_pool, pool_all, world_of, IsPlayed};
+ghost use Rattle.recovery_laws.specs.declared.step.Step.{Step};
+ghost use Rattle.recovery_laws.specs.Pool.{after, first_pool, pool_all, world_of, IsPlayed};
 ghost use Rattle.recovery_laws.specs.Steps.{AllHold, AreFit};
 
 /// Every list of steps is fit: each target is ready when it is attached, and each statement that a

@@ -8,8 +8,8 @@ ghost use Rattle.session_machine.specs.declared.machine.ReadPolicy.{ReadPolicy};
 ghost use Rattle.online_recovery.specs.declared.layout.Layout.{Layout};
 ghost use Rattle.online_recovery.specs.State.{is_touched};
 ghost use Rattle.one_copy_model.specs.Tracking.{single};
-ghost use Rattle.recovery_world.specs.declared.step.Step.{Step};
-ghost use Rattle.recovery_world.specs.Pool.{first_pool, pool_all, IsPlayed};
+ghost use Rattle.recovery_laws.specs.declared.step.Step.{Step};
+ghost use Rattle.recovery_laws.specs.Pool.{first_pool, pool_all, IsPlayed};
 ghost use Rattle.recovery_laws.specs.Masks.{IsQuietAlong, Masked};
 
 /// Behind every list of steps what a live transaction of the single run has changed is in tables of

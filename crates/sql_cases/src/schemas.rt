@@ -2,7 +2,7 @@
 use case_lines::{Told, bytes_of};
 use catalogue::{SchemaFault, read_schema};
 use pool_base::Text;
-use schema_round::schema_again;
+use sql_profile::schema_again;
 use std::alloc::Global;
 
 /// The most bytes that a schema has.

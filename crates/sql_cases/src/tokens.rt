@@ -2,8 +2,7 @@
 use crate::statements::{MOST_BYTES, one_of};
 use case_lines::Told;
 use pool_base::List;
-use sql_again::tokens_again;
-use sql_profile::Statement;
+use sql_profile::{Statement, tokens_again};
 use sql_tokens::{Mark, Placed, Token, TokenFault, read_tokens};
 use std::alloc::Global;
 

@@ -3,7 +3,7 @@ use Rattle.std.proofs.Common.{ℕ, ◌<◌, List}
 use Rattle.schema.specs.Allowed.{AreAllowed}
 use Rattle.one_copy_model.specs.declared.event.Event.{Event}
 use Rattle.one_copy_model.specs.World.{IsSchedule}
-use Rattle.world_laws.proofs.InductionSchedules.{one_copy, agreement, commits_done}
+use Rattle.one_copy_laws.proofs.InductionSchedules.{one_copy, agreement, commits_done}
 use Rattle.world_program.specs.declared.replaying.Start.{Start}
 use Rattle.world_program.specs.Starting.{start_of}
 use Rattle.world_program.specs.OneStore.{IsOfOneStore}

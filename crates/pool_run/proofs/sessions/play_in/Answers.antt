@@ -6,9 +6,9 @@ use Rattle.session_seat.specs.Shared.{first_shared, shared_of}
 use Rattle.schema.specs.Allowed.{AreAllowed}
 use Rattle.recovery_seat.specs.Schedule.{IsSchedule, first_state, lines}
 use Rattle.recovery_seat.specs.Steps.{state}
-use Rattle.recovery_plays.specs.Following.{steps_of}
+use Rattle.play_laws.specs.RecoveryFollowing.{steps_of}
 use Rattle.recovery_seat.specs.Sessions.{sessions_in, sessions_of}
-use Rattle.world_plays.specs.Following.{events_of}
+use Rattle.play_laws.specs.Following.{events_of}
 use Rattle.pool_run.specs.Ends.{outside}
 use Rattle.session_player.specs.Speaking.{entries_of}
 use Rattle.pool_run.specs.Journals.{HasJournal}

@@ -1,4 +1,0 @@
-mod Singles
-mod Exprs
-mod Bodies
-mod Checks

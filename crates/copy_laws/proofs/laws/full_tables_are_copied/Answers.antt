@@ -1,8 +1,0 @@
-use Rattle.copy_laws.proofs.Filled.{copied, still_stored}
-use Rattle.copy_laws.proofs.laws.full_tables_are_copied.Goals as goal
-
-pub returns-clause-copied : goal.returns-clause-copied
-returns-clause-copied c = copied
-
-pub returns-clause-stored : goal.returns-clause-stored
-returns-clause-stored c = still_stored

@@ -1,8 +1,0 @@
-use Rattle.copy_laws.proofs.Reading.{read_left, rows_answered}
-use Rattle.copy_laws.proofs.laws.reads_list_the_table.Goals as goal
-
-pub returns-clause-answer : goal.returns-clause-answer
-returns-clause-answer c = rows_answered
-
-pub returns-clause-left : goal.returns-clause-left
-returns-clause-left c = read_left

@@ -1,0 +1,12 @@
+//! Plays as runs of the replicated world: what takes place in a play is a schedule of it, and so of
+//! one store.
+//!
+//! Plays with recoveries as lists of steps of the replicated world: what takes place in a play may
+//! take place there.
+#![tactic(auto)]
+
+mod schedules;
+mod steps;
+
+pub use schedules::{orders_can_be_run, plays_are_runs};
+pub use steps::plays_are_steps;

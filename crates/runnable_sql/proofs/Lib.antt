@@ -1,6 +1,0 @@
-pub mod At
-pub mod Kept
-pub mod KeptStatements
-pub mod Unbound
-pub mod Draws
-pub mod Law

@@ -1,9 +1,0 @@
-pub mod Faults
-pub mod Zeros
-pub mod Pieces
-pub mod Names
-pub mod Constants
-pub mod Lists
-pub mod Columns
-pub mod Tables
-pub mod Rounds

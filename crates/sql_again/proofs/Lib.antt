@@ -1,9 +1,0 @@
-pub mod Runs
-pub mod Names
-pub mod Quoted
-pub mod Marks
-pub mod Spaced
-pub mod Each
-pub mod Sound
-pub mod Printed
-pub mod Reread

@@ -1,0 +1,4 @@
+pub mod Few
+pub mod Told
+pub mod Again
+pub mod Reread

@@ -1,5 +1,0 @@
-use Rattle.pg_values.proofs.Exactness.{refuses_once}
-use Rattle.value_laws.proofs.laws.a_text_has_one_code.Goals as goal
-
-pub returns : goal.returns
-returns c = refuses_once

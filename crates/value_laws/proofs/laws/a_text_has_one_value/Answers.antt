@@ -1,5 +1,0 @@
-use Rattle.pg_values.proofs.Exactness.{reads_once}
-use Rattle.value_laws.proofs.laws.a_text_has_one_value.Goals as goal
-
-pub returns : goal.returns
-returns c = reads_once

@@ -1,5 +1,0 @@
-use Rattle.pg_values.proofs.Exactness.{reads_never}
-use Rattle.value_laws.proofs.laws.no_text_is_read_and_refused.Goals as goal
-
-pub returns : goal.returns
-returns c = reads_never

@@ -1,5 +1,0 @@
-use Rattle.world_laws.proofs.ActsLaws.{act_kept}
-use Rattle.world_laws.proofs.acts.act_keeps.Goals as goal
-
-pub returns : goal.returns
-returns c = act_kept

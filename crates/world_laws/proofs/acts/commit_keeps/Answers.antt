@@ -1,5 +1,0 @@
-use Rattle.world_laws.proofs.ActsCommitting.{commit_kept}
-use Rattle.world_laws.proofs.acts.commit_keeps.Goals as goal
-
-pub returns : goal.returns
-returns c = commit_kept

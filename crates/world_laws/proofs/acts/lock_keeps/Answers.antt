@@ -1,5 +1,0 @@
-use Rattle.world_laws.proofs.ActsLocking.{lock_kept}
-use Rattle.world_laws.proofs.acts.lock_keeps.Goals as goal
-
-pub returns : goal.returns
-returns c = lock_kept

@@ -1,5 +1,0 @@
-use Rattle.world_laws.proofs.ActsResulting.{result_kept}
-use Rattle.world_laws.proofs.acts.result_keeps.Goals as goal
-
-pub returns : goal.returns
-returns c = result_kept

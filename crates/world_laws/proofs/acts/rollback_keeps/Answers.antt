@@ -1,5 +1,0 @@
-use Rattle.world_laws.proofs.ActsBeginning.{rollback_kept}
-use Rattle.world_laws.proofs.acts.rollback_keeps.Goals as goal
-
-pub returns : goal.returns
-returns c = rollback_kept

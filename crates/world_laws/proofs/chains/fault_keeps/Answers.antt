@@ -1,5 +1,0 @@
-use Rattle.world_laws.proofs.ChainsFaulting.{fault_kept}
-use Rattle.world_laws.proofs.chains.fault_keeps.Goals as goal
-
-pub returns : goal.returns
-returns c = fault_kept

@@ -1,5 +1,0 @@
-use Rattle.world_laws.proofs.ChainsTaking.{take_kept}
-use Rattle.world_laws.proofs.chains.take_keeps.Goals as goal
-
-pub returns : goal.returns
-returns c = take_kept

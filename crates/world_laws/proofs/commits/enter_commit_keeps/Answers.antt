@@ -1,5 +1,0 @@
-use Rattle.world_laws.proofs.CommitsEnterCommitLaw.{enter_commit_kept}
-use Rattle.world_laws.proofs.commits.enter_commit_keeps.Goals as goal
-
-pub returns : goal.returns
-returns c = enter_commit_kept

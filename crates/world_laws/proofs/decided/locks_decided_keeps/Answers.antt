@@ -1,5 +1,0 @@
-use Rattle.world_laws.proofs.DecidedLocks.{locks_decided_kept}
-use Rattle.world_laws.proofs.decided.locks_decided_keeps.Goals as goal
-
-pub returns : goal.returns
-returns c = locks_decided_kept

@@ -1,5 +1,0 @@
-use Rattle.world_laws.proofs.DecidedOpens.{opens_decided_kept}
-use Rattle.world_laws.proofs.decided.opens_decided_keeps.Goals as goal
-
-pub returns : goal.returns
-returns c = opens_decided_kept

@@ -1,5 +1,0 @@
-use Rattle.world_laws.proofs.DetachmentsDetaching.{detached_kept}
-use Rattle.world_laws.proofs.detachments.detached_keeps.Goals as goal
-
-pub returns : goal.returns
-returns c = detached_kept

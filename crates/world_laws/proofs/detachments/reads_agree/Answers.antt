@@ -1,5 +1,0 @@
-use Rattle.world_laws.proofs.DetachmentsAgreeing.{reads_agreed}
-use Rattle.world_laws.proofs.detachments.reads_agree.Goals as goal
-
-pub returns : goal.returns
-returns c = reads_agreed

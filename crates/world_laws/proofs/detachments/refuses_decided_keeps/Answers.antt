@@ -1,5 +1,0 @@
-use Rattle.world_laws.proofs.DetachmentsRefuses.{refuses_decided_kept}
-use Rattle.world_laws.proofs.detachments.refuses_decided_keeps.Goals as goal
-
-pub returns : goal.returns
-returns c = refuses_decided_kept

@@ -1,5 +1,0 @@
-use Rattle.world_laws.proofs.FallsDying.{falls_kept}
-use Rattle.world_laws.proofs.falls.falls_keep.Goals as goal
-
-pub returns : goal.returns
-returns c = falls_kept

@@ -1,5 +1,0 @@
-use Rattle.world_laws.proofs.FallsSplitting.{split_on_kept}
-use Rattle.world_laws.proofs.falls.split_on_keeps.Goals as goal
-
-pub returns : goal.returns
-returns c = split_on_kept

@@ -1,5 +1,0 @@
-use Rattle.world_laws.proofs.GateEnterLaw.{enter_snapshot_kept}
-use Rattle.world_laws.proofs.gate.enter_snapshot_keeps.Goals as goal
-
-pub returns : goal.returns
-returns c = enter_snapshot_kept

@@ -1,5 +1,0 @@
-use Rattle.world_laws.proofs.GateFinishing.{finish_kept}
-use Rattle.world_laws.proofs.gate.finish_keeps.Goals as goal
-
-pub returns : goal.returns
-returns c = finish_kept

@@ -1,5 +1,0 @@
-use Rattle.world_laws.proofs.InductionEvents.{event_kept}
-use Rattle.world_laws.proofs.induction.every_event_keeps.Goals as goal
-
-pub returns : goal.returns
-returns c = event_kept

@@ -1,5 +1,0 @@
-use Rattle.world_laws.proofs.LooksChoosing.{chosen_kept}
-use Rattle.world_laws.proofs.looks.chosen_keeps.Goals as goal
-
-pub returns : goal.returns
-returns c = chosen_kept

@@ -1,5 +1,0 @@
-use Rattle.world_laws.proofs.LooksLooking.{goes_on_kept}
-use Rattle.world_laws.proofs.looks.next_keeps.Goals as goal
-
-pub returns : goal.returns
-returns c = goes_on_kept

@@ -1,5 +1,0 @@
-use Rattle.world_laws.proofs.LooksLooking.{strands_kept}
-use Rattle.world_laws.proofs.looks.stranded_keeps.Goals as goal
-
-pub returns : goal.returns
-returns c = strands_kept

@@ -1,5 +1,0 @@
-use Rattle.world_laws.proofs.MarksMarking.{marked_there}
-use Rattle.world_laws.proofs.marks.crossings_marked.Goals as goal
-
-pub returns : goal.returns
-returns c = marked_there

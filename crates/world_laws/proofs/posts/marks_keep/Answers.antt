@@ -1,5 +1,0 @@
-use Rattle.world_laws.proofs.PostsStoring.{remarks}
-use Rattle.world_laws.proofs.posts.marks_keep.Goals as goal
-
-pub returns : goal.returns
-returns c = remarks

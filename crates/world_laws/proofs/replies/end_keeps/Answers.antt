@@ -1,5 +1,0 @@
-use Rattle.world_laws.proofs.RepliesReplying.{end_kept}
-use Rattle.world_laws.proofs.replies.end_keeps.Goals as goal
-
-pub returns : goal.returns
-returns c = end_kept

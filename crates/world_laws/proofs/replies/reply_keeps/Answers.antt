@@ -1,5 +1,0 @@
-use Rattle.world_laws.proofs.RepliesReplying.{reply_kept}
-use Rattle.world_laws.proofs.replies.reply_keeps.Goals as goal
-
-pub returns : goal.returns
-returns c = reply_kept

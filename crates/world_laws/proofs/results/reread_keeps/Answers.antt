@@ -1,5 +1,0 @@
-use Rattle.world_laws.proofs.ResultsRereading.{reread_kept}
-use Rattle.world_laws.proofs.results.reread_keeps.Goals as goal
-
-pub returns : goal.returns
-returns c = reread_kept

@@ -1,5 +1,0 @@
-use Rattle.world_laws.proofs.RunsRunLaw.{ran_kept}
-use Rattle.world_laws.proofs.runs.ran_keeps.Goals as goal
-
-pub returns : goal.returns
-returns c = ran_kept

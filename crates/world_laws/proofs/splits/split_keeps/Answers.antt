@@ -1,5 +1,0 @@
-use Rattle.world_laws.proofs.SplitsSplitLaw.{split_kept}
-use Rattle.world_laws.proofs.splits.split_keeps.Goals as goal
-
-pub returns : goal.returns
-returns c = split_kept

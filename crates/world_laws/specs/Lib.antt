@@ -1,6 +1,0 @@
-pub mod Acted
-pub mod Caused
-pub mod Covered
-pub mod Dying
-pub mod Ends
-pub mod Remarked

@@ -1,3 +1,0 @@
-pub mod Unmarked
-pub mod Following
-pub mod Journals
