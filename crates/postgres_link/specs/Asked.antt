@@ -1,5 +1,5 @@
 -- What a server's message says of the answer to a text: how far the answer has come with it, or that it has ended.
-use Rattle.std.specs.Prelude.{◌≡◌, ◌≢◌, ℕ, pos, ◌==◌, if◌then◌else◌, Bool, true, false, List, [], ◌∷◌, ◌++◌, length, take, drop, All, Option, Some, None, codes}
+use Rattle.std.specs.Prelude.{◌≡◌, ◌≢◌, ℕ, pos, ◌==◌, if◌then◌else◌, Bool, true, false, ◌||◌, List, [], ◌∷◌, ◌++◌, length, take, drop, ◌⊎◌, All, Option, Some, None, codes}
 use Rattle.pool_base.specs.declared.code.Code.{Code}
 use Rattle.pool_base.specs.Codes.{IsCode}
 use Rattle.pg_messages.specs.declared.server.ServerMessage.{ServerMessage}
@@ -25,6 +25,8 @@ use Rattle.postgres_link.specs.declared.asked.Stage.TheVariants as stage
 use Rattle.postgres_link.specs.declared.asked.Asked.{Asked}
 use Rattle.postgres_link.specs.declared.hearing.Step.{Step}
 use Rattle.postgres_link.specs.declared.hearing.Step.TheVariants as step
+use Rattle.postgres_link.specs.declared.hearing.Excess.{Excess}
+use Rattle.postgres_link.specs.declared.hearing.Excess.TheVariants as excess
 
 -- ---- tags
 
@@ -89,12 +91,14 @@ has_rows stage.Open = false
 has_rows stage.Begun = false
 has_rows (stage.Rows rows) = true
 has_rows (stage.Said r) = false
+has_rows (stage.Over code) = false
 
 abbrev pub Adds : Stage → Row → Stage → Type 0
 Adds stage.Open row new = ⊥
 Adds stage.Begun row new = ⊥
 Adds (stage.Rows rows) row new = new ≡ stage.Rows (rows ++ row ∷ [])
 Adds (stage.Said r) row new = ⊥
+Adds (stage.Over code) row new = ⊥
 
 abbrev pub Gains : Wanted → Stage → List (Option (List ℕ)) → Stage → Type 0
 Gains (wanted.Done w) s values new = ⊥
@@ -137,6 +141,14 @@ is_said stage.Open = false
 is_said stage.Begun = false
 is_said (stage.Rows rows) = false
 is_said (stage.Said r) = true
+is_said (stage.Over code) = false
+
+abbrev pub is_over : Stage → Bool
+is_over stage.Open = false
+is_over stage.Begun = false
+is_over (stage.Rows rows) = false
+is_over (stage.Said r) = false
+is_over (stage.Over code) = true
 
 abbrev pub Refuses : Stage → List Part → Stage → Type 0
 Refuses s parts new = (is_said s ≡ false) × (code : Code) × (code_part parts ≡ Some code.bytes) × IsCode code.bytes × (length code.bytes ≡ 5) × (new ≡ stage.Said (reply.Refused code))
@@ -161,14 +173,33 @@ GoesOn w s (message.Complete tag) new = Completes w s tag new
 GoesOn w s (message.Error parts) new = Refuses s parts new
 GoesOn w s m new = ⊥
 
-abbrev pub Goes : Asked → ServerMessage → Asked → Type 0
-Goes old m new = (new.wanted ≡ old.wanted) × GoesOn old.wanted old.stage m new.stage
+-- what else comes of an answer that is too large is passed over; an error is still told
+abbrev pub PassesBy : Stage → ServerMessage → Stage → Type 0
+PassesBy s (message.ParameterStatus name setting) new = new ≡ s
+PassesBy s (message.Notice parts) new = new ≡ s
+PassesBy s (message.RowDescription fields) new = new ≡ s
+PassesBy s (message.DataRow values) new = new ≡ s
+PassesBy s (message.Complete tag) new = new ≡ s
+PassesBy s (message.Error parts) new = Refuses s parts new
+PassesBy s m new = ⊥
 
+abbrev pub GoesAt : Wanted → Stage → ServerMessage → Stage → Type 0
+GoesAt w stage.Open m new = GoesOn w stage.Open m new
+GoesAt w stage.Begun m new = GoesOn w stage.Begun m new
+GoesAt w (stage.Rows rows) m new = GoesOn w (stage.Rows rows) m new
+GoesAt w (stage.Said r) m new = GoesOn w (stage.Said r) m new
+GoesAt w (stage.Over code) m new = PassesBy (stage.Over code) m new
+
+abbrev pub Goes : Asked → ServerMessage → Asked → Type 0
+Goes old m new = (new.wanted ≡ old.wanted) × GoesAt old.wanted old.stage m new.stage
+
+-- behind an answer that was too large stands any status: its block goes on, an error has broken it, or there was none
 abbrev pub Closes : Wanted → Stage → ℕ → Reply → Type 0
 Closes w stage.Open status r = ⊥
 Closes w stage.Begun status r = ⊥
 Closes w (stage.Rows rows) status r = ⊥
 Closes w (stage.Said said) status r = (r ≡ said) × Leaves w said status
+Closes w (stage.Over code) status r = r ≡ reply.Refused code
 
 abbrev pub EndsAt : Wanted → Stage → ServerMessage → Reply → Type 0
 EndsAt w s (message.Ready status) r = Closes w s status r
@@ -177,6 +208,43 @@ EndsAt w s m r = ⊥
 -- the answer has ended with the message, and is this
 abbrev pub Ends : Asked → ServerMessage → Reply → Type 0
 Ends old m r = EndsAt old.wanted old.stage m r
+
+-- ---- answers that are too large
+
+-- the answer is to be refused with a code of these bytes, once it has ended
+abbrev pub IsOver : List ℕ → Stage → Type 0
+IsOver bytes new = (code : Code) × (code.bytes ≡ bytes) × (new ≡ stage.Over code)
+
+-- what was said stays so, and so does the first cause
+abbrev pub GoesOver : Stage → List ℕ → Stage → Type 0
+GoesOver stage.Open bytes new = IsOver bytes new
+GoesOver stage.Begun bytes new = IsOver bytes new
+GoesOver (stage.Rows rows) bytes new = IsOver bytes new
+GoesOver (stage.Said r) bytes new = new ≡ stage.Said r
+GoesOver (stage.Over code) bytes new = new ≡ stage.Over code
+
+-- a message of this type is a notice or a setting, which may come at any place
+abbrev pub is_aside : ℕ → Bool
+is_aside tag = (tag == 78) || (tag == 83)
+
+-- a message of this type may be too long there: a row where rows come, an error before the answer is told
+abbrev pub may_be_long : Stage → ℕ → Bool
+may_be_long stage.Open tag = tag == 69
+may_be_long stage.Begun tag = tag == 69
+may_be_long (stage.Rows rows) tag = (tag == 68) || (tag == 69)
+may_be_long (stage.Said r) tag = false
+may_be_long (stage.Over code) tag = (tag == 68) || (tag == 69)
+
+-- the message is passed over
+abbrev pub ExceedsBy : Stage → ℕ → Stage → Type 0
+ExceedsBy s tag new = ((is_aside tag ≡ true) × (new ≡ s)) ⊎ ((may_be_long s tag ≡ true) × GoesOver s (codes "54000") new)
+
+abbrev pub ExceedsAt : Stage → Excess → Stage → Type 0
+ExceedsAt s (excess.Message tag) new = ExceedsBy s tag new
+ExceedsAt s excess.Answer new = GoesOver s (codes "53200") new
+
+abbrev pub Exceeds : Asked → Excess → Asked → Type 0
+Exceeds old what new = (new.wanted ≡ old.wanted) × ExceedsAt old.stage what new.stage
 
 -- ---- what a function that hears one kind of message answers
 
@@ -191,3 +259,7 @@ abbrev pub IsClosed : Step Reply → Asked → ℕ → Type 0
 IsClosed step.Goes old status = ⊥
 IsClosed (step.Ends r) old status = Closes old.wanted old.stage status r
 IsClosed step.Breaks old status = (r : Reply) → Closes old.wanted old.stage status r → ⊥
+
+-- the message carries an answer on that is not too large
+abbrev pub ReadsOn : Asked → ServerMessage → Asked → Type 0
+ReadsOn old m new = (new.wanted ≡ old.wanted) × GoesOn old.wanted old.stage m new.stage

@@ -8,6 +8,7 @@ use Rattle.postgres_link.specs.declared.start.Arrival.{Arrival}
 use Rattle.postgres_link.specs.declared.start.Arrival.TheVariants as arrival
 use Rattle.postgres_link.specs.declared.start.Welcome.{Welcome}
 use Rattle.postgres_link.specs.declared.start.Welcome.TheVariants as welcome
+use Rattle.postgres_link.specs.declared.hearing.Excess.{Excess}
 use Rattle.postgres_link.specs.Asked.{code_part}
 
 abbrev pub Goes : Arrival → ServerMessage → Arrival → Type 0
@@ -21,3 +22,7 @@ abbrev pub Ends : Arrival → ServerMessage → Welcome → Type 0
 Ends arrival.Inside (message.Ready status) welcome.Ready = status ≡ 73
 Ends a (message.Error parts) (welcome.Refused code) = (code_part parts ≡ Some code.bytes) × IsCode code.bytes × (length code.bytes ≡ 5)
 Ends a m w = ⊥
+
+-- nothing that a server says until it is ready may be too large
+abbrev pub Exceeds : Arrival → Excess → Arrival → Type 0
+Exceeds old what new = ⊥

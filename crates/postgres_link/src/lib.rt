@@ -4,6 +4,7 @@
 
 mod asked;
 mod code;
+mod codes;
 mod hearing;
 mod inbox;
 mod laws;
@@ -13,7 +14,8 @@ mod start;
 mod tag;
 
 pub use asked::{Asked, Reply, Stage, Verb, Wanted, Word};
-pub use hearing::{HEARD_LIMIT, Heard, Hearer, Listening, Step, hear};
+pub use codes::{OUT_OF_MEMORY, PROGRAM_LIMIT_EXCEEDED};
+pub use hearing::{Excess, HEARD_LIMIT, Heard, Hearer, Listening, Step, hear};
 pub use inbox::Inbox;
 pub use laws::cut_anywhere;
 pub use start::{Arrival, Welcome};

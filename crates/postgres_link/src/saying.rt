@@ -11,19 +11,26 @@
 //! Open --tag of the word that opens it--> Begun --columns--> Rows
 //! ```
 //!
-//! Settings and notices are passed over everywhere.
-ghost use Rattle.std.specs.Prelude.{◌≡◌, true, OnErr, OnOk, IfOk, IfSome, IfNone, IsTrue, ◌↔◌, All, length};
+//! Settings and notices are passed over everywhere. Where the answer is too large the rest is
+//! passed over, and it is refused:
+//!
+//! ```text
+//! Open, Begun, Rows --too large--> Over --ready--> the refusal      Over --error--> Said
+//! ```
+ghost use Rattle.std.specs.Prelude.{◌≡◌, true, false, OnErr, OnOk, IfOk, IfSome, IfNone, IsTrue, ◌↔◌, All, length};
 ghost use Rattle.postgres_link.specs.declared.asked.Stage.{Stage};
-ghost use Rattle.postgres_link.specs.Asked.{Goes, Ends, Leaves, Describes, Opens, Gains, Begins, Completes, Refuses, Carries, IsClosed, IsByTag, IsByRows, is_said, opener, has_rows, Adds};
+ghost use Rattle.postgres_link.specs.Hearing.{IsStep};
+ghost use Rattle.postgres_link.specs.Asked.{Goes, Ends, Leaves, Describes, Opens, Gains, Begins, Completes, Refuses, Carries, Exceeds, GoesOver, IsClosed, IsByTag, IsByRows, ReadsOn, is_aside, is_over, is_said, may_be_long, opener, has_rows, Adds};
 
 use crate::asked::{Asked, Reply, Stage, Wanted, Word};
 use crate::code::code_of;
-use crate::hearing::{Hearer, Step};
+use crate::codes::{OUT_OF_MEMORY, PROGRAM_LIMIT_EXCEEDED};
+use crate::hearing::{Excess, Hearer, Step};
 use crate::row::cells_of;
 use crate::tag::{counted, verb_tag, word_tag};
 use pg_messages::{Field, Part, ServerMessage};
 use pg_values::ColType;
-use pool_base::{List, NoMemory};
+use pool_base::{Code, List, NoMemory};
 use sql_eval::Row;
 use std::alloc::Global;
 use std::mem;
@@ -81,7 +88,7 @@ fn has_rows(stage: &Stage) -> bool
     ensures { result ≡ has_rows stage.now }
 {
     match stage {
-        Stage::Open | Stage::Begun | Stage::Said(_) => false,
+        Stage::Open | Stage::Begun | Stage::Said(_) | Stage::Over(_) => false,
         Stage::Rows(_) => true,
     }
 }
@@ -94,7 +101,7 @@ fn push_row(stage: &mut Stage, row: Row) -> Result<(), NoMemory>
 {
     match stage {
         Stage::Rows(rows) => rows.push(row),
-        Stage::Open | Stage::Begun | Stage::Said(_) => {
+        Stage::Open | Stage::Begun | Stage::Said(_) | Stage::Over(_) => {
             drop(row);
             Ok(())
         }
@@ -205,7 +212,7 @@ fn is_said(stage: &Stage) -> bool
     ensures { result ≡ is_said stage.now }
 {
     match stage {
-        Stage::Open | Stage::Begun | Stage::Rows(_) => false,
+        Stage::Open | Stage::Begun | Stage::Rows(_) | Stage::Over(_) => false,
         Stage::Said(_) => true,
     }
 }
@@ -245,6 +252,7 @@ fn leaves(wanted: &Wanted, reply: &Reply, status: u8) -> bool
 }
 
 fn end(asked: &mut Asked, status: u8) -> Step<Reply>
+    requires { is_over asked.old.stage ≡ false }
     ensures { IsClosed result asked.old status }
 {
     let Stage::Said(reply) = &asked.stage else {
@@ -262,6 +270,111 @@ fn end(asked: &mut Asked, status: u8) -> Step<Reply>
     }
 }
 
+/// Whether the answer is too large, and its rest passed over.
+fn is_over(stage: &Stage) -> bool
+    ensures { result ≡ is_over stage.now }
+{
+    match stage {
+        Stage::Open | Stage::Begun | Stage::Rows(_) | Stage::Said(_) => false,
+        Stage::Over(_) => true,
+    }
+}
+
+/// Puts an answer that is too large into the stage in which the rest is passed over.
+fn go_over(asked: &mut Asked, code: Code)
+    ensures wanted { asked.new.wanted ≡ asked.old.wanted }
+    ensures stage { GoesOver asked.old.stage code.bytes asked.new.stage }
+{
+    match &asked.stage {
+        Stage::Open => set(&mut asked.stage, Stage::Over(code)),
+        Stage::Begun => set(&mut asked.stage, Stage::Over(code)),
+        Stage::Rows(_) => set(&mut asked.stage, Stage::Over(code)),
+        Stage::Said(_) | Stage::Over(_) => {}
+    }
+}
+
+/// Whether a message of that type is a notice or a setting.
+fn is_aside(tag: u8) -> bool
+    ensures { result ≡ is_aside tag }
+{
+    tag == b'N' || tag == b'S'
+}
+
+/// Whether a message of that type may be too long there.
+fn may_be_long(stage: &Stage, tag: u8) -> bool
+    ensures { result ≡ may_be_long stage.now tag }
+{
+    match stage {
+        Stage::Open | Stage::Begun => tag == b'E',
+        Stage::Rows(_) | Stage::Over(_) => tag == b'D' || tag == b'E',
+        Stage::Said(_) => false,
+    }
+}
+
+/// Hears a message of an answer that is too large.
+fn pass_by(asked: &mut Asked, message: &ServerMessage) -> Step<Reply>
+    requires { is_over asked.old.stage ≡ true }
+    ensures { IsStep Goes Ends result asked.old message.now asked.new }
+{
+    match message {
+        ServerMessage::ParameterStatus { .. }
+        | ServerMessage::Notice { .. }
+        | ServerMessage::RowDescription { .. }
+        | ServerMessage::DataRow { .. }
+        | ServerMessage::Complete { .. } => Step::Goes,
+        ServerMessage::Error { parts } => refuse(asked, parts.as_slice()),
+        ServerMessage::Ready { .. } => match &asked.stage {
+            Stage::Over(code) => Step::Ends(Reply::Refused(*code)),
+            Stage::Open | Stage::Begun | Stage::Rows(_) | Stage::Said(_) => Step::Breaks,
+        },
+        ServerMessage::AuthOk
+        | ServerMessage::AuthSasl
+        | ServerMessage::AuthContinue { .. }
+        | ServerMessage::AuthFinal { .. }
+        | ServerMessage::BackendKey { .. }
+        | ServerMessage::ParameterDescription { .. }
+        | ServerMessage::Empty
+        | ServerMessage::ParseComplete
+        | ServerMessage::BindComplete
+        | ServerMessage::CloseComplete
+        | ServerMessage::NoData
+        | ServerMessage::Suspended => Step::Breaks,
+    }
+}
+
+/// Hears a message of an answer that is not too large.
+fn read_on(
+    alloc: Global,
+    asked: &mut Asked,
+    message: &ServerMessage,
+) -> Result<Step<Reply>, NoMemory>
+    requires { is_over asked.old.stage ≡ false }
+    ensures step { IfOk result (λ step. IsStep ReadsOn Ends step asked.old message.now asked.new) }
+    ensures kept { OnErr result (asked.new ≡ asked.old) }
+{
+    match message {
+        ServerMessage::ParameterStatus { .. } => Ok(Step::Goes),
+        ServerMessage::Notice { .. } => Ok(Step::Goes),
+        ServerMessage::RowDescription { fields } => Ok(open(alloc, asked, fields.as_slice())),
+        ServerMessage::DataRow { values } => gain(alloc, asked, values.as_slice()),
+        ServerMessage::Complete { tag } => Ok(complete(alloc, asked, tag.as_slice())),
+        ServerMessage::Error { parts } => Ok(refuse(asked, parts.as_slice())),
+        ServerMessage::Ready { status } => Ok(end(asked, *status)),
+        ServerMessage::AuthOk
+        | ServerMessage::AuthSasl
+        | ServerMessage::AuthContinue { .. }
+        | ServerMessage::AuthFinal { .. }
+        | ServerMessage::BackendKey { .. }
+        | ServerMessage::ParameterDescription { .. }
+        | ServerMessage::Empty
+        | ServerMessage::ParseComplete
+        | ServerMessage::BindComplete
+        | ServerMessage::CloseComplete
+        | ServerMessage::NoData
+        | ServerMessage::Suspended => Ok(Step::Breaks),
+    }
+}
+
 impl Hearer for Asked {
     type Reply = Reply;
 
@@ -269,27 +382,28 @@ impl Hearer for Asked {
 
     ghost Ends = { Ends };
 
+    ghost Exceeds = { Exceeds };
+
+    #[tactic(auto, using(crate::proofs::Steps::read_on_step))]
     fn step(&mut self, alloc: Global, message: &ServerMessage) -> Result<Step<Reply>, NoMemory> {
-        match message {
-            ServerMessage::ParameterStatus { .. } => Ok(Step::Goes),
-            ServerMessage::Notice { .. } => Ok(Step::Goes),
-            ServerMessage::RowDescription { fields } => Ok(open(alloc, self, fields.as_slice())),
-            ServerMessage::DataRow { values } => gain(alloc, self, values.as_slice()),
-            ServerMessage::Complete { tag } => Ok(complete(alloc, self, tag.as_slice())),
-            ServerMessage::Error { parts } => Ok(refuse(self, parts.as_slice())),
-            ServerMessage::Ready { status } => Ok(end(self, *status)),
-            ServerMessage::AuthOk
-            | ServerMessage::AuthSasl
-            | ServerMessage::AuthContinue { .. }
-            | ServerMessage::AuthFinal { .. }
-            | ServerMessage::BackendKey { .. }
-            | ServerMessage::ParameterDescription { .. }
-            | ServerMessage::Empty
-            | ServerMessage::ParseComplete
-            | ServerMessage::BindComplete
-            | ServerMessage::CloseComplete
-            | ServerMessage::NoData
-            | ServerMessage::Suspended => Ok(Step::Breaks),
+        if is_over(&self.stage) {
+            return Ok(pass_by(self, message));
+        }
+        read_on(alloc, self, message)
+    }
+
+    fn exceed(&mut self, excess: Excess) -> bool {
+        match excess {
+            Excess::Answer => {
+                go_over(self, OUT_OF_MEMORY);
+                true
+            }
+            Excess::Message(tag) if is_aside(tag) => true,
+            Excess::Message(tag) if may_be_long(&self.stage, tag) => {
+                go_over(self, PROGRAM_LIMIT_EXCEEDED);
+                true
+            }
+            Excess::Message(_) => false,
         }
     }
 }

@@ -9,10 +9,10 @@
 ghost use Rattle.std.specs.Prelude.{◌≡◌, ℕ, List, OnErr, Ok};
 ghost use Rattle.pg_messages.specs.declared.server.ServerMessage.TheVariants as message;
 ghost use Rattle.postgres_link.specs.Hearing.{IsStep};
-ghost use Rattle.postgres_link.specs.Start.{Goes, Ends};
+ghost use Rattle.postgres_link.specs.Start.{Goes, Ends, Exceeds};
 
 use crate::code::code_of;
-use crate::hearing::{Hearer, Step};
+use crate::hearing::{Excess, Hearer, Step};
 use pg_messages::{Part, ServerMessage};
 use pool_base::{Code, NoMemory};
 use std::alloc::Global;
@@ -51,6 +51,8 @@ impl Hearer for Arrival {
 
     ghost Ends = { Ends };
 
+    ghost Exceeds = { Exceeds };
+
     fn step(&mut self, _: Global, message: &ServerMessage) -> Result<Step<Welcome>, NoMemory> {
         Ok(match (*self, message) {
             (Arrival::Outside, ServerMessage::AuthOk) => {
@@ -64,5 +66,9 @@ impl Hearer for Arrival {
             (_, ServerMessage::Error { parts }) => turned_away(parts.as_slice()),
             _ => Step::Breaks,
         })
+    }
+
+    fn exceed(&mut self, _: Excess) -> bool {
+        false
     }
 }

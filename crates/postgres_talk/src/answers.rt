@@ -2,11 +2,14 @@
 ghost use Rattle.std.specs.Prelude.{◌≡◌, ◌≤ℤ◌, ◌⊎◌, ℤ, pos, IfSome};
 ghost use Rattle.pool_base.specs.declared.code.Code.{Code};
 ghost use Rattle.backend_trait.specs.Acts.{IsOf};
+ghost use Rattle.postgres_talk.specs.Forms.{AnswersRows, AnswersRun};
 
+use crate::size::are_small;
 use backend_trait::{Answer, Request, Row, is_of_run};
 use catalogue::Checked;
 use pg_values::Value;
-use postgres_link::Reply;
+use pool_base::List;
+use postgres_link::{PROGRAM_LIMIT_EXCEEDED, Reply};
 
 /// The answer that a reply is to the taking of a snapshot: the rows of `SELECT 1`.
 fn snapshot_answer(reply: Reply) -> Option<Answer>
@@ -22,12 +25,24 @@ fn snapshot_answer(reply: Reply) -> Option<Answer>
     }
 }
 
+/// The answer that rows are. A row that is larger than a row may be is refused.
+fn rows_answer(rows: List<Row>) -> Answer
+    ensures { AnswersRows rows result }
+{
+    if are_small(rows.as_slice()) {
+        return Answer::Rows(rows);
+    }
+    drop(rows);
+    Answer::Refused(PROGRAM_LIMIT_EXCEEDED)
+}
+
 /// The answer that a reply is to a statement.
 fn run_answer(checked: &Checked, reply: Reply) -> Option<Answer>
-    ensures { IfSome result (λ answer. IsOf (Request.Run checked.now) answer) }
+    ensures form { IfSome result (λ answer. IsOf (Request.Run checked.now) answer) }
+    ensures told { IfSome result (λ answer. AnswersRun reply answer) }
 {
     let answer = match reply {
-        Reply::Rows(rows) => Answer::Rows(rows),
+        Reply::Rows(rows) => rows_answer(rows),
         Reply::Count(count) => Answer::Count(count),
         Reply::Refused(code) => Answer::Refused(code),
         Reply::Done => return None,
@@ -116,7 +131,10 @@ fn set_answer(reply: Reply) -> Option<Answer>
 
 /// The answer that the reply to a request is, if it has the form of one.
 pub fn answer_of(request: &Request, reply: Reply) -> Option<Answer>
-    ensures { IfSome result (λ answer. IsOf request.now answer) }
+    ensures form { IfSome result (λ answer. IsOf request.now answer) }
+    // To a statement it is what the reply says, or a refusal, since a row is too large.
+    ensures run { IfSome result (λ answer. (checked : Checked) → request.now ≡ Request.Run checked
+        → AnswersRun reply answer) }
 {
     match request {
         Request::TakeSnapshot => snapshot_answer(reply),

@@ -2,6 +2,7 @@
 #![tactic(auto)]
 
 mod answers;
+mod size;
 mod spelled;
 mod talk;
 mod texts;

@@ -43,10 +43,7 @@ impl Talk {
     {
         Talk {
             request,
-            listening: Listening {
-                hearer: Asked::new(wanted),
-                heard: 0,
-            },
+            listening: Listening::new(Asked::new(wanted)),
         }
     }
 

@@ -1,8 +1,5 @@
-//! The codes that a link gives by itself, and those with which a server turns a client away.
+//! The codes with which a server turns a client away.
 use pool_base::Code;
-
-/// The text of a request is longer than a message may be.
-pub(crate) const PROGRAM_LIMIT_EXCEEDED: Code = Code { bytes: *b"54000" };
 
 /// The server wants to know more of the client than its name: a password, say.
 pub(crate) const INVALID_AUTHORIZATION: Code = Code { bytes: *b"28000" };

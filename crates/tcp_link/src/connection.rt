@@ -115,10 +115,7 @@ fn entry_behind(inbox: &Inbox) -> Entry {
 
 /// Takes what the server sends until it is ready, or turns the client away.
 fn enter<W: Wire>(alloc: Global, wire: &mut W, inbox: &mut Inbox) -> Result<Entry, NoMemory> {
-    let mut listening = Listening {
-        hearer: Arrival::Outside,
-        heard: 0,
-    };
+    let mut listening = Listening::new(Arrival::Outside);
     let mut piece = [0u8; PIECE];
     for _ in 0..START_TRIES {
         match wire.receive(&mut piece) {

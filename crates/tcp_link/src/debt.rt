@@ -155,13 +155,7 @@ impl Debt {
         };
         outbox.add(bytes)?;
         self.owed = None;
-        drop(mem::replace(
-            &mut self.told,
-            Some(Listening {
-                hearer: Asked::new(wanted),
-                heard: 0,
-            }),
-        ));
+        drop(mem::replace(&mut self.told, Some(Listening::new(Asked::new(wanted)))));
         Ok(())
     }
 

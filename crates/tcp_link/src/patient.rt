@@ -15,14 +15,13 @@ ghost use Rattle.pool_base.specs.Outside.{Rose};
 ghost use Rattle.backend_trait.specs.LinkForms.{IsPolled};
 ghost use Rattle.tcp_link.specs.Links.{Answers, pending_of, faults_of};
 
-use crate::codes::PROGRAM_LIMIT_EXCEEDED;
 use crate::debt::{Debt, Ended};
 use crate::outbox::{Emptied, Outbox};
 use crate::wire::{Received, Wire};
 use backend_trait::{Link, Polled, Posted, Request};
 use catalogue::Catalogue;
 use pool_base::{Code, NoMemory};
-use postgres_link::{Inbox, Reply, Wanted};
+use postgres_link::{Inbox, PROGRAM_LIMIT_EXCEEDED, Reply, Wanted};
 use postgres_talk::{Ending, NotSpelled, Said, Spelled, Talk, answer_of, spell, spell_next};
 use std::alloc::Global;
 use std::mem;
@@ -390,7 +389,11 @@ impl<'a, W: Wire> Link for PatientLink<'a, W> {
 
     ghost fault_count = { λ l. faults_of (W.fault_count l.wire) l.violations };
 
+    ghost use Rattle.std.specs.Prelude.{None};
+
     ghost lost = { λ l. l.lost };
+
+    ghost plan = { λ _. None };
 
     fn post(&mut self, request: Request) -> Posted {
         if self.refusal.is_some() {

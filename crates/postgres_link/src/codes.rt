@@ -1,0 +1,12 @@
+//! The codes with which answers are refused that are too large.
+use pool_base::Code;
+
+/// A message of the answer is longer than a message may be, or a row larger than a row.
+///
+/// Source: PostgreSQL, "PostgreSQL Error Codes".
+pub const PROGRAM_LIMIT_EXCEEDED: Code = Code { bytes: *b"54000" };
+
+/// The answer has more bytes than an answer may have.
+///
+/// Source: PostgreSQL, "PostgreSQL Error Codes".
+pub const OUT_OF_MEMORY: Code = Code { bytes: *b"53200" };
