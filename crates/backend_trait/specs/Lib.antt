@@ -9,4 +9,5 @@ pub mod Alone
 pub mod Apart
 pub mod Typed
 pub mod LinkForms
+pub mod Exchanges
 pub mod Acting

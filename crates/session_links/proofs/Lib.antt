@@ -1,3 +1,4 @@
 pub mod Risen
 pub mod Polls
 pub mod Sound
+pub mod Tellings

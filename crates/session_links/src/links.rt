@@ -1,6 +1,7 @@
 //! The links of one session, one for each backend at most.
 ghost use Rattle.std.specs.Prelude.{◌≡◌, ◌≢◌, ◌<◌, ℕ, true, false, length, set, replicate, IfOk};
 ghost use Rattle.pool_base.specs.Sets.{has};
+ghost use Rattle.session_links.specs.Plans.{IsHeard, Puts, awaits, given_up, told_at};
 ghost use Rattle.session_links.specs.Slots.{IsFound, IsSent, are_sound, is_awaited, is_sound, kept_at, request_in, slot_at};
 
 use crate::maker::LinkMaker;
@@ -33,6 +34,13 @@ impl<L: Link> Links<L> {
 
     /// Whether an answer of the backend is awaited, or the word of its loss.
     pub fn is_awaited(&self, b: BackendId) -> bool
+        ensures is { result ≡ is_awaited (slot_at self.now.slots.items b.number) }
+        ensures told { result ≡ awaits (told_at L.pending L.plan self.now.slots.items b.number) }
+    {
+        self.is_asked(b)
+    }
+
+    fn is_asked(&self, b: BackendId) -> bool
         ensures { result ≡ is_awaited (slot_at self.now.slots.items b.number) }
     {
         matches!(
@@ -68,6 +76,9 @@ impl<L: Link> Links<L> {
     ) -> Sent
         requires { is_awaited (slot_at self.old.slots.items b.number) ≡ false }
         ensures sent { IsSent result (slot_at self.new.slots.items b.number) }
+        ensures told { Puts b request result
+            (told_at L.pending L.plan self.old.slots.items b.number) (M.plans maker.old)
+            (told_at L.pending L.plan self.new.slots.items b.number) (M.plans maker.new) }
         ensures others { (c : ℕ) → c ≢ b.number
             → slot_at self.new.slots.items c ≡ slot_at self.old.slots.items c }
     {
@@ -85,6 +96,9 @@ impl<L: Link> Links<L> {
         ensures found { IsFound result
             (request_in L.pending (slot_at self.old.slots.items b.number))
             (slot_at self.new.slots.items b.number) }
+        // Where links tell their exchanges, it is that of the next.
+        ensures told { IsHeard result (told_at L.pending L.plan self.old.slots.items b.number)
+            (told_at L.pending L.plan self.new.slots.items b.number) }
         ensures others { (c : ℕ) → c ≢ b.number
             → slot_at self.new.slots.items c ≡ slot_at self.old.slots.items c }
     {
@@ -100,6 +114,8 @@ impl<L: Link> Links<L> {
     pub fn settle(&mut self, b: BackendId) -> bool
         ensures awaited { is_awaited (slot_at self.new.slots.items b.number)
             ≡ is_awaited (slot_at self.old.slots.items b.number) }
+        ensures told { told_at L.pending L.plan self.new.slots.items b.number
+            ≡ told_at L.pending L.plan self.old.slots.items b.number }
         ensures others { (c : ℕ) → c ≢ b.number
             → slot_at self.new.slots.items c ≡ slot_at self.old.slots.items c }
     {
@@ -115,6 +131,8 @@ impl<L: Link> Links<L> {
     pub fn give_up(&mut self, b: BackendId)
         ensures awaited { is_awaited (slot_at self.new.slots.items b.number)
             ≡ is_awaited (slot_at self.old.slots.items b.number) }
+        ensures told { told_at L.pending L.plan self.new.slots.items b.number
+            ≡ given_up (told_at L.pending L.plan self.old.slots.items b.number) }
         ensures others { (c : ℕ) → c ≢ b.number
             → slot_at self.new.slots.items c ≡ slot_at self.old.slots.items c }
     {

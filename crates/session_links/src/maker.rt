@@ -1,6 +1,7 @@
 //! What makes links.
-ghost use Rattle.std.specs.Prelude.{◌≡◌, ◌≤◌, ℕ, None};
+ghost use Rattle.std.specs.Prelude.{◌≡◌, ◌≤◌, ℕ, List, Option, None};
 ghost use Rattle.pool_base.specs.Outside.{Rose};
+ghost use Rattle.session_links.specs.Plans.{Makes, MakesNone, Plan};
 
 use backend_trait::Link;
 use pg_messages::Pair;
@@ -15,16 +16,24 @@ pub enum Connected<L: Drop> {
     NoMemory,
 }
 
-/// What makes links to the backends.
+/// What makes links to the backends. `plans` are the links that it is still to make, where it tells
+/// them, each with the exchanges that it is to give.
 pub trait LinkMaker {
     type L: Link;
 
     ghost fault_count: { Self → ℕ };
 
+    ghost plans: { Self → Option (List Plan) };
+
     /// Begins a session at that backend, with the options of the client's own start.
     fn connect(&mut self, b: BackendId, options: &[Pair]) -> Connected<Self::L>
         ensures ready { (link : _) → result ≡ Connected.Ready link
             → Self.L.pending link ≡ None }
+        ensures makes { (link : _) → result ≡ Connected.Ready link
+            → Makes b (plans self.old) (Self.L.plan link) (plans self.new) }
+        ensures kept { ((link : _) → result ≡ Connected.Ready link → ⊥)
+            → plans self.new ≡ plans self.old }
+        ensures none { result ≡ Connected.Failed → MakesNone b (plans self.old) }
         ensures failed { result ≡ Connected.Failed
             → Rose (fault_count self.old) (fault_count self.new) }
         ensures later { fault_count self.old ≤ fault_count self.new };

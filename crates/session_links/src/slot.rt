@@ -7,6 +7,7 @@
 //!   └────────────── a look ──────────┘
 //! ```
 ghost use Rattle.std.specs.Prelude.{◌≡◌, true, false, None};
+ghost use Rattle.session_links.specs.Plans.{IsHeard, IsPut, IsPutAnew, Puts, given_up, told_in};
 ghost use Rattle.session_links.specs.Slots.{IsFound, IsSent, is_awaited, is_sound, request_in};
 
 use crate::loss::Loss;
@@ -53,6 +54,7 @@ fn ask<L: Link>(mut link: L, request: Request) -> (Slot<L>, Sent)
     requires idle { L.pending link ≡ None }
     ensures sound { is_sound L.pending result.0 ≡ true }
     ensures sent { IsSent result.1 result.0 }
+    ensures told { IsPut result.1 request (L.plan link) (told_in L.pending L.plan result.0) }
 {
     match link.post(request) {
         Posted::Accepted => (Slot::Asked(link), Sent::Accepted),
@@ -73,6 +75,8 @@ fn ask_anew<L: Link, M: LinkMaker<L = L>>(
 ) -> (Slot<L>, Sent)
     ensures sound { is_sound L.pending result.0 ≡ true }
     ensures sent { IsSent result.1 result.0 }
+    ensures told { IsPutAnew b request result.1 (M.plans maker.old)
+        (told_in L.pending L.plan result.0) (M.plans maker.new) }
 {
     let before = maker.faults();
     match maker.connect(b, options) {
@@ -101,6 +105,8 @@ pub(crate) fn put<L: Link, M: LinkMaker<L = L>>(
     requires free { is_awaited slot ≡ false }
     ensures sound { is_sound L.pending result.0 ≡ true }
     ensures sent { IsSent result.1 result.0 }
+    ensures told { Puts b request result.1 (told_in L.pending L.plan slot) (M.plans maker.old)
+        (told_in L.pending L.plan result.0) (M.plans maker.new) }
 {
     match slot {
         Slot::Empty => ask_anew(b, request, maker, options),
@@ -115,6 +121,8 @@ fn hear<L: Link>(mut link: L) -> (Slot<L>, Found)
     requires before { is_sound L.pending (Slot.Asked link) ≡ true }
     ensures sound { is_sound L.pending result.0 ≡ true }
     ensures found { IsFound result.1 (L.pending link) result.0 }
+    ensures told { IsHeard result.1 (told_in L.pending L.plan (Slot.Asked link))
+        (told_in L.pending L.plan result.0) }
 {
     let before = link.faults();
     match link.poll() {
@@ -135,6 +143,8 @@ pub(crate) fn look<L: Link>(slot: Slot<L>) -> (Slot<L>, Found)
     requires awaited { is_awaited slot ≡ true }
     ensures sound { is_sound L.pending result.0 ≡ true }
     ensures found { IsFound result.1 (request_in L.pending slot) result.0 }
+    ensures told { IsHeard result.1 (told_in L.pending L.plan slot)
+        (told_in L.pending L.plan result.0) }
 {
     match slot {
         Slot::Asked(link) => hear(link),
@@ -158,6 +168,7 @@ pub(crate) fn settled<L: Link>(slot: Slot<L>) -> (Slot<L>, bool)
     requires before { is_sound L.pending slot ≡ true }
     ensures sound { is_sound L.pending result.0 ≡ true }
     ensures awaited { is_awaited result.0 ≡ is_awaited slot }
+    ensures told { told_in L.pending L.plan result.0 ≡ told_in L.pending L.plan slot }
 {
     match slot {
         Slot::Idle(mut link) => {
@@ -173,6 +184,7 @@ pub(crate) fn given_up<L: Link>(slot: Slot<L>) -> Slot<L>
     requires before { is_sound L.pending slot ≡ true }
     ensures sound { is_sound L.pending result ≡ true }
     ensures awaited { is_awaited result ≡ is_awaited slot }
+    ensures told { told_in L.pending L.plan result ≡ given_up (told_in L.pending L.plan slot) }
 {
     match slot {
         Slot::Asked(link) => Slot::Lost(loss_of(link)),

@@ -64,7 +64,11 @@ impl<'a, R: Net<Stream = TcpStream>> TcpMaker<'a, R> {
 }
 
 impl<'a, R: Net<Stream = TcpStream>> LinkMaker for TcpMaker<'a, R> {
+    ghost use Rattle.std.specs.Prelude.{None};
+
     ghost fault_count = { λ m. m.faults };
+
+    ghost plans = { λ _. None };
 
     type L = TcpLink<'a>;
 
