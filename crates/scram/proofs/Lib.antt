@@ -8,5 +8,6 @@ pub mod Blocks
 pub mod Turns
 pub mod Parts
 pub mod Readers
+pub mod Telling
 pub mod Sides
 pub mod Exchange

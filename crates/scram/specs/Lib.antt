@@ -3,6 +3,7 @@ pub mod Keys
 pub mod Words
 pub mod Messages
 pub mod Verifiers
+pub mod Tests
 pub mod Servers
 pub mod Clients
 pub mod Laws

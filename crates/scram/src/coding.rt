@@ -17,6 +17,15 @@ pub(crate) fn put_base64(alloc: Global, bytes: &[u8], onto: &mut List<u8>) -> Re
     onto.extend_from_slice(text.as_bytes())
 }
 
+/// A nonce of such bytes: they are to be random, and new each time.
+pub fn nonce_of(alloc: Global, bytes: &[u8]) -> Result<List<u8>, NoMemory>
+    ensures { IfOk result (λ nonce. nonce ≡ in_base64 bytes.now) }
+{
+    let mut nonce = List::new(alloc);
+    put_base64(alloc, bytes, &mut nonce)?;
+    Ok(nonce)
+}
+
 /// The bytes of a text in base64. Only the form that is written is read.
 #[tactic(auto, unfolding(crate::specs::Words::in_base64))]
 pub(crate) fn read_base64(alloc: Global, text: &[u8]) -> Result<Option<List<u8>>, NoMemory>

@@ -1,11 +1,12 @@
 //! What a server keeps of a password.
-ghost use Rattle.std.specs.Prelude.{◌≡◌, ◌≢◌, ◌≤◌, ℕ, List as Sequence, MatchOption, IfOk};
-ghost use Rattle.scram.specs.Words.{IsRounds, IsPassword, Lacks, Reads};
+ghost use Rattle.std.specs.Prelude.{◌≡◌, ◌≢◌, ◌≤◌, ◌↔◌, ℕ, true, List as Sequence, MatchOption, IfOk, decimal};
+ghost use Rattle.scram.specs.Words.{IsRounds, IsPassword, Lacks, Reads, in_base64};
 ghost use Rattle.scram.specs.Verifiers.{verifier_text, IsTextOf, IsVerifierOf};
+ghost use Rattle.scram.specs.Tests.{is_verifier, HasVerifier};
 ghost use Rattle.scram.specs.declared.verifier.Verifier.{Verifier};
 
-use crate::coding::{read_base64, read_digest};
-use crate::count::read_rounds;
+use crate::coding::{put_base64, read_base64, read_digest};
+use crate::count::{put_count, read_rounds};
 use crate::fault::ScramFault;
 use crate::keys::keys_of;
 use crate::pieces::{after, field};
@@ -94,6 +95,37 @@ pub fn read_verifier(alloc: Global, text: &[u8]) -> Result<Verifier, ScramFault>
         Some(verifier) => Ok(verifier),
         None => Err(ScramFault::Malformed),
     }
+}
+
+/// The text of a verifier.
+///
+/// Shape: `SCRAM-SHA-256$rounds:salt$stored:server`, the last three in base64.
+/// Source: PostgreSQL, "System Catalogs", "pg_authid".
+pub fn write_verifier(alloc: Global, verifier: &Verifier) -> Result<List<u8>, NoMemory>
+    ensures { IfOk result (λ text. text ≡ verifier_text (decimal verifier.now.rounds)
+        (in_base64 verifier.now.salt) (in_base64 verifier.now.stored)
+        (in_base64 verifier.now.server)) }
+{
+    let mut text = List::from_slice(alloc, b"SCRAM-SHA-256$")?;
+    put_count(alloc, verifier.rounds, &mut text)?;
+    text.extend_from_slice(b":")?;
+    put_base64(alloc, verifier.salt.as_slice(), &mut text)?;
+    text.extend_from_slice(b"$")?;
+    put_base64(alloc, verifier.stored.as_slice(), &mut text)?;
+    text.extend_from_slice(b":")?;
+    put_base64(alloc, verifier.server.as_slice(), &mut text)?;
+    Ok(text)
+}
+
+/// Whether a text is that of a verifier.
+#[tactic(auto, using(crate::proofs::Telling::verifier_exactly, crate::proofs::Telling::verifier_read))]
+pub fn is_verifier(alloc: Global, text: &[u8]) -> Result<bool, NoMemory>
+    ensures is { IfOk result (λ is. is ≡ is_verifier text.now) }
+    // The test is true of the texts that a verifier has, and of no others.
+    ensures exact { (is_verifier text.now ≡ true) ↔ HasVerifier text.now }
+{
+    let read = verifier_of(alloc, text)?;
+    Ok(read.is_some())
 }
 
 /// The verifier of a password.
