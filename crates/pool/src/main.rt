@@ -2,8 +2,10 @@
 //! `pool serve CONFIG SCHEMA` serves TCP clients before PostgreSQL servers.
 #![tactic(auto)]
 
+mod advice;
 mod serving;
 
+use crate::advice::advise;
 use crate::serving::serve;
 use pool_base::{Files, NoMemory, Sink, SystemFiles, WriterSink};
 use pool_run::{Status, ask_to_serve, run_over_stores};
@@ -58,7 +60,8 @@ fn run<R: Host, F: Files, O: Sink>(
     }
 }
 
-/// Runs the command that the program is called with, and writes to a buffer.
+/// Runs the command that the program is called with, and writes to a buffer. Standard error has why
+/// it ends where it ends before it begins.
 fn run_buffered<R: Host, W: Write>(
     rt: &HostRuntime,
     host: R,
@@ -71,7 +74,9 @@ fn run_buffered<R: Host, W: Write>(
     }
     let mut files = SystemFiles::new(rt.clone()?);
     let mut out = WriterSink::new(buffer);
-    run(host, rt.alloc(), words.as_slice(), &mut files, &mut out)
+    let code = run(host, rt.alloc(), words.as_slice(), &mut files, &mut out)?;
+    advise(rt, words.as_slice(), code)?;
+    Ok(code)
 }
 
 /// Runs the command, and then writes what is left in the buffer. Where that cannot be written, the
