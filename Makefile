@@ -18,8 +18,8 @@ fmt:             ## lay out every crate
 	@for c in $(CRATES); do (cd crates/$$c && rt fmt) || exit 1; done
 edits:           ## the must-fail edits: make edits C=pool_base
 	rt must-fail $(crate)
-gate:            ## prove one crate and those below it for the gate: make gate C=pool_base
-	rt ci $(crate)
+gate:            ## prove one crate as the gate does: make gate C=pool_base
+	@if rt help | grep -q 'rt ci .*NAME'; then rt ci $(crate); else (cd crates/$(crate) && rt check && rt test) && rt must-fail $(crate); fi
 test:            ## everything that the merge runs
 	./test
 release:         ## renew the program in release/: it is proved and built first where a source has changed

@@ -16,7 +16,7 @@ use Rattle.schema.specs.Types.{kind_of, may_be_key, is_serial}
 use Rattle.schema.specs.Open.{has_column, bare_column, may_take_type, with_column, whole_column, fill_or_nothing, number_or}
 use Rattle.schema.specs.Grammar.{PartOf, not_null, key, filled, PartsOf, TypeOf, ColumnOf, ColumnsOf}
 use Rattle.schema.proofs.Completing.{both_of}
-use Rattle.schema_print.specs.Printed as printed
+use Rattle.schema.specs.Allowed as allowed
 use Rattle.schema.specs.Allowed.{IsName, IsColumn, IsFillOf, IsKeyIf, is_key_kind, is_at, IsBelow}
 use Rattle.sql_profile.proofs.SchemaNames.{AreClean}
 use Rattle.sql_profile.proofs.Constants.{IsFillOfKind, fill_given}
@@ -57,14 +57,14 @@ whole_fill : (column : ColumnDef) (o : Option Fill) (serial : Truth) → (serial
 whole_fill column o true is given = is refl
 whole_fill column o false is given = given_fill column o given
 
-not_serial : (of : ColType) (o : Option Fill) → IsGiven of o → printed.is_serial (fill_or_nothing o) ≡ false
+not_serial : (of : ColType) (o : Option Fill) → IsGiven of o → allowed.is_serial (fill_or_nothing o) ≡ false
 not_serial of None is = refl
 not_serial of (Some fill.Nothing) is = refl
 not_serial of (Some fill.Serial) is = absurd is
 not_serial of (Some fill.Now) is = refl
 not_serial of (Some (fill.Constant v)) is = refl
 
-whole_serial : (of : ColType) (o : Option Fill) (serial : Truth) → IsGiven of o → printed.is_serial (if serial then fill.Serial else fill_or_nothing o) ≡ serial
+whole_serial : (of : ColType) (o : Option Fill) (serial : Truth) → IsGiven of o → allowed.is_serial (if serial then fill.Serial else fill_or_nothing o) ≡ serial
 whole_serial of o true is = refl
 whole_serial of o false is = not_serial of o is
 
