@@ -7,8 +7,12 @@ use pool_base::{List, NoMemory, Text};
 use pool_config::{ConfigFault, parse_config};
 use std::alloc::Global;
 
-/// So many parameters are required at most: the mode, and two of each backend.
-const MOST: u32 = 17;
+/// So many parameters are required at most: the mode, and two of each backend and of each user.
+const MOST: u32 = 49;
+
+/// A verifier that is given for each that is missing. It is that of no password.
+const VERIFIER: &[u8] = b" = 'SCRAM-SHA-256$1:$AAAAAAAAAAAAAAAAAAAAAAAAAAAAAAAAAAAAAAAAAAA=:\
+    AAAAAAAAAAAAAAAAAAAAAAAAAAAAAAAAAAAAAAAAAAA='";
 
 /// A text of so many bytes is not looked at.
 const LIMIT: usize = 1_000_000;
@@ -65,6 +69,10 @@ fn value_for(name: &[u8]) -> &'static [u8] {
         b" = 1"
     } else if name.starts_with(b"backend_hostname") {
         b" = 'a'"
+    } else if name.starts_with(b"scram_user") {
+        b" = 'a'"
+    } else if name.starts_with(b"scram_verifier") {
+        VERIFIER
     } else {
         b" = 'snapshot_isolation'"
     }

@@ -1,5 +1,5 @@
-//! How an operator reads a faulty line. Of a line without a known name no value is shown: it may
-//! be a password.
+//! How an operator reads a faulty line. No value is shown of a line without a known name, nor of a
+//! password or a verifier.
 
 use crate::fault::{LineFault, Refusal};
 use crate::wanted::{Wanted, wanted_of};
@@ -38,6 +38,9 @@ fn write_parts<W: fmt::Write>(
             write!(f, "{name}: there is no such parameter; drop the line")
         }
         (Refusal::WrongMode, _) => { write!(f, "{name} = {value}: must be {}", Wanted::Mode) }
+        (Refusal::Bad, Some(wanted @ (Wanted::Secret | Wanted::Verifier))) => {
+            write!(f, "{name}: must be {wanted}")
+        }
         (Refusal::Bad, Some(wanted)) => write!(f, "{name} = {value}: must be {wanted}"),
         (Refusal::Bad, None) => f.write_str("must be `name = value`, and maybe a comment"),
     }

@@ -1,11 +1,12 @@
 //! What the parameter of a name takes.
-ghost use Rattle.std.specs.Prelude.{◌≡◌, option_map};
+ghost use Rattle.std.specs.Prelude.{◌≡◌, option_map, take, drop};
 ghost use Rattle.pool_config.specs.Table.{kind_of};
-ghost use Rattle.pool_config.specs.Names.{single_named, numbered_named, of_stem, parameter_named};
+ghost use Rattle.pool_config.specs.Names.{single_named, numbered_named, of_stem, user_named, parameter_named};
 ghost use Rattle.pool_advice.specs.Wanting.{kind_wanted};
 ghost use Rattle.pool_base.specs.declared.backend_id.BackendId.{BackendId};
 
 use pool_base::BackendId;
+use pool_config::user_at;
 use std::fmt;
 
 /// What values a parameter takes.
@@ -23,6 +24,10 @@ pub enum Wanted {
     Truth,
     /// On alone.
     OnlyOn,
+    /// A string that is the text of a verifier.
+    Verifier,
+    /// A string of the bytes 32 to 126.
+    Secret,
 }
 
 /// What the parameter of that name takes, if there is one.
@@ -32,7 +37,10 @@ pub fn wanted_of(name: &[u8]) -> Option<Wanted>
 {
     match single_wanted(name) {
         Some(wanted) => Some(wanted),
-        None => numbered_wanted(name),
+        None => match numbered_wanted(name) {
+            Some(wanted) => Some(wanted),
+            None => user_wanted(name),
+        },
     }
 }
 
@@ -58,6 +66,8 @@ fn single_wanted(name: &[u8]) -> Option<Wanted>
         Some(Wanted::OnlyOn)
     } else if name == b"failover_if_affected_tuples_mismatch".as_slice() {
         Some(Wanted::OnlyOn)
+    } else if name == b"backend_password".as_slice() {
+        Some(Wanted::Secret)
     } else {
         None
     }
@@ -103,6 +113,29 @@ fn stem_wanted(stem: &[u8], _backend: BackendId) -> Option<Wanted>
     }
 }
 
+/// A name's first bytes, and what stands behind them.
+fn cut_at(name: &[u8], count: usize) -> (&[u8], &[u8])
+    ensures front { result.0.now ≡ take count name.now }
+    ensures behind { result.1.now ≡ drop count name.now }
+{
+    name.split_at(name.len().min(count))
+}
+
+/// Of those of one user.
+fn user_wanted(name: &[u8]) -> Option<Wanted>
+    ensures { option_map kind_wanted result ≡ option_map kind_of (user_named name.now) }
+{
+    let (stem, digits) = cut_at(name, 10);
+    if stem == b"scram_user".as_slice() {
+        return user_at(digits).map(|_user| Wanted::Words);
+    }
+    let (stem, digits) = cut_at(name, 14);
+    if stem == b"scram_verifier".as_slice() {
+        return user_at(digits).map(|_user| Wanted::Verifier);
+    }
+    None
+}
+
 impl fmt::Display for Wanted {
     fn fmt<W: fmt::Write>(&self, f: &mut fmt::Formatter<W>) -> fmt::Result {
         match self {
@@ -112,6 +145,10 @@ impl fmt::Display for Wanted {
             Wanted::Number { low, high } => write!(f, "a number from {low} to {high}, in digits"),
             Wanted::Truth => f.write_str("on, off, true or false"),
             Wanted::OnlyOn => f.write_str("on, or no line at all"),
+            Wanted::Verifier => f.write_str(
+                "a verifier in single quotes, as `pool verifier` makes one",
+            ),
+            Wanted::Secret => f.write_str("a string in single quotes, of the bytes 32 to 126"),
         }
     }
 }

@@ -8,13 +8,16 @@ use Rattle.pool_config.specs.Bytes.{has, AllOf, lines, onto}
 use Rattle.pool_config.specs.Form.{Spelling, quoted, bare, spelled, IsSpelling}
 use Rattle.pool_config.specs.Value.{value_of, number_of}
 use Rattle.pool_config.specs.Table.{all_backends, kind_of, takes, place_of}
+use Rattle.scram.specs.Tests.{is_verifier}
+use Rattle.pool_config.specs.Users.{all_users}
+use Rattle.pool_config.specs.declared.user.UserNumber.{UserNumber}
 use Rattle.pool_config.specs.Settings.{Sets, Say}
-use Rattle.pool_config.specs.Configuration.{standing, said_by, later, text_in, number_in, count_of, backends_in, node_of, lacks, missing_of, config_of, IsConfiguration, IsString, AreAllowedNodes, IsAllowed}
+use Rattle.pool_config.specs.Configuration.{standing, said_by, later, text_in, number_in, count_of, backends_in, node_of, user_count_of, users_in, user_of, text_there, required_at, required_of, lacks, missing_of, config_of, IsConfiguration, IsString, AreAllowedNodes, AreAllowedUsers, IsAllowedPassword, IsAllowed}
 use Rattle.pool_config.specs.Reader.{Gives, answer_of}
 use Rattle.pool_config.specs.declared.line.Class.{Class}
 use Rattle.pool_config.specs.declared.line.Class.TheVariants.{InLine}
 use Rattle.pool_config.specs.declared.parameter.Parameter.{Parameter}
-use Rattle.pool_config.specs.declared.parameter.Parameter.TheVariants.{ClusteringMode, Hostname, BackendPort, Weight, ListenAddresses, Port, Children}
+use Rattle.pool_config.specs.declared.parameter.Parameter.TheVariants.{ClusteringMode, Hostname, BackendPort, Weight, ListenAddresses, Port, Children, ScramUser, ScramVerifier, BackendPassword}
 use Rattle.pool_config.specs.declared.parameter.Kind.{Kind}
 use Rattle.pool_config.specs.declared.parameter.Kind.TheVariants as kind
 use Rattle.pool_config.specs.declared.value.Value.{Value}
@@ -22,7 +25,7 @@ use Rattle.pool_config.specs.declared.value.Value.TheVariants.{Text, Number, Tru
 use Rattle.pool_config.specs.declared.assemble.Setting.{Setting}
 use Rattle.pool_config.specs.declared.config.Config.{Config}
 use Rattle.pool_config.specs.declared.fault.ConfigFault.{ConfigFault}
-use Rattle.pool_config.proofs.Lists.{find-append}
+use Rattle.pool_config.proofs.Lists.{find-append, neither}
 use Rattle.pool_config.proofs.Ranges.{same_kind, counts_one}
 use Rattle.pool_config.proofs.Laws.{given_means}
 
@@ -172,10 +175,6 @@ not_found : {X : Type 0} (t : Bool) (x : X) (rest : Option X) → cond t (Some x
 not_found true x rest e = absurd (cc)
 not_found false x rest e = (refl, e)
 
-neither : {X : Type 0} (a b : Option X) → later a b ≡ None → (a ≡ None) × (b ≡ None)
-neither None b e = (refl, e)
-neither (Some x) b e = absurd (cc)
-
 nodes_for : (said : List Setting) (bs : List BackendId) → AreSettings said → find (lacks said) (map Hostname bs) ≡ None
     → find (lacks said) (map BackendPort bs) ≡ None → AreAllowedNodes (map (node_of said) bs)
 nodes_for said [] h e f = tt
@@ -203,12 +202,46 @@ map_length : {X : Type 0} {Y : Type 0} (f : X → Y) (xs : List X) → length (m
 map_length f [] = refl
 map_length f (x ∷ xs) = ap suc (map_length f xs)
 
+-- ---- the users
+
+name_for : (v : Option Value) → not (is_some v) ≡ false → IsFor kind.Words v → IsString (text_in (later v None))
+name_for None e h = absurd (cc)
+name_for (Some (Text t)) e h = h.1
+name_for (Some (Number n)) e h = let f = h.0 in absurd (cc)
+name_for (Some (Truth on)) e h = let f = h.0 in absurd (cc)
+
+verifier_for : (v : Option Value) → not (is_some v) ≡ false → IsFor kind.Verifier v → IsString (text_in (later v None)) × (is_verifier (text_in (later v None)) ≡ true)
+verifier_for None e h = absurd (cc)
+verifier_for (Some (Text t)) e h = (h.1, h.0)
+verifier_for (Some (Number n)) e h = let f = h.0 in absurd (cc)
+verifier_for (Some (Truth on)) e h = let f = h.0 in absurd (cc)
+
+password_for : (v : Option Value) → IsFor kind.Secret v → IsAllowedPassword (text_there (later v None))
+password_for None h = tt
+password_for (Some (Text t)) h = (h.1, h.0)
+password_for (Some (Number n)) h = tt
+password_for (Some (Truth on)) h = tt
+
+users_for : (said : List Setting) (us : List UserNumber) → AreSettings said → find (lacks said) (map ScramUser us) ≡ None
+    → find (lacks said) (map ScramVerifier us) ≡ None → AreAllowedUsers (map (user_of said) us)
+users_for said [] h e f = tt
+users_for said (u ∷ us) h e f =
+    let p = not_found (lacks said (ScramUser u)) (ScramUser u) (find (lacks said) (map ScramUser us)) e in
+    let q = not_found (lacks said (ScramVerifier u)) (ScramVerifier u) (find (lacks said) (map ScramVerifier us)) f in
+    let verifier = verifier_for (standing (ScramVerifier u) said) q.0 (standing_for (ScramVerifier u) said h) in
+    ((name_for (standing (ScramUser u) said) p.0 (standing_for (ScramUser u) said h), verifier.0, verifier.1), users_for said us h p.1 q.1)
+
 -- ---- the whole
 
 settings_allowed : (said : List Setting) → AreSettings said → missing_of said ≡ None → IsAllowed (config_of said)
 settings_allowed said h complete =
     let bs : List BackendId = backends_in said in
-    let mode = not_found (lacks said ClusteringMode) ClusteringMode (find (lacks said) (map Hostname bs ++ map BackendPort bs)) complete in
+    let us : List UserNumber = users_in said in
+    let two = neither (find (lacks said) (required_at bs)) (find (lacks said) (required_of us)) (sym (find-append (lacks said) (required_at bs) (required_of us)) ∙ complete) in
+    let mode = not_found (lacks said ClusteringMode) ClusteringMode (find (lacks said) (map Hostname bs ++ map BackendPort bs)) two.0 in
+    let shown = neither (find (lacks said) (map ScramUser us)) (find (lacks said) (map ScramVerifier us)) (sym (find-append (lacks said) (map ScramUser us) (map ScramVerifier us)) ∙ two.1) in
+    let many = map_length (user_of said) us in
+    let most = few_taken (user_count_of said) all_users in
     let each = neither (find (lacks said) (map Hostname bs)) (find (lacks said) (map BackendPort bs)) (sym (find-append (lacks said) (map Hostname bs) (map BackendPort bs)) ∙ mode.1) in
     let long = map_length (node_of said) bs in
     let some = some_taken (count_of said) (counts_one said) in
@@ -224,6 +257,9 @@ settings_allowed said h complete =
       port_to = port.1;
       children_from = children.0;
       children_to = children.1;
+      few_users = subst (λ (n : ℕ). n ≤ 16) (sym many) most;
+      users = users_for said us h shown.0 shown.1;
+      password = password_for (standing BackendPassword said) (standing_for BackendPassword said h);
     }
 
 -- every configuration that a text says is allowed

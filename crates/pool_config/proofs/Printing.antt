@@ -1,52 +1,50 @@
 -- The written text says the configuration that was written.
-use Rattle.std.proofs.Common.{◌≡◌, ◌≢◌, ◌==◌, ◌≤◌, ◌<◌, ◌+◌, ◌-◌, ◌*◌, ◌^◌, ◌&&◌, ◌||◌, inr, ℕ, Bool, true, false, not, List, [], ◌∷◌, ◌++◌, Option, Some, None, refl, ap, sym, ◌∙◌, subst, length, codes, if◌then◌else◌, append_assoc, append-nil, arith, nat_lt, nat_le, bytes_eq, option_map, Result, Ok, Err, IfOk}
+use Rattle.std.proofs.Common.{◌≡◌, ◌≢◌, ◌==◌, ◌≤◌, ◌<◌, ◌+◌, ◌-◌, ◌*◌, ◌^◌, ◌&&◌, ◌||◌, inr, ℕ, Bool, true, false, not, List, [], ◌∷◌, ◌++◌, Option, Some, None, refl, ap, sym, ◌∙◌, subst, length, codes, if◌then◌else◌, append_assoc, append-nil, arith, nat_lt, nat_le, bytes_eq, option_map}
 use lib.Dec.{lit<}
 use Rattle.std.proofs.lemmas.Bool.Decides.{nat_tests}
 use Rattle.std.proofs.lemmas.Fmt.{digits_decimal, digits_value-decimal, length-decimal-le, decimal_nonempty, decimal_digit}
 use Rattle.std.proofs.lemmas.Str.Parse.{IsNumeralModel, numerals_by_fold, tells_all_ascii_digits}
 use Rattle.std.specs.Fmt.{decimal}
 use Rattle.std.specs.Char.{is_ascii_digit}
-use Rattle.std.specs.Str.{all_ascii_digits, is_utf8, chars}
-use Rattle.std.specs.Char.{encode_utf8}
+use Rattle.std.specs.Str.{all_ascii_digits}
 use Rattle.pool_base.specs.declared.backend_id.BackendId.{BackendId}
 use Rattle.pool_config.specs.Bytes.{has, AllOf, lines, onto}
 use Rattle.pool_config.specs.Form.{Spelling, quoted, bare, spelled, IsSpelling}
 use Rattle.pool_config.specs.Value.{value_of, word_value, number_of, number_after}
-use Rattle.pool_config.specs.Table.{all_backends, numbered, kind_of, takes}
+use Rattle.pool_config.specs.Table.{numbered, kind_of, takes}
 use Rattle.pool_config.specs.Names.{parameter_named}
 use Rattle.pool_config.specs.Settings.{Sets, Say}
-use Rattle.pool_config.specs.Configuration.{config_of, missing_of, IsConfiguration, IsString, IsAllowedNode, AreAllowedNodes, IsAllowed}
-use Rattle.pool_config.specs.Printed.{line_of, string_line, number_line, truth_line, node_text, nodes_text, rest_text, text_of}
+use Rattle.pool_config.specs.Configuration.{IsString, IsAllowedNode, AreAllowedNodes}
+use Rattle.pool_config.specs.Printed.{line_of, string_line, number_line, truth_line, node_text, nodes_text}
 use Rattle.pool_config.specs.declared.line.Class.{Class}
-use Rattle.pool_config.specs.declared.line.Class.TheVariants.{Name, Word, Inner, InLine}
+use Rattle.pool_config.specs.declared.line.Class.TheVariants.{Name, Word, InLine}
 use Rattle.pool_config.specs.declared.parameter.Parameter.{Parameter}
-use Rattle.pool_config.specs.declared.parameter.Parameter.TheVariants.{ClusteringMode, Hostname, BackendPort, Weight, ListenAddresses, Port, Children, LoadBalance, StatementBalance}
+use Rattle.pool_config.specs.declared.parameter.Parameter.TheVariants.{ClusteringMode, Hostname, BackendPort, Weight, ListenAddresses, Port, Children, LoadBalance, StatementBalance, BackendPassword}
 use Rattle.pool_config.specs.declared.value.Value.{Value}
 use Rattle.pool_config.specs.declared.value.Value.TheVariants.{Text, Number, Truth}
 use Rattle.pool_config.specs.declared.assemble.Setting.{Setting}
-use Rattle.pool_config.specs.declared.config.Config.{Config}
 use Rattle.pool_config.specs.declared.config.Node.{Node}
 use Rattle.pool_config.proofs.Backends.{same_backend, each_below_8}
 
-both : (a b : Bool) → (a && b) ≡ true → (a ≡ true) × (b ≡ true)
+pub both : (a b : Bool) → (a && b) ≡ true → (a ≡ true) × (b ≡ true)
 both true b e = (refl, e)
 both false b e = absurd (cc)
 
-not_false : (t : Bool) → not t ≡ true → t ≡ false
+pub not_false : (t : Bool) → not t ≡ true → t ≡ false
 not_false true e = absurd (cc)
 not_false false e = refl
 
 -- ---- bytes of a class, by a test
 
-abbrev all_of : Class → List ℕ → Bool
+abbrev pub all_of : Class → List ℕ → Bool
 all_of c [] = true
 all_of c (b ∷ rest) = has c b && all_of c rest
 
-by_test : (c : Class) (bytes : List ℕ) → all_of c bytes ≡ true → AllOf c bytes
+pub by_test : (c : Class) (bytes : List ℕ) → all_of c bytes ≡ true → AllOf c bytes
 by_test c [] h = tt
 by_test c (b ∷ rest) h = let p = both (has c b) (all_of c rest) h in (p.0, by_test c rest p.1)
 
-all_append : (c : Class) (a b : List ℕ) → AllOf c a → AllOf c b → AllOf c (a ++ b)
+pub all_append : (c : Class) (a b : List ℕ) → AllOf c a → AllOf c b → AllOf c (a ++ b)
 all_append c [] b h k = k
 all_append c (x ∷ a) b h k = (h.0, all_append c a b h.1 k)
 
@@ -62,13 +60,13 @@ say_line : (line rest : List ℕ) (s : Setting) (said : List Setting) → AllOf 
 say_line line rest s said h sets more = subst (λ (ls : List (List ℕ)). Say ls (s ∷ said)) (sym (lines_line line rest h)) (inr (sets, more))
 
 -- the name of a parameter, as a line has it
-record Names (name : List ℕ) (p : Parameter) : Type 0 where
-  bytes : all_of Name name ≡ true
-  in_line : all_of InLine name ≡ true
-  some : (length name == 0) ≡ false
-  known : parameter_named name ≡ Some p
+pub record Names (name : List ℕ) (p : Parameter) : Type 0 where
+  pub bytes : all_of Name name ≡ true
+  pub in_line : all_of InLine name ≡ true
+  pub some : (length name == 0) ≡ false
+  pub known : parameter_named name ≡ Some p
 
-some_bytes : (name : List ℕ) → (length name == 0) ≡ false → name ≢ []
+pub some_bytes : (name : List ℕ) → (length name == 0) ≡ false → name ≢ []
 some_bytes [] h = absurd (cc)
 some_bytes (b ∷ rest) h = λ e. absurd (cc)
 
@@ -118,7 +116,7 @@ string_parts name text rest =
     ∙ (ap (λ (xs : List ℕ). name ++ 32 ∷ 61 ∷ 32 ∷ 39 ∷ xs) (append_assoc text (39 ∷ 10 ∷ []) rest ∙ sym (append_assoc text (39 ∷ []) (10 ∷ rest)))
     ∙ sym (append_assoc name (32 ∷ 61 ∷ 32 ∷ 39 ∷ (text ++ 39 ∷ [])) (10 ∷ rest)))
 
-string_wrote : (name text : List ℕ) (p : Parameter) (rest : List ℕ) (said : List Setting) → Names name p → IsString text → takes (kind_of p) (Text text) ≡ true
+pub string_wrote : (name text : List ℕ) (p : Parameter) (rest : List ℕ) (said : List Setting) → Names name p → IsString text → takes (kind_of p) (Text text) ≡ true
     → Say (lines rest) said → Say (lines (string_line name text ++ rest)) (record { parameter = p; value = Text text } ∷ said)
 string_wrote name text p rest said n is taken more =
     subst (λ (t : List ℕ). Say (lines t) (record { parameter = p; value = Text text } ∷ said)) (sym (string_parts name text rest))
@@ -132,7 +130,7 @@ word_wrote name word p v rest said n is some in_line means taken more =
     subst (λ (t : List ℕ). Say (lines t) (record { parameter = p; value = v } ∷ said)) (sym (plain_parts name word rest))
     (wrote name (bare word) p v rest said n (is, some) in_line means taken more)
 
-truth_wrote : (name : List ℕ) (on : Bool) (p : Parameter) (rest : List ℕ) (said : List Setting) → Names name p → takes (kind_of p) (Truth on) ≡ true
+pub truth_wrote : (name : List ℕ) (on : Bool) (p : Parameter) (rest : List ℕ) (said : List Setting) → Names name p → takes (kind_of p) (Truth on) ≡ true
     → Say (lines rest) said → Say (lines (truth_line name on ++ rest)) (record { parameter = p; value = Truth on } ∷ said)
 truth_wrote name true p rest said n taken more = word_wrote name (codes "on") p (Truth true) rest said n (by_test Word (codes "on") refl) (some_bytes (codes "on") refl) (by_test InLine (codes "on") refl) refl taken more
 truth_wrote name false p rest said n taken more = word_wrote name (codes "off") p (Truth false) rest said n (by_test Word (codes "off") refl) (some_bytes (codes "off") refl) (by_test InLine (codes "off") refl) refl taken more
@@ -177,7 +175,7 @@ no_truth (d ∷ ds) some h =
     else (if (d == 102) && bytes_eq ds (codes "alse") then Some (Truth false) else rest)) q.1
     ∙ ap (λ (t : Bool). if t && bytes_eq ds (codes "alse") then Some (Truth false) else rest) q.2)
 
-number_wrote : (name : List ℕ) (n : ℕ) (p : Parameter) (rest : List ℕ) (said : List Setting) → Names name p → n ≤ 65535 → takes (kind_of p) (Number n) ≡ true
+pub number_wrote : (name : List ℕ) (n : ℕ) (p : Parameter) (rest : List ℕ) (said : List Setting) → Names name p → n ≤ 65535 → takes (kind_of p) (Number n) ≡ true
     → Say (lines rest) said → Say (lines (number_line name n ++ rest)) (record { parameter = p; value = Number n } ∷ said)
 number_wrote name n p rest said names small taken more =
     let fits : n < 2 ^ 64 = omega arith in
@@ -249,33 +247,37 @@ weight_name b = each_below_8 (λ n. (l : n < 8) → Names (codes "backend_weight
     (λ l. named_as _ Weight (place 7 (lit< tt)) (record { bytes = refl; in_line = refl; some = refl; known = refl }) (place 7 l) refl)
     b.number b.below_8 b.below_8
 
-mode_name : Names (codes "backend_clustering_mode") ClusteringMode
+pub mode_name : Names (codes "backend_clustering_mode") ClusteringMode
 unfolding parameter_named
 mode_name = record { bytes = refl; in_line = refl; some = refl; known = refl }
 
-listen_name : Names (codes "listen_addresses") ListenAddresses
+pub listen_name : Names (codes "listen_addresses") ListenAddresses
 unfolding parameter_named
 listen_name = record { bytes = refl; in_line = refl; some = refl; known = refl }
 
-server_port_name : Names (codes "port") Port
+pub server_port_name : Names (codes "port") Port
 unfolding parameter_named
 server_port_name = record { bytes = refl; in_line = refl; some = refl; known = refl }
 
-children_name : Names (codes "num_init_children") Children
+pub children_name : Names (codes "num_init_children") Children
 unfolding parameter_named
 children_name = record { bytes = refl; in_line = refl; some = refl; known = refl }
 
-balance_name : Names (codes "load_balance_mode") LoadBalance
+pub balance_name : Names (codes "load_balance_mode") LoadBalance
 unfolding parameter_named
 balance_name = record { bytes = refl; in_line = refl; some = refl; known = refl }
 
-statement_name : Names (codes "statement_level_load_balance") StatementBalance
+pub statement_name : Names (codes "statement_level_load_balance") StatementBalance
 unfolding parameter_named
 statement_name = record { bytes = refl; in_line = refl; some = refl; known = refl }
 
+pub password_name : Names (codes "backend_password") BackendPassword
+unfolding parameter_named
+password_name = record { bytes = refl; in_line = refl; some = refl; known = refl }
+
 -- ---- the backends
 
-in_range : (low high n : ℕ) → low ≤ n → n ≤ high → (nat_le low n && nat_le n high) ≡ true
+pub in_range : (low high n : ℕ) → low ≤ n → n ≤ high → (nat_le low n && nat_le n high) ≡ true
 in_range low high n l h = grind (arith, nat_tests)
 
 host_taken : (t : List ℕ) → 1 ≤ length t → not (bytes_eq t []) ≡ true
@@ -283,7 +285,7 @@ host_taken [] h = absurd (omega arith)
 host_taken (b ∷ rest) h = refl
 
 -- the settings of the backends, with those behind them
-abbrev node_settings : List BackendId → List Node → List Setting → List Setting
+abbrev pub node_settings : List BackendId → List Node → List Setting → List Setting
 node_settings bs [] said = said
 node_settings [] (x ∷ xs) said = said
 node_settings (b ∷ bs) (x ∷ xs) said = record { parameter = Hostname b; value = Text x.host }
@@ -305,11 +307,11 @@ node_wrote b x rest said ok more =
     (number_wrote _ x.weight (Weight b) rest said (with_digit (codes "backend_weight") Weight weight_name b) (let w = ok.2 in omega arith) (in_range 0 1000 x.weight (omega arith) ok.2) more)))
 
 -- backends with the numbers from n on
-abbrev AreFrom : ℕ → List BackendId → Type 0
+abbrev pub AreFrom : ℕ → List BackendId → Type 0
 AreFrom n [] = Unit {0}
 AreFrom n (b ∷ bs) = (b.number ≡ n) × AreFrom (n + 1) bs
 
-nodes_wrote : (n : ℕ) (bs : List BackendId) (xs : List Node) (rest : List ℕ) (said : List Setting) → AreFrom n bs → length xs ≤ length bs → AreAllowedNodes xs
+pub nodes_wrote : (n : ℕ) (bs : List BackendId) (xs : List Node) (rest : List ℕ) (said : List Setting) → AreFrom n bs → length xs ≤ length bs → AreAllowedNodes xs
     → Say (lines rest) said → Say (lines (nodes_text n xs ++ rest)) (node_settings bs xs said)
 nodes_wrote n bs [] rest said from few ok more = more
 nodes_wrote n [] (x ∷ xs) rest said from few ok more = absurd (omega arith)
@@ -318,63 +320,6 @@ nodes_wrote n (b ∷ bs) (x ∷ xs) rest said from few ok more =
     let here = node_wrote b x (nodes_text (n + 1) xs ++ rest) (node_settings bs xs said) ok.0 after in
     subst (λ (t : List ℕ). Say (lines t) (node_settings (b ∷ bs) (x ∷ xs) said))
     (ap (λ (k : ℕ). node_text k x ++ (nodes_text (n + 1) xs ++ rest)) from.0 ∙ sym (append_assoc (node_text n x) (nodes_text (n + 1) xs) rest)) here
-
--- ---- the whole
-
-abbrev behind_nodes : List ℕ → ℕ → ℕ → Bool → Bool → List Setting
-behind_nodes listen port children balance per_statement = record { parameter = ListenAddresses; value = Text listen }
-    ∷ record { parameter = Port; value = Number port } ∷ record { parameter = Children; value = Number children }
-    ∷ record { parameter = LoadBalance; value = Truth balance } ∷ record { parameter = StatementBalance; value = Truth per_statement } ∷ []
-
-abbrev settings : List Node → List ℕ → ℕ → ℕ → Bool → Bool → List Setting
-settings nodes listen port children balance per_statement = record { parameter = ClusteringMode; value = Text (codes "snapshot_isolation") }
-    ∷ node_settings all_backends nodes (behind_nodes listen port children balance per_statement)
-
-record IsWhole (nodes : List Node) (l : List ℕ) (p c : ℕ) (b s : Bool) : Type 0 where
-  complete : missing_of (settings nodes l p c b s) ≡ None
-  same : config_of (settings nodes l p c b s) ≡ record { nodes = nodes; listen = l; port = p; children = c; balance = b; per_statement = s }
-
-whole : (nodes : List Node) (l : List ℕ) (p c : ℕ) (b s : Bool) → 1 ≤ length nodes → length nodes ≤ 8 → IsWhole nodes l p c b s
-whole [] l p c b s some few = absurd (omega arith)
-whole (n0 ∷ []) l p c b s some few = record { complete = refl; same = refl }
-whole (n0 ∷ n1 ∷ []) l p c b s some few = record { complete = refl; same = refl }
-whole (n0 ∷ n1 ∷ n2 ∷ []) l p c b s some few = record { complete = refl; same = refl }
-whole (n0 ∷ n1 ∷ n2 ∷ n3 ∷ []) l p c b s some few = record { complete = refl; same = refl }
-whole (n0 ∷ n1 ∷ n2 ∷ n3 ∷ n4 ∷ []) l p c b s some few = record { complete = refl; same = refl }
-whole (n0 ∷ n1 ∷ n2 ∷ n3 ∷ n4 ∷ n5 ∷ []) l p c b s some few = record { complete = refl; same = refl }
-whole (n0 ∷ n1 ∷ n2 ∷ n3 ∷ n4 ∷ n5 ∷ n6 ∷ []) l p c b s some few = record { complete = refl; same = refl }
-whole (n0 ∷ n1 ∷ n2 ∷ n3 ∷ n4 ∷ n5 ∷ n6 ∷ n7 ∷ []) l p c b s some few = record { complete = refl; same = refl }
-whole (n0 ∷ n1 ∷ n2 ∷ n3 ∷ n4 ∷ n5 ∷ n6 ∷ n7 ∷ n8 ∷ more) l p c b s some few = absurd (omega arith)
-
-rest_wrote : (config : Config) → IsAllowed config → Say (lines (rest_text config)) (behind_nodes config.listen config.port config.children config.balance config.per_statement)
-rest_wrote config ok =
-    string_wrote _ config.listen ListenAddresses _ _ listen_name ok.listen refl
-    (number_wrote _ config.port Port _ _ server_port_name ok.port_to (in_range 1 65535 config.port ok.port_from ok.port_to)
-    (number_wrote _ config.children Children _ _ children_name (let c = ok.children_to in omega arith) (in_range 1 64 config.children ok.children_from ok.children_to)
-    (truth_wrote _ config.balance LoadBalance _ _ balance_name refl
-    (subst (λ (t : List ℕ). Say (lines t) (record { parameter = StatementBalance; value = Truth config.per_statement } ∷ [])) (append-nil (truth_line (codes "statement_level_load_balance") config.per_statement))
-    (truth_wrote _ config.per_statement StatementBalance [] [] statement_name refl (record { blanks = []; comment = []; parts = refl; are_blank = tt; is_comment = tt }, refl))))))
-
-mode_string : IsString (codes "snapshot_isolation")
-unfolding is_utf8 chars encode_utf8
-mode_string = (refl, by_test Inner (codes "snapshot_isolation") refl, by_test InLine (codes "snapshot_isolation") refl)
-
-pub written_says : (config : Config) → IsAllowed config → IsConfiguration (text_of config) config
-written_says config ok =
-    let is = whole config.nodes config.listen config.port config.children config.balance config.per_statement ok.some_node ok.few_nodes in
-    let last : List Setting = behind_nodes config.listen config.port config.children config.balance config.per_statement in
-    record {
-      said = settings config.nodes config.listen config.port config.children config.balance config.per_statement;
-      lines_say = string_wrote (codes "backend_clustering_mode") (codes "snapshot_isolation") ClusteringMode (nodes_text 0 config.nodes ++ rest_text config)
-          (node_settings all_backends config.nodes last) mode_name mode_string refl
-          (nodes_wrote 0 all_backends config.nodes (rest_text config) last (refl, (refl, (refl, (refl, (refl, (refl, (refl, (refl, tt)))))))) ok.few_nodes ok.nodes (rest_wrote config ok));
-      complete = is.complete;
-      is = sym is.same;
-    }
-
-pub says_if : {E : Type 0} (config : Config) (r : Result (List ℕ) E) → IsAllowed config → IfOk r (λ text. text ≡ text_of config) → IfOk r (λ text. IsConfiguration text config)
-says_if config (Ok text) ok e = subst (λ (t : List ℕ). IsConfiguration t config) (sym e) (written_says config ok)
-says_if config (Err f) ok e = tt
 
 -- ---- the names of one backend's parameters are known
 

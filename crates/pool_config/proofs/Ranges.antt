@@ -6,7 +6,7 @@ use Rattle.pool_config.specs.Table.{kind_of, takes, place_of}
 use Rattle.pool_config.specs.Taken.{AllTaken}
 use Rattle.pool_config.specs.Configuration.{standing, said_by, later, number_in, count_of}
 use Rattle.pool_config.specs.declared.parameter.Parameter.{Parameter}
-use Rattle.pool_config.specs.declared.parameter.Parameter.TheVariants.{ClusteringMode, Hostname, BackendPort, Weight, ListenAddresses, Port, Children, LoadBalance, StatementBalance, InsertLock, StopOnMismatch, FailoverOnMismatch}
+use Rattle.pool_config.specs.declared.parameter.Parameter.TheVariants.{ClusteringMode, Hostname, BackendPort, Weight, ListenAddresses, Port, Children, LoadBalance, StatementBalance, InsertLock, StopOnMismatch, FailoverOnMismatch, ScramUser, ScramVerifier, BackendPassword}
 use Rattle.pool_config.specs.declared.parameter.Kind.{Kind}
 use Rattle.pool_config.specs.declared.parameter.Kind.TheVariants as kind
 use Rattle.pool_config.specs.declared.value.Value.{Value}
@@ -20,7 +20,8 @@ low_kind n = if n == 0 then kind.Mode else (if n == 1 then kind.Words else (if n
 -- the kind of the parameter with this place
 abbrev kind_at : ℕ → Kind
 kind_at n = if nat_lt n 8 then low_kind n else (if nat_lt n 16 then kind.HostName
-    else (if nat_lt n 24 then kind.Number 1 65535 else (if nat_lt n 32 then kind.Number 0 1000 else kind.OnlyOn)))
+    else (if nat_lt n 24 then kind.Number 1 65535 else (if nat_lt n 32 then kind.Number 0 1000 else (if n == 32 then kind.OnlyOn
+    else (if nat_lt n 40 then kind.Secret else (if nat_lt n 56 then kind.Words else kind.Verifier))))))
 
 host_kind : (n : ℕ) → n < 8 → kind_at (8 + n) ≡ kind.HostName
 host_kind n h = grind (arith, nat_tests)
@@ -30,6 +31,12 @@ port_kind n h = grind (arith, nat_tests)
 
 weight_kind : (n : ℕ) → n < 8 → kind_at (24 + n) ≡ kind.Number 0 1000
 weight_kind n h = grind (arith, nat_tests)
+
+user_kind : (n : ℕ) → n < 16 → kind_at (40 + n) ≡ kind.Words
+user_kind n h = grind (arith, nat_tests)
+
+verifier_kind : (n : ℕ) → n < 16 → kind_at (56 + n) ≡ kind.Verifier
+verifier_kind n h = grind (arith, nat_tests)
 
 kind_by_place : (p : Parameter) → kind_at (place_of p) ≡ kind_of p
 kind_by_place ClusteringMode = refl
@@ -44,6 +51,9 @@ kind_by_place StatementBalance = refl
 kind_by_place InsertLock = refl
 kind_by_place StopOnMismatch = refl
 kind_by_place FailoverOnMismatch = refl
+kind_by_place (ScramUser u) = user_kind u.number u.below_16
+kind_by_place (ScramVerifier u) = verifier_kind u.number u.below_16
+kind_by_place BackendPassword = refl
 
 pub same_kind : (p q : Parameter) → place_of p ≡ place_of q → kind_of p ≡ kind_of q
 same_kind p q e = sym (kind_by_place p) ∙ (ap kind_at e ∙ kind_by_place q)

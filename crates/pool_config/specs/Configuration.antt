@@ -4,11 +4,15 @@ use Rattle.std.specs.Prelude.{Option, Some, None, Result, Ok, Err, is_some, opti
 use Rattle.std.specs.Str.{is_utf8}
 use Rattle.pool_base.specs.declared.backend_id.BackendId.{BackendId}
 use Rattle.pool_config.specs.Bytes.{AllOf, lines}
-use Rattle.pool_config.specs.Table.{all_backends, name_of, default_of, place_of, backends_of}
+use Rattle.scram.specs.Tests.{is_verifier}
+use Rattle.pool_config.specs.Table.{all_backends, name_of, default_of, place_of, backends_of, users_of, is_secret}
+use Rattle.pool_config.specs.Users.{all_users}
+use Rattle.pool_config.specs.declared.user.UserNumber.{UserNumber}
+use Rattle.pool_config.specs.declared.config.ScramUser.{ScramUser as UserOf}
 use Rattle.pool_config.specs.Settings.{Say, FirstFault}
 use Rattle.pool_config.specs.declared.line.Class.TheVariants.{Inner, InLine}
 use Rattle.pool_config.specs.declared.parameter.Parameter.{Parameter}
-use Rattle.pool_config.specs.declared.parameter.Parameter.TheVariants.{ClusteringMode, Hostname, BackendPort, Weight, ListenAddresses, Port, Children, LoadBalance, StatementBalance}
+use Rattle.pool_config.specs.declared.parameter.Parameter.TheVariants.{ClusteringMode, Hostname, BackendPort, Weight, ListenAddresses, Port, Children, LoadBalance, StatementBalance, ScramUser, ScramVerifier, BackendPassword}
 use Rattle.pool_config.specs.declared.value.Value.{Value}
 use Rattle.pool_config.specs.declared.value.Value.TheVariants.{Text, Number, Truth}
 use Rattle.pool_config.specs.declared.assemble.Setting.{Setting}
@@ -41,6 +45,10 @@ abbrev pub text_in : Option Value → List ℕ
 text_in (Some (Text text)) = text
 text_in _ = []
 
+abbrev pub text_there : Option Value → Option (List ℕ)
+text_there (Some (Text text)) = Some text
+text_there _ = None
+
 abbrev pub number_in : Option Value → ℕ
 number_in (Some (Number n)) = n
 number_in _ = 0
@@ -67,11 +75,36 @@ node_of said b = record {
   weight = number_in (value_for (Weight b) said);
 }
 
+-- ---- the users
+
+-- how many users the settings speak of: one more than the greatest number, and else none
+abbrev pub user_count_of : List Setting → ℕ
+user_count_of [] = 0
+user_count_of (s ∷ rest) = max (users_of s.parameter) (user_count_of rest)
+
+-- those that the settings speak of
+abbrev pub users_in : List Setting → List UserNumber
+users_in said = take (user_count_of said) all_users
+
+abbrev pub user_of : List Setting → UserNumber → UserOf
+user_of said u = record {
+  name = text_in (value_for (ScramUser u) said);
+  verifier = text_in (value_for (ScramVerifier u) said);
+}
+
 -- ---- what is missing
 
--- the mode, the hostnames and the ports of the backends that the settings speak of
+-- the mode, the hostnames and the ports of these backends
+abbrev pub required_at : List BackendId → List Parameter
+required_at backends = ClusteringMode ∷ (map Hostname backends ++ map BackendPort backends)
+
+-- the names and the verifiers of these users
+abbrev pub required_of : List UserNumber → List Parameter
+required_of users = map ScramUser users ++ map ScramVerifier users
+
+-- those of the backends and the users that the settings speak of
 abbrev pub required : List Setting → List Parameter
-required said = ClusteringMode ∷ (map Hostname (backends_in said) ++ map BackendPort (backends_in said))
+required said = required_at (backends_in said) ++ required_of (users_in said)
 
 abbrev pub lacks : List Setting → Parameter → Bool
 lacks said p = not (is_some (standing p said))
@@ -90,6 +123,8 @@ config_of said = record {
   children = number_in (value_for Children said);
   balance = truth_in (value_for LoadBalance said);
   per_statement = truth_in (value_for StatementBalance said);
+  users = map (user_of said) (users_in said);
+  backend_password = text_there (value_for BackendPassword said);
 }
 
 -- the text says this configuration: every line is good, nothing is missing, the last line stands
@@ -140,6 +175,17 @@ abbrev pub AreAllowedNodes : List Node → Type 0
 AreAllowedNodes [] = Unit {0}
 AreAllowedNodes (n ∷ rest) = IsAllowedNode n × AreAllowedNodes rest
 
+abbrev pub IsAllowedUser : UserOf → Type 0
+IsAllowedUser u = IsString u.name × IsString u.verifier × (is_verifier u.verifier ≡ true)
+
+abbrev pub AreAllowedUsers : List UserOf → Type 0
+AreAllowedUsers [] = Unit {0}
+AreAllowedUsers (u ∷ rest) = IsAllowedUser u × AreAllowedUsers rest
+
+abbrev pub IsAllowedPassword : Option (List ℕ) → Type 0
+IsAllowedPassword None = Unit {0}
+IsAllowedPassword (Some text) = IsString text × (is_secret text ≡ true)
+
 -- the values of the configuration are in the ranges of the table
 pub record IsAllowed (config : Config) : Type 0 where
   pub some_node : 1 ≤ length config.nodes
@@ -150,3 +196,6 @@ pub record IsAllowed (config : Config) : Type 0 where
   pub port_to : config.port ≤ 65535
   pub children_from : 1 ≤ config.children
   pub children_to : config.children ≤ 64
+  pub few_users : length config.users ≤ 16
+  pub users : AreAllowedUsers config.users
+  pub password : IsAllowedPassword config.backend_password

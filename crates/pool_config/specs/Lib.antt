@@ -1,6 +1,7 @@
 pub mod Bytes
 pub mod Form
 pub mod Value
+pub mod Users
 pub mod Table
 pub mod Names
 pub mod Settings

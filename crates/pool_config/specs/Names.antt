@@ -1,10 +1,11 @@
 -- Which parameter has a name, if one has.
 use Rattle.std.specs.Prelude.{◌==◌, ◌-◌, ℕ, List, drop, take, length, nat_lt}
-use Rattle.std.specs.Prelude.{Option, Some, None, if◌then◌else◌, codes, slice_index, slice_get, bytes_eq}
+use Rattle.std.specs.Prelude.{Option, Some, None, option_map, if◌then◌else◌, codes, slice_index, slice_get, bytes_eq}
 use Rattle.pool_base.specs.declared.backend_id.BackendId.{BackendId}
 use Rattle.pool_config.specs.Table.{all_backends}
+use Rattle.pool_config.specs.Users.{user_at}
 use Rattle.pool_config.specs.declared.parameter.Parameter.{Parameter}
-use Rattle.pool_config.specs.declared.parameter.Parameter.TheVariants.{ClusteringMode, Hostname, BackendPort, Weight, ListenAddresses, Port, Children, LoadBalance, StatementBalance, InsertLock, StopOnMismatch, FailoverOnMismatch}
+use Rattle.pool_config.specs.declared.parameter.Parameter.TheVariants.{ClusteringMode, Hostname, BackendPort, Weight, ListenAddresses, Port, Children, LoadBalance, StatementBalance, InsertLock, StopOnMismatch, FailoverOnMismatch, ScramUser, ScramVerifier, BackendPassword}
 
 -- among those without a number
 abbrev pub single_named : List ℕ → Option Parameter
@@ -17,7 +18,8 @@ single_named name = if bytes_eq name (codes "backend_clustering_mode") then Some
     else (if bytes_eq name (codes "insert_lock") then Some InsertLock
     else (if bytes_eq name (codes "replication_stop_on_mismatch") then Some StopOnMismatch
     else (if bytes_eq name (codes "failover_if_affected_tuples_mismatch") then Some FailoverOnMismatch
-    else None))))))))
+    else (if bytes_eq name (codes "backend_password") then Some BackendPassword
+    else None)))))))))
 
 -- among those of one backend: a stem, and the digit of its number
 abbrev pub of_stem : List ℕ → BackendId → Option Parameter
@@ -41,5 +43,14 @@ abbrev pub or_numbered : Option Parameter → List ℕ → Option Parameter
 or_numbered (Some p) name = Some p
 or_numbered None name = numbered_named name
 
+-- among those of one user: a stem, and the digits of its number
+abbrev pub user_named : List ℕ → Option Parameter
+user_named name = if bytes_eq (take 10 name) (codes "scram_user") then option_map ScramUser (user_at (drop 10 name))
+    else (if bytes_eq (take 14 name) (codes "scram_verifier") then option_map ScramVerifier (user_at (drop 14 name)) else None)
+
+abbrev pub or_of_user : Option Parameter → List ℕ → Option Parameter
+or_of_user (Some p) name = Some p
+or_of_user None name = user_named name
+
 unfoldable pub parameter_named : List ℕ → Option Parameter
-parameter_named name = or_numbered (single_named name) name
+parameter_named name = or_of_user (or_numbered (single_named name) name) name

@@ -1,8 +1,9 @@
 -- The one text of a configuration: a line for each parameter, in the order of the table.
-use Rattle.std.specs.Prelude.{◌+◌, ℕ, Bool, true, false, List, [], ◌∷◌, ◌++◌, codes}
+use Rattle.std.specs.Prelude.{◌+◌, ℕ, Bool, true, false, List, [], ◌∷◌, ◌++◌, Option, Some, None, codes}
 use Rattle.std.specs.Fmt.{decimal}
 use Rattle.pool_config.specs.declared.config.Config.{Config}
 use Rattle.pool_config.specs.declared.config.Node.{Node}
+use Rattle.pool_config.specs.declared.config.ScramUser.{ScramUser}
 use Rattle.pool_config.specs.declared.fault.ConfigFault.{ConfigFault}
 use Rattle.pool_config.specs.declared.fault.ConfigFault.TheVariants.{BadLine, UnknownName, WrongMode, Missing, NoMemory}
 
@@ -41,9 +42,24 @@ rest_text config = string_line (codes "listen_addresses") config.listen
     ++ (truth_line (codes "load_balance_mode") config.balance
     ++ truth_line (codes "statement_level_load_balance") config.per_statement)))
 
+-- the lines of the user with number n
+abbrev pub user_text : ℕ → ScramUser → List ℕ
+user_text n user = string_line (codes "scram_user" ++ decimal n) user.name
+    ++ string_line (codes "scram_verifier" ++ decimal n) user.verifier
+
+-- those of the users from number n on
+abbrev pub users_text : ℕ → List ScramUser → List ℕ
+users_text n [] = []
+users_text n (user ∷ rest) = user_text n user ++ users_text (n + 1) rest
+
+-- the line of the password, where there is one
+abbrev pub password_text : Option (List ℕ) → List ℕ
+password_text None = []
+password_text (Some text) = string_line (codes "backend_password") text
+
 abbrev pub text_of : Config → List ℕ
 text_of config = string_line (codes "backend_clustering_mode") (codes "snapshot_isolation")
-    ++ (nodes_text 0 config.nodes ++ rest_text config)
+    ++ (nodes_text 0 config.nodes ++ (rest_text config ++ (users_text 0 config.users ++ password_text config.backend_password)))
 
 -- what an operator reads of a fault
 abbrev pub shown : ConfigFault → List ℕ

@@ -1,13 +1,15 @@
 //! From what the lines set to the configuration.
 ghost use Rattle.std.specs.Prelude.{◌≡◌, ◌<◌, ◌≤◌, ◌^◌, ◌∷◌, [], Some, None, IfOk, map, option_map, find, take, Result, Ok};
 ghost use Rattle.pool_config.specs.Table.{name_of};
-ghost use Rattle.pool_config.specs.Configuration.{standing, count_of, backends_in, lacks, missing_of, later, text_in, number_in, truth_in, value_for, node_of, config_of};
+ghost use Rattle.pool_config.specs.Configuration.{standing, count_of, backends_in, lacks, missing_of, required_at, required_of, users_in, user_count_of, user_of, later, text_in, text_there, number_in, truth_in, value_for, node_of, config_of};
 ghost use Rattle.pool_config.specs.Reader.{Gives, unless_missing};
 ghost use Rattle.pool_config.specs.Taken.{AllTaken};
 
-use crate::config::{Config, Node};
+use crate::config::{Config, Node, ScramUser};
 use crate::fault::ConfigFault;
 use crate::parameter::{Parameter, all_backends};
+use crate::user::UserNumber;
+use crate::user_names::all_users;
 use crate::value::Value;
 use pool_base::{BackendId, List, NoMemory, Text};
 use std::alloc::Global;
@@ -94,11 +96,75 @@ fn lacking_port(settings: &[Setting], backends: &[BackendId]) -> Option<Paramete
     None
 }
 
-#[tactic(auto, using(crate::proofs::Lists::missing_is))]
+/// How many users the settings speak of: one more than the greatest number, and else none.
+fn user_count(settings: &[Setting]) -> usize
+    ensures count { result ≡ user_count_of settings.now }
+    ensures few { result ≤ 16 }
+{
+    let mut count: u8 = 0;
+    let mut left = settings;
+    while let [setting, rest @ ..] = left {
+        count = count.max(setting.parameter.users());
+        left = rest;
+    }
+    count as usize
+}
+
+/// The first of the users whose name is not given.
+fn lacking_name(settings: &[Setting], users: &[UserNumber]) -> Option<Parameter>
+    ensures { result ≡ find (lacks settings.now) (map Parameter.ScramUser users.now) }
+{
+    let mut left = users;
+    while let [user, rest @ ..] = left {
+        let parameter = Parameter::ScramUser(*user);
+        if lacks(settings, parameter) {
+            return Some(parameter);
+        }
+        left = rest;
+    }
+    None
+}
+
+/// The first of the users whose verifier is not given.
+fn lacking_verifier(settings: &[Setting], users: &[UserNumber]) -> Option<Parameter>
+    ensures { result ≡ find (lacks settings.now) (map Parameter.ScramVerifier users.now) }
+{
+    let mut left = users;
+    while let [user, rest @ ..] = left {
+        let parameter = Parameter::ScramVerifier(*user);
+        if lacks(settings, parameter) {
+            return Some(parameter);
+        }
+        left = rest;
+    }
+    None
+}
+
+/// The first parameter of the users that is not given.
+fn missing_of_users(settings: &[Setting], users: &[UserNumber]) -> Option<Parameter>
+    ensures { result ≡ find (lacks settings.now) (required_of users.now) }
+{
+    match lacking_name(settings, users) {
+        Some(parameter) => Some(parameter),
+        None => lacking_verifier(settings, users),
+    }
+}
+
 /// The first required parameter that is not given.
-fn missing(settings: &[Setting], backends: &[BackendId]) -> Option<Parameter>
-    requires { backends.now ≡ backends_in settings.now }
+fn missing(settings: &[Setting], backends: &[BackendId], users: &[UserNumber]) -> Option<Parameter>
+    requires backends { backends.now ≡ backends_in settings.now }
+    requires users { users.now ≡ users_in settings.now }
     ensures { result ≡ missing_of settings.now }
+{
+    match missing_at_backends(settings, backends) {
+        Some(parameter) => Some(parameter),
+        None => missing_of_users(settings, users),
+    }
+}
+
+/// The mode, or the first parameter of the backends that is not given.
+fn missing_at_backends(settings: &[Setting], backends: &[BackendId]) -> Option<Parameter>
+    ensures { result ≡ find (lacks settings.now) (required_at backends.now) }
 {
     if lacks(settings, Parameter::ClusteringMode) {
         return Some(Parameter::ClusteringMode);
@@ -116,10 +182,12 @@ pub(crate) fn configuration(alloc: Global, settings: &[Setting]) -> Result<Confi
 {
     let all = all_backends();
     let backends = &all[..backend_count(settings)];
-    if let Some(parameter) = missing(settings, backends) {
+    let everybody = all_users();
+    let users = &everybody[..user_count(settings)];
+    if let Some(parameter) = missing(settings, backends, users) {
         return Err(ConfigFault::Missing(parameter.name(alloc)?));
     }
-    Ok(config_of(alloc, settings, backends)?)
+    Ok(config_of(alloc, settings, backends, users)?)
 }
 
 #[tactic(auto, using(crate::proofs::Ranges::port_small, crate::proofs::Ranges::children_small))]
@@ -128,9 +196,11 @@ fn config_of(
     alloc: Global,
     settings: &[Setting],
     backends: &[BackendId],
+    users: &[UserNumber],
 ) -> Result<Config, NoMemory>
     requires taken { AllTaken settings.now }
     requires backends { backends.now ≡ backends_in settings.now }
+    requires users { users.now ≡ users_in settings.now }
     ensures { IfOk result (λ config. config ≡ config_of settings.now) }
 {
     let nodes = nodes_of(alloc, settings, backends)?;
@@ -143,6 +213,8 @@ fn config_of(
     let children = number_or(standing(settings, Parameter::Children), CHILDREN);
     let balance = truth_or(standing(settings, Parameter::LoadBalance), true);
     let per_statement = truth_or(standing(settings, Parameter::StatementBalance), false);
+    let users = users_of(alloc, settings, users)?;
+    let backend_password = text_there(standing(settings, Parameter::BackendPassword))?;
     Ok(Config {
         nodes,
         listen,
@@ -150,7 +222,39 @@ fn config_of(
         children,
         balance,
         per_statement,
+        users,
+        backend_password,
     })
+}
+
+/// The users, from 0 on.
+fn users_of(
+    alloc: Global,
+    settings: &[Setting],
+    users: &[UserNumber],
+) -> Result<List<ScramUser>, NoMemory>
+    ensures { IfOk result (λ all. all ≡ map (user_of settings.now) users.now) }
+{
+    let mut all = List::new(alloc);
+    let mut left = users;
+    while let [user, rest @ ..] = left {
+        all.push(user_of(alloc, settings, *user)?)?;
+        left = rest;
+    }
+    Ok(all)
+}
+
+/// One user. Where its name or its verifier is not given, it is empty.
+fn user_of(alloc: Global, settings: &[Setting], user: UserNumber) -> Result<ScramUser, NoMemory>
+    ensures { IfOk result (λ one. one ≡ user_of settings.now user) }
+{
+    let name = text_or(alloc, standing(settings, Parameter::ScramUser(user)), "")?;
+    let verifier = text_or(
+        alloc,
+        standing(settings, Parameter::ScramVerifier(user)),
+        "",
+    )?;
+    Ok(ScramUser { name, verifier })
 }
 
 /// The backends, from 0 on.
@@ -191,6 +295,17 @@ fn text_or(alloc: Global, value: Option<&Value>, default: &str) -> Result<Text, 
         Some(Value::Text(text)) => Ok(text.clone()?),
         Some(Value::Number(_) | Value::Truth(_)) => Text::from_str(alloc, ""),
         None => Text::from_str(alloc, default),
+    }
+}
+
+/// The text of a value, where it is one.
+fn text_there(value: Option<&Value>) -> Result<Option<Text>, NoMemory>
+    ensures { IfOk result (λ text. text
+        ≡ text_there (later (option_map (λ v. v.now) value.entry) None)) }
+{
+    match value {
+        Some(Value::Text(text)) => Ok(Some(text.clone()?)),
+        Some(Value::Number(_) | Value::Truth(_)) | None => Ok(None),
     }
 }
 

@@ -10,6 +10,14 @@ pub struct Node {
     pub weight: u32,
 }
 
+/// A user who is let in with a password: its name, and the text of the verifier that was made of
+/// its password.
+#[derive(PartialEq, Eq, Drop)]
+pub struct ScramUser {
+    pub name: Text,
+    pub verifier: Text,
+}
+
 /// A configuration: the backends by number, and how clients are served.
 #[derive(PartialEq, Eq, Drop)]
 pub struct Config {
@@ -22,4 +30,8 @@ pub struct Config {
     pub balance: bool,
     /// The backend of a read is chosen for each statement (`statement_level_load_balance`).
     pub per_statement: bool,
+    /// Who is let in with a password. Where there is nobody, each client is let in.
+    pub users: List<ScramUser>,
+    /// What the backends are shown where they ask for a password.
+    pub backend_password: Option<Text>,
 }

@@ -8,10 +8,14 @@ mod fault;
 mod line;
 mod parameter;
 mod parse;
+mod user;
+mod user_names;
 mod value;
 mod write;
 
-pub use config::{Config, Node};
+pub use config::{Config, Node, ScramUser};
 pub use fault::ConfigFault;
 pub use parse::parse_config;
+pub use user::UserNumber;
+pub use user_names::user_at;
 pub use write::write_config;

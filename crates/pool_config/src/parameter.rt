@@ -1,11 +1,15 @@
 //! The parameters, and what each takes.
-ghost use Rattle.std.specs.Prelude.{◌≡◌, ◌≤◌, IfOk};
-ghost use Rattle.pool_config.specs.Table.{all_backends, name_of, with_number, place_of, backends_of, kind_of, takes, takes_text, takes_number, takes_truth};
-ghost use Rattle.pool_config.specs.Names.{parameter_named, single_named, numbered_named, of_stem};
+ghost use Rattle.std.specs.Prelude.{◌≡◌, ◌≤◌, ◌++◌, take, drop, string_bytes, IfOk, OnOk};
+ghost use Rattle.pool_config.specs.Table.{all_backends, name_of, with_number, place_of, backends_of, users_of, kind_of, is_secret, takes, takes_text, takes_number, takes_truth};
+ghost use Rattle.pool_config.specs.Names.{parameter_named, single_named, numbered_named, of_stem, user_named};
+ghost use Rattle.pool_config.specs.Users.{digits_of};
 
+use crate::user::UserNumber;
+use crate::user_names::user_at;
 use crate::value::Value;
 use pool_base::{BackendId, NoMemory, Text};
-use std::alloc::Global;
+use scram::is_verifier;
+use std::alloc::{AllocError, Global};
 
 /// A parameter of the configuration.
 #[derive(Clone, Copy, PartialEq, Eq)]
@@ -22,6 +26,17 @@ pub enum Parameter {
     InsertLock,
     StopOnMismatch,
     FailoverOnMismatch,
+    ScramUser(UserNumber),
+    ScramVerifier(UserNumber),
+    BackendPassword,
+}
+
+/// The number in the name of a parameter.
+#[derive(Clone, Copy)]
+pub enum Number {
+    Nobody,
+    OfBackend(BackendId),
+    OfUser(UserNumber),
 }
 
 /// What values a parameter takes.
@@ -39,6 +54,10 @@ pub enum Kind {
     Truth,
     /// A safety parameter: on alone.
     OnlyOn,
+    /// The text of a verifier.
+    Verifier,
+    /// A string of the bytes 32 to 126.
+    Secret,
 }
 
 #[tactic(auto, using(crate::proofs::Backends::backends_are))]
@@ -63,31 +82,39 @@ impl Parameter {
     pub(crate) fn name(self, alloc: Global) -> Result<Text, NoMemory>
         ensures { IfOk result (λ name. name ≡ name_of self) }
     {
-        let (stem, digit) = self.stem();
+        let (stem, number) = self.stem();
         let mut name = String::from_str(alloc, stem)?;
-        if let Some(backend) = digit {
-            name.push((b'0' + backend.number) as char)?;
+        match number {
+            Number::Nobody => {}
+            Number::OfBackend(backend) => name.push((b'0' + backend.number) as char)?,
+            Number::OfUser(user) => push_digits(&mut name, user)?,
         }
         Ok(Text::from_string(name))
     }
 
-    /// Its name without the number, and the backend with the number.
-    fn stem(self) -> (&'static str, Option<BackendId>)
+    /// Its name without the number, and the number.
+    fn stem(self) -> (&'static str, Number)
         ensures { with_number result.0.now result.1 ≡ name_of self }
     {
         match self {
-            Parameter::ClusteringMode => ("backend_clustering_mode", None),
-            Parameter::Hostname(b) => ("backend_hostname", Some(b)),
-            Parameter::BackendPort(b) => ("backend_port", Some(b)),
-            Parameter::Weight(b) => ("backend_weight", Some(b)),
-            Parameter::ListenAddresses => ("listen_addresses", None),
-            Parameter::Port => ("port", None),
-            Parameter::Children => ("num_init_children", None),
-            Parameter::LoadBalance => ("load_balance_mode", None),
-            Parameter::StatementBalance => ("statement_level_load_balance", None),
-            Parameter::InsertLock => ("insert_lock", None),
-            Parameter::StopOnMismatch => ("replication_stop_on_mismatch", None),
-            Parameter::FailoverOnMismatch => ("failover_if_affected_tuples_mismatch", None),
+            Parameter::ClusteringMode => ("backend_clustering_mode", Number::Nobody),
+            Parameter::Hostname(b) => ("backend_hostname", Number::OfBackend(b)),
+            Parameter::BackendPort(b) => ("backend_port", Number::OfBackend(b)),
+            Parameter::Weight(b) => ("backend_weight", Number::OfBackend(b)),
+            Parameter::ListenAddresses => ("listen_addresses", Number::Nobody),
+            Parameter::Port => ("port", Number::Nobody),
+            Parameter::Children => ("num_init_children", Number::Nobody),
+            Parameter::LoadBalance => ("load_balance_mode", Number::Nobody),
+            Parameter::StatementBalance => ("statement_level_load_balance", Number::Nobody),
+            Parameter::InsertLock => ("insert_lock", Number::Nobody),
+            Parameter::StopOnMismatch => ("replication_stop_on_mismatch", Number::Nobody),
+            Parameter::FailoverOnMismatch => (
+                "failover_if_affected_tuples_mismatch",
+                Number::Nobody,
+            ),
+            Parameter::ScramUser(u) => ("scram_user", Number::OfUser(u)),
+            Parameter::ScramVerifier(u) => ("scram_verifier", Number::OfUser(u)),
+            Parameter::BackendPassword => ("backend_password", Number::Nobody),
         }
     }
 
@@ -108,6 +135,9 @@ impl Parameter {
             Parameter::InsertLock => 6,
             Parameter::StopOnMismatch => 7,
             Parameter::FailoverOnMismatch => 32,
+            Parameter::BackendPassword => 33,
+            Parameter::ScramUser(u) => 40 + u.number,
+            Parameter::ScramVerifier(u) => 56 + u.number,
         }
     }
 
@@ -127,7 +157,33 @@ impl Parameter {
             | Parameter::StatementBalance
             | Parameter::InsertLock
             | Parameter::StopOnMismatch
-            | Parameter::FailoverOnMismatch => 0,
+            | Parameter::FailoverOnMismatch
+            | Parameter::ScramUser(_)
+            | Parameter::ScramVerifier(_)
+            | Parameter::BackendPassword => 0,
+        }
+    }
+
+    /// How many users there are at least where it is set.
+    pub(crate) fn users(self) -> u8
+        ensures count { result ≡ users_of self }
+        ensures few { result ≤ 16 }
+    {
+        match self {
+            Parameter::ScramUser(u) | Parameter::ScramVerifier(u) => u.number + 1,
+            Parameter::ClusteringMode
+            | Parameter::Hostname(_)
+            | Parameter::BackendPort(_)
+            | Parameter::Weight(_)
+            | Parameter::ListenAddresses
+            | Parameter::Port
+            | Parameter::Children
+            | Parameter::LoadBalance
+            | Parameter::StatementBalance
+            | Parameter::InsertLock
+            | Parameter::StopOnMismatch
+            | Parameter::FailoverOnMismatch
+            | Parameter::BackendPassword => 0,
         }
     }
 
@@ -149,8 +205,23 @@ impl Parameter {
             Parameter::InsertLock | Parameter::StopOnMismatch | Parameter::FailoverOnMismatch => {
                 Kind::OnlyOn
             }
+            Parameter::ScramUser(_) => Kind::Words,
+            Parameter::ScramVerifier(_) => Kind::Verifier,
+            Parameter::BackendPassword => Kind::Secret,
         }
     }
+}
+
+/// The digits of a user's number, put behind a name.
+fn push_digits(name: &mut String, user: UserNumber) -> Result<(), AllocError>
+    ensures { OnOk result (string_bytes name.new
+        ≡ string_bytes name.old ++ digits_of user.number) }
+{
+    if user.number < 10 {
+        return name.push((b'0' + user.number) as char);
+    }
+    name.push('1')?;
+    name.push((b'&' + user.number) as char)
 }
 
 /// The parameter of that name, if there is one.
@@ -160,8 +231,34 @@ pub(crate) fn parameter_named(name: &[u8]) -> Option<Parameter>
 {
     match single_named(name) {
         Some(parameter) => Some(parameter),
-        None => numbered_named(name),
+        None => match numbered_named(name) {
+            Some(parameter) => Some(parameter),
+            None => user_named(name),
+        },
     }
+}
+
+/// A name's first bytes, and what stands behind them.
+fn cut_at(name: &[u8], count: usize) -> (&[u8], &[u8])
+    ensures front { result.0.now ≡ take count name.now }
+    ensures behind { result.1.now ≡ drop count name.now }
+{
+    name.split_at(name.len().min(count))
+}
+
+/// The parameter of that name among those of one user.
+fn user_named(name: &[u8]) -> Option<Parameter>
+    ensures { result ≡ user_named name.now }
+{
+    let (stem, digits) = cut_at(name, 10);
+    if stem == b"scram_user".as_slice() {
+        return user_at(digits).map(Parameter::ScramUser);
+    }
+    let (stem, digits) = cut_at(name, 14);
+    if stem == b"scram_verifier".as_slice() {
+        return user_at(digits).map(Parameter::ScramVerifier);
+    }
+    None
 }
 
 /// The parameter of that name among those without a number.
@@ -186,6 +283,8 @@ fn single_named(name: &[u8]) -> Option<Parameter>
         Some(Parameter::StopOnMismatch)
     } else if name == b"failover_if_affected_tuples_mismatch".as_slice() {
         Some(Parameter::FailoverOnMismatch)
+    } else if name == b"backend_password".as_slice() {
+        Some(Parameter::BackendPassword)
     } else {
         None
     }
@@ -226,25 +325,41 @@ fn of_stem(stem: &[u8], backend: BackendId) -> Option<Parameter>
 }
 
 /// Whether a parameter of that kind takes the value.
-pub(crate) fn takes(kind: Kind, value: &Value) -> bool
-    ensures { result ≡ takes kind value.now }
+pub(crate) fn takes(alloc: Global, kind: Kind, value: &Value) -> Result<bool, NoMemory>
+    ensures { IfOk result (λ taken. taken ≡ takes kind value.now) }
 {
     match value {
-        Value::Text(text) => takes_text(kind, text),
-        Value::Number(number) => takes_number(kind, *number),
-        Value::Truth(on) => takes_truth(kind, *on),
+        Value::Text(text) => takes_text(alloc, kind, text),
+        Value::Number(number) => Ok(takes_number(kind, *number)),
+        Value::Truth(on) => Ok(takes_truth(kind, *on)),
     }
 }
 
-fn takes_text(kind: Kind, text: &Text) -> bool
-    ensures { result ≡ takes_text kind text.now }
+fn takes_text(alloc: Global, kind: Kind, text: &Text) -> Result<bool, NoMemory>
+    ensures { IfOk result (λ taken. taken ≡ takes_text kind text.now) }
 {
     match kind {
-        Kind::Mode => text.as_str() == "snapshot_isolation",
-        Kind::HostName => !text.is_empty(),
-        Kind::Words => true,
-        Kind::Number { .. } | Kind::Truth | Kind::OnlyOn => false,
+        Kind::Mode => Ok(text.as_str() == "snapshot_isolation"),
+        Kind::HostName => Ok(!text.is_empty()),
+        Kind::Words => Ok(true),
+        Kind::Number { .. } | Kind::Truth | Kind::OnlyOn => Ok(false),
+        Kind::Verifier => is_verifier(alloc, text.as_str().as_bytes()),
+        Kind::Secret => Ok(is_secret(text.as_str().as_bytes())),
     }
+}
+
+/// Whether all bytes are such as may stand in a password.
+fn is_secret(text: &[u8]) -> bool
+    ensures { result ≡ is_secret text.now }
+{
+    let mut left = text;
+    while let [byte, rest @ ..] = left {
+        if *byte < 32 || *byte > 126 {
+            return false;
+        }
+        left = rest;
+    }
+    true
 }
 
 fn takes_number(kind: Kind, number: u64) -> bool
@@ -252,7 +367,13 @@ fn takes_number(kind: Kind, number: u64) -> bool
 {
     match kind {
         Kind::Number { low, high } => low <= number && number <= high,
-        Kind::Mode | Kind::HostName | Kind::Words | Kind::Truth | Kind::OnlyOn => false,
+        Kind::Mode
+        | Kind::HostName
+        | Kind::Words
+        | Kind::Truth
+        | Kind::OnlyOn
+        | Kind::Verifier
+        | Kind::Secret => false,
     }
 }
 
@@ -262,6 +383,11 @@ fn takes_truth(kind: Kind, on: bool) -> bool
     match kind {
         Kind::Truth => true,
         Kind::OnlyOn => on,
-        Kind::Mode | Kind::HostName | Kind::Words | Kind::Number { .. } => false,
+        Kind::Mode
+        | Kind::HostName
+        | Kind::Words
+        | Kind::Number { .. }
+        | Kind::Verifier
+        | Kind::Secret => false,
     }
 }

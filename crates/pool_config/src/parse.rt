@@ -88,7 +88,7 @@ fn read_value_of(
     let Some(value) = read_value(alloc, written)? else {
         return Err(ConfigFault::BadLine(number));
     };
-    if takes(parameter.kind(), &value) {
+    if takes(alloc, parameter.kind(), &value)? {
         return Ok(Setting { parameter, value });
     }
     Err(refused(number, parameter, &value))

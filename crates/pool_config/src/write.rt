@@ -1,9 +1,9 @@
 //! The writer: a configuration to its one text.
 ghost use Rattle.std.specs.Prelude.{◌≡◌, ◌<◌, ◌++◌, length, IfOk, OnOk, string_bytes};
-ghost use Rattle.pool_config.specs.Printed.{text_of, node_text, nodes_text, rest_text, truth_word};
+ghost use Rattle.pool_config.specs.Printed.{text_of, node_text, nodes_text, rest_text, user_text, users_text, password_text, truth_word};
 ghost use Rattle.pool_config.specs.Configuration.{IsAllowed, IsConfiguration};
 
-use crate::config::{Config, Node};
+use crate::config::{Config, Node, ScramUser};
 use pool_base::{NoMemory, Text};
 use std::alloc::{AllocError, Global};
 use std::fmt::Write;
@@ -21,13 +21,17 @@ pub fn write_config(alloc: Global, config: &Config) -> Result<Text, NoMemory>
 }
 
 /// The one text of a configuration.
+#[tactic(auto, using(crate::proofs::Nodes::five))]
 fn written(alloc: Global, config: &Config) -> Result<Text, NoMemory>
-    requires { length config.now.nodes < 9 }
+    requires nodes { length config.now.nodes < 9 }
+    requires users { length config.now.users < 17 }
     ensures { IfOk result (λ text. text ≡ text_of config.now) }
 {
     let mut text = String::from_str(alloc, "backend_clustering_mode = 'snapshot_isolation'\n")?;
     write_nodes(&mut text, config.nodes.as_slice())?;
     write_rest(&mut text, config)?;
+    write_users(&mut text, config.users.as_slice())?;
+    write_password(&mut text, &config.backend_password)?;
     Ok(Text::from_string(text))
 }
 
@@ -75,6 +79,46 @@ fn write_rest(text: &mut String, config: &Config) -> Result<(), AllocError>
     write!(text, "num_init_children = {children}\n")?;
     write!(text, "load_balance_mode = {balance}\n")?;
     write!(text, "statement_level_load_balance = {per_statement}\n")?;
+    Ok(())
+}
+
+/// The lines of the users.
+fn write_users(text: &mut String, users: &[ScramUser]) -> Result<(), AllocError>
+    requires { length users.now < 17 }
+    ensures { OnOk result (string_bytes text.new
+        ≡ string_bytes text.old ++ users_text 0 users.now) }
+{
+    let mut number: u32 = 0;
+    let mut left = users;
+    while let [user, rest @ ..] = left {
+        write_user(text, number, user)?;
+        number += 1;
+        left = rest;
+    }
+    Ok(())
+}
+
+/// The lines of one user.
+fn write_user(text: &mut String, number: u32, user: &ScramUser) -> Result<(), AllocError>
+    ensures { OnOk result (string_bytes text.new
+        ≡ string_bytes text.old ++ user_text number user.now) }
+{
+    let name = user.name.as_str();
+    let verifier = user.verifier.as_str();
+    write!(text, "scram_user{number} = '{name}'\n")?;
+    write!(text, "scram_verifier{number} = '{verifier}'\n")?;
+    Ok(())
+}
+
+/// The line of the password, where there is one.
+fn write_password(text: &mut String, password: &Option<Text>) -> Result<(), AllocError>
+    ensures { OnOk result (string_bytes text.new
+        ≡ string_bytes text.old ++ password_text password.now) }
+{
+    if let Some(password) = password {
+        let password = password.as_str();
+        write!(text, "backend_password = '{password}'\n")?;
+    }
     Ok(())
 }
 

@@ -50,5 +50,7 @@ pub fn config(alloc: Global) -> Result<Config, Stop> {
         children: 32,
         balance: true,
         per_statement: false,
+        users: List::new(alloc),
+        backend_password: None,
     })
 }

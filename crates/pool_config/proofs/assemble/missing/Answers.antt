@@ -1,15 +1,14 @@
-use Rattle.std.proofs.Common.{◌∙◌, ap, sym, find, map}
-use Rattle.pool_config.specs.Configuration.{lacks, later}
-use Rattle.pool_config.specs.declared.parameter.Parameter.TheVariants.{BackendPort}
-use Rattle.pool_config.proofs.Lists.{missing_is}
+use Rattle.std.proofs.Common.{◌∙◌, ap, sym, find}
+use Rattle.pool_config.specs.Configuration.{lacks, later, required_of}
+use Rattle.pool_config.proofs.Lists.{missing_in}
 use Rattle.pool_config.proofs.assemble.missing.Goals as goal
 
 pub returns-in-Some : goal.returns-in-Some
 returns-in-Some c =
-    sym (missing_is c.args.settings.now c.args.backends.now c.requires (sym c.if-lacks.ensures)
-    ∙ ap (λ first. later first (find (lacks c.args.settings.now) (map BackendPort c.args.backends.now))) (sym c.in-Some.ensures))
+    sym (missing_in c.args.settings.now c.args.backends.now c.args.users.now c.requires.backends c.requires.users
+    ∙ ap (λ first. later first (find (lacks c.args.settings.now) (required_of c.args.users.now))) (sym c.in-Some.ensures))
 
 pub returns-in-None : goal.returns-in-None
 returns-in-None c =
-    c.lacking_port.ensures ∙ sym (missing_is c.args.settings.now c.args.backends.now c.requires (sym c.if-lacks.ensures)
-    ∙ ap (λ first. later first (find (lacks c.args.settings.now) (map BackendPort c.args.backends.now))) (sym c.in-None.ensures))
+    c.missing_of_users.ensures ∙ sym (missing_in c.args.settings.now c.args.backends.now c.args.users.now c.requires.backends c.requires.users
+    ∙ ap (λ first. later first (find (lacks c.args.settings.now) (required_of c.args.users.now))) (sym c.in-None.ensures))

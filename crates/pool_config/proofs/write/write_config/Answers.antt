@@ -1,4 +1,4 @@
-use Rattle.pool_config.proofs.Printing.{says_if}
+use Rattle.pool_config.proofs.Writing.{says_if}
 use Rattle.pool_config.proofs.write.write_config.Goals as goal
 
 pub returns-clause-read_back : goal.returns-clause-read_back
