@@ -2,6 +2,7 @@
 use Rattle.std.specs.Prelude.{◌≡◌, ℕ, Bool, true, false, List, [], ◌++◌, Option, None, drop}
 use Rattle.pg_messages.specs.declared.start.Pair.{Pair}
 use Rattle.sql_tree.specs.declared.statement.Statement.{Statement}
+use Rattle.wire_session.specs.Kept.{IsNew}
 use Rattle.wire_session.specs.declared.session.Session.{Session}
 use Rattle.wire_session.specs.declared.statements.Statements.{Statements}
 use Rattle.session_wire.specs.declared.due.Due.{Due}
@@ -47,10 +48,10 @@ with_end v = record v { ended = true }
 abbrev pub with_written : View → ℕ → View
 with_written v count = record v { output = drop count v.output }
 
--- nothing has come yet
+-- nothing has come yet, and the session is a new one
 abbrev pub IsFresh : ℕ → View → Type 0
 IsFresh number v = (v.number ≡ number) × (v.stage ≡ Starting false false) × (v.options ≡ []) × (v.left ≡ []) × (v.settles ≡ false)
-    × (v.due ≡ None) × (v.rest ≡ []) × (v.ended ≡ false) × (v.output ≡ []) × (v.held ≡ [])
+    × (v.due ≡ None) × (v.rest ≡ []) × (v.ended ≡ false) × (v.output ≡ []) × (v.held ≡ []) × IsNew v.session
 
 -- what an outcome leaves as it is: whose wire it is, where the session stands, what was fed and not taken, the names of statements
 pub record Frame : Type 0 where

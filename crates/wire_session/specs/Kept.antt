@@ -1,7 +1,8 @@
 -- What a session keeps of its client.
-use Rattle.std.specs.Prelude.{◌≡◌, ℕ, List, [], ◌∷◌, Option, Some, None, bytes_eq, if◌then◌else◌}
+use Rattle.std.specs.Prelude.{◌≡◌, ℕ, false, List, [], ◌∷◌, Option, Some, None, bytes_eq, if◌then◌else◌}
 use Rattle.wire_session.specs.declared.portals.Portal.{Portal}
 use Rattle.wire_session.specs.declared.portals.Portals.{Portals}
+use Rattle.wire_session.specs.declared.session.Session.{Session}
 use Rattle.wire_session.specs.declared.statements.Entry.{Entry}
 use Rattle.wire_session.specs.declared.statements.Prepared.{Prepared}
 use Rattle.wire_session.specs.declared.statements.Statements.{Statements}
@@ -30,3 +31,11 @@ portal_of name p = portal_in name p.entries.items
 -- no portal is left
 abbrev pub HasNone : Portals → Type 0
 HasNone p = p.entries.items ≡ []
+
+-- no name stands for a statement
+abbrev pub HasNoName : Statements → Type 0
+HasNoName s = s.entries.items ≡ []
+
+-- a session that was let in just now is outside a block (I) and has no transaction; no message is dropped, and nothing has a name
+abbrev pub IsNew : Session → Type 0
+IsNew s = (s.status ≡ 73) × (s.implicit ≡ false) × (s.skipping ≡ false) × HasNoName s.statements × HasNone s.portals

@@ -1,4 +1,6 @@
 //! A session between two messages.
+ghost use Rattle.wire_session.specs.Kept.{IsNew};
+
 use crate::portals::Portals;
 use crate::statements::Statements;
 use std::alloc::Global;
@@ -26,7 +28,9 @@ pub struct Session {
 
 impl Session {
     /// A session that was let in just now. It takes no memory.
-    pub fn new(alloc: Global) -> Session {
+    pub fn new(alloc: Global) -> Session
+        ensures { IsNew result }
+    {
         Session {
             status: b'I',
             implicit: false,

@@ -1,7 +1,7 @@
 //! Prepared statements by their names.
 ghost use Rattle.std.specs.Prelude.{◌≡◌, None, OnOk, Some, vec_len};
 ghost use Rattle.std.specs.Option.{option_map};
-ghost use Rattle.wire_session.specs.Kept.{prepared};
+ghost use Rattle.wire_session.specs.Kept.{HasNoName, prepared};
 ghost use Rattle.wire_session.specs.Standing.{StatementStands};
 
 use crate::session::Control;
@@ -35,7 +35,9 @@ pub struct Statements {
 
 impl Statements {
     /// No statements. It takes no memory.
-    pub fn new(alloc: Global) -> Statements {
+    pub fn new(alloc: Global) -> Statements
+        ensures { HasNoName result }
+    {
         Statements {
             entries: Vec::new(alloc),
         }
