@@ -63,43 +63,13 @@ impl Wire {
                 Ok(())
             }
             Some(due) => {
-                self.told(config, due, outcome, status)?;
+                let implicit = implicit_after(self.session.implicit, &outcome, status);
+                let ends = ends_block(&outcome);
+                self.say(config, due, outcome, status)?;
+                self.turn(implicit, status, ends);
                 Ok(())
             }
         }
-    }
-
-    fn told(
-        &mut self,
-        config: &Config,
-        due: Due,
-        outcome: Outcome,
-        status: u8,
-    ) -> Result<(), NoMemory>
-        requires range { MayAnswer outcome }
-        ensures says { OnOk result (Says config.now.nodes due outcome status (shown self.old)
-            (shown self.new)) }
-        ensures status { OnOk result (self.new.session.status ≡ status) }
-        ensures implicit { OnOk result (self.new.session.implicit
-            ≡ implicit_after self.old.session.implicit outcome status) }
-        ensures skips { OnOk result (self.new.session.skipping
-            ≡ skips due outcome self.old.session.skipping) }
-        ensures due { self.new.due ≡ self.old.due }
-        ensures kept { frame_of (shown self.new) ≡ frame_of (shown self.old) }
-        ensures left { OnOk result ((shown self.new).left
-            ≡ left_after due outcome (shown self.old).left) }
-        ensures portals { keeps_portals due outcome status ≡ true
-            → OnOk result (self.new.session.portals ≡ self.old.session.portals) }
-        ensures ended { ends_block outcome ≡ true → OnOk result (HasNone self.new.session.portals) }
-        ensures settled { due ≡ dues.Settle → status ≡ 73
-            → OnOk result (HasNone self.new.session.portals) }
-        ensures commit { IsTrue (ends_now due outcome) → HasRoom self.old.output → IsOk result }
-    {
-        let implicit = implicit_after(self.session.implicit, &outcome, status);
-        let ends = ends_block(&outcome);
-        self.say(config, due, outcome, status)?;
-        self.turn(implicit, status, ends);
-        Ok(())
     }
 
     /// Where the session stands behind an outcome. Where a block ended no portal is left.
@@ -319,7 +289,8 @@ impl Wire {
     {
         match outcome {
             Outcome::Error { code, name } => {
-                self.report_refused(asked, saying, last, code, name)?;
+                let saying = saying_of(asked, saying, code);
+                self.output.put_error(last, code, saying, name.as_bytes())?;
                 Ok(())
             }
             other => {
@@ -328,27 +299,6 @@ impl Wire {
                 Ok(())
             }
         }
-    }
-
-    fn report_refused(
-        &mut self,
-        asked: Code,
-        saying: Saying,
-        last: bool,
-        code: Code,
-        name: Text,
-    ) -> Result<(), NoMemory>
-        requires short { length name ≤ 1000 }
-        ensures says { OnOk result (SaysRefused asked saying last (Failed code name)
-            (shown self.old) (shown self.new)) }
-        ensures session { self.new.session ≡ self.old.session }
-        ensures due { self.new.due ≡ self.old.due }
-        ensures kept { frame_of (shown self.new) ≡ frame_of (shown self.old) }
-        ensures left { (shown self.new).left ≡ (shown self.old).left }
-    {
-        let saying = saying_of(asked, saying, code);
-        self.output.put_error(last, code, saying, name.as_bytes())?;
-        Ok(())
     }
 
     /// The outcome of an Execute. After an error messages are dropped up to the next Sync.
