@@ -1,13 +1,13 @@
 -- What the reader says of a line alone, and which fault of a text it tells.
-use Rattle.std.proofs.Common.{◌≡◌, ◌⊎◌, inl, inr, ◌+◌, ◌==◌, ℕ, Bool, true, false, not, List, [], ◌∷◌, ◌++◌, Option, Some, None, Result, Ok, Err, refl, ap, sym, ◌∙◌, subst, if◌then◌else◌, ◌-◌, ◌≤◌, length, take, append_assoc, append-nil, length-append, arith}
+use Rattle.std.proofs.Common.{◌≡◌, inl, inr, ◌+◌, ◌==◌, ℕ, Bool, true, false, not, List, [], ◌∷◌, ◌++◌, Some, None, Ok, Err, refl, ap, sym, ◌∙◌, subst, if◌then◌else◌, ◌-◌, ◌≤◌, length, take, append_assoc, append-nil, length-append, arith}
 use Rattle.pool_config.specs.Bytes.{AllOf, lines, onto, front, behind}
 use Rattle.pool_config.specs.Form.{Spelling, IsEnd}
 use Rattle.pool_config.specs.Value.{value_of}
 use Rattle.pool_config.specs.Table.{kind_of, takes}
 use Rattle.pool_config.specs.Names.{parameter_named}
-use Rattle.pool_config.specs.Settings.{Sets, HasUnknownName, AsksOtherMode, IsBad, HasFault, Say, FirstFault}
+use Rattle.pool_config.specs.Settings.{Sets, HasUnknownName, AsksOtherMode, HasFault, Say, FirstFault}
 use Rattle.pool_config.specs.Configuration.{Says}
-use Rattle.pool_config.specs.Reader.{Form, empty, assignment, other, form_at}
+use Rattle.pool_config.specs.Reader.{assignment, form_at}
 use Rattle.pool_config.specs.declared.line.Class.TheVariants.{InLine}
 use Rattle.pool_config.specs.declared.parameter.Parameter.{Parameter}
 use Rattle.pool_config.specs.declared.parameter.Parameter.TheVariants.{ClusteringMode}
@@ -21,7 +21,6 @@ use Rattle.pool_config.proofs.Runs.{run_parts, run_all, front_taken}
 use Rattle.pool_config.proofs.Grammar.{assignment_read, end_form}
 use Rattle.pool_advice.specs.Faults.{Adds, fault_by, IsGood, IsFaultOf, IsRefusedBy, AreFaults, Begins}
 use Rattle.pool_advice.specs.declared.fault.LineFault.{LineFault}
-use Rattle.pool_advice.specs.declared.fault.Refusal.{Refusal}
 use Rattle.pool_advice.specs.declared.fault.Refusal.TheVariants as refusals
 
 -- ---- a line alone

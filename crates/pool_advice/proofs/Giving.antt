@@ -1,5 +1,5 @@
 -- One missing parameter after another.
-use Rattle.std.proofs.Common.{◌≡◌, ℕ, List, [], ◌∷◌, ◌++◌, refl, ap, sym, ◌∙◌, subst, append_assoc, append-nil}
+use Rattle.std.proofs.Common.{◌≡◌, ℕ, List, [], ◌∷◌, ◌++◌, ap, sym, ◌∙◌, subst, append_assoc, append-nil}
 use Rattle.pool_config.specs.Configuration.{Lacks}
 use Rattle.pool_advice.specs.Missing.{AreMissing, IsGiven}
 

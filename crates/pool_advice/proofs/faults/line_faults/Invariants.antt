@@ -1,4 +1,4 @@
-use Rattle.std.proofs.Common.{◌≡◌, ◌≤◌, ◌+◌, length}
+use Rattle.std.proofs.Common.{◌≤◌, ◌+◌, length}
 use Rattle.pool_config.specs.Bytes.{lines}
 use Rattle.pool_advice.proofs.Alone.{So}
 use Rattle.pool_advice.proofs.faults.line_faults.Given as goal
