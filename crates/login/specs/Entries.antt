@@ -1,10 +1,11 @@
 -- The pool's password at a server: what the pool says, and when it is in.
-use Rattle.std.specs.Prelude.{◌≡◌, ℕ, List, [], ◌∷◌, Option, Some, None}
+use Rattle.std.specs.Prelude.{◌≡◌, ◌<◌, ◌⊎◌, ℕ, List, [], length, Some}
 use Rattle.pg_messages.specs.declared.server.ServerMessage.{ServerMessage}
 use Rattle.pg_messages.specs.declared.server.ServerMessage.TheVariants.{AuthOk, AuthSasl, AuthContinue, AuthFinal}
 use Rattle.scram.specs.declared.client.ScramClient.{ScramClient}
 use Rattle.scram.specs.declared.client.ScramClient.TheVariants as clients
-use Rattle.scram.specs.Clients.{IsOpening, IsAnswer, IsChecked}
+use Rattle.scram.specs.Words.{IsPassword}
+use Rattle.scram.specs.Clients.{IsOpening, IsAnswer, IsChecked, IsNoChallenge, IsNoVerdict, IsForged}
 use Rattle.login.specs.declared.entry.Entry.{Entry}
 use Rattle.login.specs.declared.entry.Entry.TheVariants.{Outside, Opened, Answered, Shown, Over}
 use Rattle.login.specs.declared.entry.Heard.{Heard}
@@ -34,9 +35,26 @@ IsIn (Outside password nonce) AuthOk = Unit {0}
 IsIn Shown AuthOk = Unit {0}
 IsIn old message = ⊥
 
--- what a message leads to, and the state after it. Which message breaks the protocol is left open here
+-- the first message of an exchange is longer than one may be
+pub record IsTooLong (password nonce : List ℕ) : Type 0 where
+  pub message : List ℕ
+  pub client : ScramClient
+  pub opening : IsOpening (clients.Fresh [] password nonce) message client
+  pub long : 1000000 < length message
+
+-- a message that may not come here; one that asks for a password that there is not, or that may not stand in an exchange; one that is not of
+-- the exchange; or one with another signature
+abbrev pub IsBreach : Entry → ServerMessage → Type 0
+IsBreach (Outside password nonce) AuthOk = ⊥
+IsBreach (Outside (Some password) nonce) AuthSasl = (IsPassword password → ⊥) ⊎ IsTooLong password nonce
+IsBreach (Opened client) (AuthContinue message) = IsNoChallenge client message
+IsBreach (Answered client) (AuthFinal message) = IsNoVerdict client message ⊎ IsForged client message
+IsBreach Shown AuthOk = ⊥
+IsBreach old message = Unit {0}
+
+-- what a message leads to, and the state after it
 abbrev pub IsTurn : Entry → ServerMessage → Heard → Entry → Type 0
 IsTurn old message (heards.Says body) new = Says old message body new
 IsTurn old message heards.Goes new = Shows old message new
 IsTurn old message heards.In new = IsIn old message × (new ≡ Over)
-IsTurn old message heards.Breaks new = new ≡ Over
+IsTurn old message heards.Breaks new = IsBreach old message × (new ≡ Over)

@@ -1,11 +1,11 @@
 -- A client's password: what is answered to a message, and when a client is let in.
-use Rattle.std.specs.Prelude.{◌≡◌, ◌<◌, ◌^◌, ℕ, List, length, Option, Some, None}
+use Rattle.std.specs.Prelude.{◌≡◌, ◌<◌, ◌^◌, ℕ, true, false, List, length}
 use Rattle.pg_messages.specs.declared.server.ServerMessage.{ServerMessage}
 use Rattle.pg_messages.specs.declared.server.ServerMessage.TheVariants.{AuthContinue, AuthFinal}
 use Rattle.scram.specs.declared.server.ScramServer.{ScramServer}
 use Rattle.scram.specs.declared.server.ScramServer.TheVariants as servers
 use Rattle.scram.specs.Messages.{IsSomeFirst}
-use Rattle.scram.specs.Servers.{IsChallenge, IsNoFirst, IsAccepted, IsUnproven, IsNoLast}
+use Rattle.scram.specs.Servers.{IsChallenge, IsLast, IsAccepted, IsUnproven, IsNoLast}
 use Rattle.login.specs.declared.gate.Login.{Login}
 use Rattle.login.specs.declared.gate.Login.TheVariants.{Asked, Challenged, Over}
 use Rattle.login.specs.declared.gate.Answer.{Answer}
@@ -22,7 +22,8 @@ pub record IsAnswered (old new : ScramServer) (body : List ℕ) (answer : Server
   pub told : answer ≡ AuthContinue reply
 
 abbrev pub Goes : Login → List ℕ → ServerMessage → Login → Type 0
-Goes (Asked (Some verifier) nonce) body answer (Challenged server) = IsAnswered (servers.Fresh verifier nonce) server body answer
+Goes (Asked verifier is_user nonce) body answer (Challenged server was_user) =
+    (was_user ≡ is_user) × IsAnswered (servers.Fresh verifier nonce) server body answer
 Goes old body answer new = ⊥
 
 -- a last message with the proof of the user's password
@@ -32,19 +33,18 @@ pub record IsProven (server : ScramServer) (body : List ℕ) (answer : ServerMes
   pub told : answer ≡ AuthFinal reply
 
 abbrev pub LetsIn : Login → List ℕ → ServerMessage → Type 0
-LetsIn (Challenged server) body answer = IsProven server body answer
+LetsIn (Challenged server is_user) body answer = (is_user ≡ true) × IsProven server body answer
 LetsIn old body answer = ⊥
 
--- a first message that is one, of a user who is none
-pub record IsUnknown (body : List ℕ) : Type 0 where
-  pub message : List ℕ
-  pub sent : body ≡ initial_body message
-  pub first : IsSomeFirst message
+-- a last message of this exchange, whatever its proof
+pub record IsSomeLast (server : ScramServer) (body : List ℕ) : Type 0 where
+  pub proof : List ℕ
+  pub said : IsLast server body proof
 
--- a password is refused: the user is none, or the proof is wrong
+-- a password is refused: the proof is wrong, or there is no user of the name and so no right proof
 abbrev pub IsRefused : Login → List ℕ → Type 0
-IsRefused (Asked None nonce) body = IsUnknown body
-IsRefused (Challenged server) body = IsUnproven server body
+IsRefused (Challenged server true) body = IsUnproven server body
+IsRefused (Challenged server false) body = IsSomeLast server body
 IsRefused old body = ⊥
 
 -- a body has no first message
@@ -53,8 +53,8 @@ HasNoFirst body = (message : List ℕ) → length message < 2 ^ 32 → body ≡ 
 
 -- a body is none that may come here
 abbrev pub IsMalformed : Login → List ℕ → Type 0
-IsMalformed (Asked verifier nonce) body = HasNoFirst body
-IsMalformed (Challenged server) body = IsNoLast server body
+IsMalformed (Asked verifier is_user nonce) body = HasNoFirst body
+IsMalformed (Challenged server is_user) body = IsNoLast server body
 IsMalformed Over body = Unit {0}
 
 -- what is answered to a body, and the state after it

@@ -1,3 +1,7 @@
 pub mod Initial
 pub mod Gates
 pub mod Entries
+pub mod Candidates
+pub mod Refusals
+pub mod Receptions
+pub mod Entrances

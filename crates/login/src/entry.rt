@@ -78,21 +78,7 @@ impl Entry {
         ensures turn { IfOk result (λ heard. IsTurn self.old message.now heard self.new) }
         ensures over { OnErr result (self.new ≡ Entry.Over) }
     {
-        let turn = match (mem::replace(self, Entry::Over), message) {
-            (Entry::Outside { .. }, ServerMessage::AuthOk)
-            | (Entry::Shown, ServerMessage::AuthOk) => over(Heard::In),
-            (Entry::Outside { password, nonce }, ServerMessage::AuthSasl) => match password {
-                Some(password) => begin(alloc, password, nonce)?,
-                None => over(Heard::Breaks),
-            },
-            (Entry::Opened { client }, ServerMessage::AuthContinue { body }) => {
-                prove(alloc, client, body.as_slice())?
-            }
-            (Entry::Answered { client }, ServerMessage::AuthFinal { body }) => {
-                check(alloc, client, body.as_slice())?
-            }
-            _ => over(Heard::Breaks),
-        };
+        let turn = turn_of(alloc, mem::replace(self, Entry::Over), message)?;
         *self = turn.next;
         Ok(turn.heard)
     }
@@ -109,7 +95,94 @@ fn over(heard: Heard) -> Turn
     }
 }
 
-/// A password is asked for.
+/// What the server's next message leads to.
+fn turn_of(alloc: Global, entry: Entry, message: &ServerMessage) -> Result<Turn, NoMemory>
+    ensures { IfOk result (λ t. IsTurn entry message.now t.heard t.next) }
+{
+    match entry {
+        Entry::Outside { password, nonce } => outside(alloc, password, nonce, message),
+        Entry::Opened { client } => opened(alloc, client, message),
+        Entry::Answered { client } => answered(alloc, client, message),
+        Entry::Shown => Ok(shown(message)),
+        Entry::Over => Ok(over(Heard::Breaks)),
+    }
+}
+
+/// The server's first message.
+fn outside(
+    alloc: Global,
+    password: Option<List<u8>>,
+    nonce: List<u8>,
+    message: &ServerMessage,
+) -> Result<Turn, NoMemory>
+    ensures { IfOk result (λ t. IsTurn (Entry.Outside password nonce) message.now t.heard t.next) }
+{
+    match message {
+        ServerMessage::AuthOk => {
+            drop(password);
+            drop(nonce);
+            Ok(over(Heard::In))
+        }
+        ServerMessage::AuthSasl => asked(alloc, password, nonce),
+        _ => {
+            drop(password);
+            drop(nonce);
+            Ok(over(Heard::Breaks))
+        }
+    }
+}
+
+/// A password is asked for, which there may be or not.
+fn asked(alloc: Global, password: Option<List<u8>>, nonce: List<u8>) -> Result<Turn, NoMemory>
+    ensures { IfOk result (λ t. IsTurn (Entry.Outside password nonce) ServerMessage.AuthSasl
+        t.heard t.next) }
+{
+    match password {
+        Some(password) => begin(alloc, password, nonce),
+        None => {
+            drop(nonce);
+            Ok(over(Heard::Breaks))
+        }
+    }
+}
+
+/// The server's message behind the first of the pool's.
+fn opened(alloc: Global, client: ScramClient, message: &ServerMessage) -> Result<Turn, NoMemory>
+    ensures { IfOk result (λ t. IsTurn (Entry.Opened client) message.now t.heard t.next) }
+{
+    match message {
+        ServerMessage::AuthContinue { body } => prove(alloc, client, body.as_slice()),
+        _ => {
+            drop(client);
+            Ok(over(Heard::Breaks))
+        }
+    }
+}
+
+/// The server's message behind the proof.
+fn answered(alloc: Global, client: ScramClient, message: &ServerMessage) -> Result<Turn, NoMemory>
+    ensures { IfOk result (λ t. IsTurn (Entry.Answered client) message.now t.heard t.next) }
+{
+    match message {
+        ServerMessage::AuthFinal { body } => check(alloc, client, body.as_slice()),
+        _ => {
+            drop(client);
+            Ok(over(Heard::Breaks))
+        }
+    }
+}
+
+/// The message of a server that has shown that it knows the keys.
+fn shown(message: &ServerMessage) -> Turn
+    ensures { IsTurn Entry.Shown message.now result.heard result.next }
+{
+    match message {
+        ServerMessage::AuthOk => over(Heard::In),
+        _ => over(Heard::Breaks),
+    }
+}
+
+/// A password is asked for that there is.
 fn begin(alloc: Global, password: List<u8>, nonce: List<u8>) -> Result<Turn, NoMemory>
     ensures { IfOk result (λ t. IsTurn (Entry.Outside (Some password) nonce)
         ServerMessage.AuthSasl t.heard t.next) }
@@ -141,7 +214,8 @@ fn prove(alloc: Global, client: ScramClient, message: &[u8]) -> Result<Turn, NoM
             heard: Heard::Says(body),
         }),
         Err(ScramFault::NoMemory) => Err(NoMemory),
-        Err(ScramFault::Malformed) | Err(ScramFault::WrongProof) => Ok(over(Heard::Breaks)),
+        Err(ScramFault::Malformed) => Ok(over(Heard::Breaks)),
+        Err(ScramFault::WrongProof) => unreachable!(),
     }
 }
 
@@ -157,6 +231,7 @@ fn check(alloc: Global, client: ScramClient, message: &[u8]) -> Result<Turn, NoM
             heard: Heard::Goes,
         }),
         Err(ScramFault::NoMemory) => Err(NoMemory),
-        Err(ScramFault::Malformed) | Err(ScramFault::WrongProof) => Ok(over(Heard::Breaks)),
+        Err(ScramFault::Malformed) => Ok(over(Heard::Breaks)),
+        Err(ScramFault::WrongProof) => Ok(over(Heard::Breaks)),
     }
 }

@@ -3,9 +3,12 @@
 //! ```text
 //! Asked --a first message--> Challenged --a last message--> Over
 //!   |                                                        ^
-//!   +----------- a user who is none, or a bad message -------+
+//!   +--------------------- a bad message --------------------+
 //! ```
-ghost use Rattle.std.specs.Prelude.{◌≡◌, IfOk, OnErr};
+//!
+//! A name that no user has goes the same way, with a verifier that was made up, and is turned away
+//! at the end.
+ghost use Rattle.std.specs.Prelude.{◌≡◌, true, false, IfOk, OnErr};
 ghost use Rattle.login.specs.Gates.{IsTurn};
 ghost use Rattle.login.specs.declared.gate.Login.{Login};
 
@@ -13,21 +16,23 @@ use crate::fault::LoginFault;
 use crate::initial::message_of;
 use pg_messages::ServerMessage;
 use pool_base::{List, NoMemory};
-use scram::{ScramFault, ScramServer, Verifier, is_first};
+use scram::{ScramFault, ScramServer, Verifier};
 use std::alloc::Global;
 use std::mem;
 
 /// How far a client has shown that it knows its password.
 #[derive(Drop)]
 pub enum Login {
-    /// The ways are told. A user who is none has no verifier.
+    /// The ways are told. Where the name is that of no user, the verifier is made up.
     Asked {
-        verifier: Option<Verifier>,
+        verifier: Verifier,
+        is_user: bool,
         nonce: List<u8>,
     },
     /// Its first message was answered.
     Challenged {
         server: ScramServer,
+        is_user: bool,
     },
     /// It was let in or turned away.
     Over,
@@ -53,10 +58,14 @@ struct Turn {
 
 impl Login {
     /// The beginning, once `AuthSasl` was told. The nonce is fresh, one printable byte or more.
-    pub fn new(verifier: Option<Verifier>, nonce: List<u8>) -> Login
-        ensures { result ≡ Login.Asked verifier nonce }
+    pub fn new(verifier: Verifier, is_user: bool, nonce: List<u8>) -> Login
+        ensures { result ≡ Login.Asked verifier is_user nonce }
     {
-        Login::Asked { verifier, nonce }
+        Login::Asked {
+            verifier,
+            is_user,
+            nonce,
+        }
     }
 
     /// The answer to the body of a client's next message `p`.
@@ -65,11 +74,12 @@ impl Login {
         ensures over { OnErr result (self.new ≡ Login.Over) }
     {
         let turn = match mem::replace(self, Login::Over) {
-            Login::Asked { verifier, nonce } => match verifier {
-                Some(verifier) => begin(alloc, verifier, nonce, body)?,
-                None => miss(nonce, body),
-            },
-            Login::Challenged { server } => judge(alloc, server, body)?,
+            Login::Asked {
+                verifier,
+                is_user,
+                nonce,
+            } => begin(alloc, verifier, is_user, nonce, body)?,
+            Login::Challenged { server, is_user } => judge(alloc, server, is_user, body)?,
             Login::Over => Turn {
                 next: Login::Over,
                 answer: Answer::Refused(LoginFault::Malformed),
@@ -92,8 +102,14 @@ fn turned_away(fault: LoginFault) -> Turn
 }
 
 /// The answer to a first message.
-fn begin(alloc: Global, verifier: Verifier, nonce: List<u8>, body: &[u8]) -> Result<Turn, NoMemory>
-    ensures { IfOk result (λ t. IsTurn (Login.Asked (Some verifier) nonce) body.now t.answer
+fn begin(
+    alloc: Global,
+    verifier: Verifier,
+    is_user: bool,
+    nonce: List<u8>,
+    body: &[u8],
+) -> Result<Turn, NoMemory>
+    ensures { IfOk result (λ t. IsTurn (Login.Asked verifier is_user nonce) body.now t.answer
         t.next) }
 {
     let Some(message) = message_of(body) else {
@@ -102,7 +118,7 @@ fn begin(alloc: Global, verifier: Verifier, nonce: List<u8>, body: &[u8]) -> Res
     let mut server = ScramServer::new(verifier, nonce);
     match server.first(alloc, message) {
         Ok(reply) => Ok(Turn {
-            next: Login::Challenged { server },
+            next: Login::Challenged { server, is_user },
             answer: Answer::Goes(ServerMessage::AuthContinue { body: reply }),
         }),
         Err(ScramFault::NoMemory) => Err(NoMemory),
@@ -112,26 +128,31 @@ fn begin(alloc: Global, verifier: Verifier, nonce: List<u8>, body: &[u8]) -> Res
     }
 }
 
-/// The answer to a first message of a user who is none.
-fn miss(nonce: List<u8>, body: &[u8]) -> Turn
-    ensures { IsTurn (Login.Asked None nonce) body.now result.answer result.next }
+/// The client is let in, if it is a user.
+fn admitted(is_user: bool, reply: List<u8>) -> Turn
+    ensures next { result.next ≡ Login.Over }
+    ensures user { is_user ≡ true → result.answer ≡ Answer.LetIn (ServerMessage.AuthFinal reply) }
+    ensures other { is_user ≡ false → result.answer ≡ Answer.Refused LoginFault.Password }
 {
-    match message_of(body) {
-        Some(message) if is_first(message) => turned_away(LoginFault::Password),
-        _ => turned_away(LoginFault::Malformed),
+    if !is_user {
+        drop(reply);
+        return turned_away(LoginFault::Password);
+    }
+    Turn {
+        next: Login::Over,
+        answer: Answer::LetIn(ServerMessage::AuthFinal { body: reply }),
     }
 }
 
-/// The answer to a last message.
-fn judge(alloc: Global, server: ScramServer, body: &[u8]) -> Result<Turn, NoMemory>
-    ensures { IfOk result (λ t. IsTurn (Login.Challenged server) body.now t.answer t.next) }
+/// The answer to a last message. It is looked at in the same way whether or not there is such a
+/// user.
+fn judge(alloc: Global, server: ScramServer, is_user: bool, body: &[u8]) -> Result<Turn, NoMemory>
+    ensures { IfOk result (λ t. IsTurn (Login.Challenged server is_user) body.now t.answer
+        t.next) }
 {
     let mut server = server;
     match server.last(alloc, body) {
-        Ok(reply) => Ok(Turn {
-            next: Login::Over,
-            answer: Answer::LetIn(ServerMessage::AuthFinal { body: reply }),
-        }),
+        Ok(reply) => Ok(admitted(is_user, reply)),
         Err(ScramFault::NoMemory) => Err(NoMemory),
         Err(ScramFault::WrongProof) => Ok(turned_away(LoginFault::Password)),
         Err(ScramFault::Malformed) => Ok(turned_away(LoginFault::Malformed)),

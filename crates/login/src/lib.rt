@@ -4,11 +4,19 @@
 //! it asks for no password or has shown that it knows the keys.
 #![tactic(auto)]
 
+mod candidate;
+mod entrance;
 mod entry;
 mod fault;
 mod gate;
 mod initial;
+mod reception;
+mod refusal;
 
+pub use candidate::{Candidate, Guard, User};
+pub use entrance::{Entrance, enter};
 pub use entry::{Entry, Heard};
 pub use fault::LoginFault;
 pub use gate::{Answer, Login};
+pub use reception::{Reception, Reply};
+pub use refusal::{Refusal, refusal_bytes};
