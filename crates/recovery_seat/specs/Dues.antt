@@ -1,4 +1,4 @@
--- Which step a session takes that has ordered no recovery.
+-- Which step a session takes that has no recovery under way.
 use Rattle.std.specs.Prelude.{◌≡◌, ℤ, Bool, List, Some}
 use Rattle.schema.specs.declared.catalogue.TableDef.{TableDef}
 use Rattle.pgproto.specs.declared.line.Mark.TheVariants as marks

@@ -14,16 +14,18 @@
 //!
 //! Where the copy is due to start and there is no spare box, the reply that says so comes
 //! in its place. An event is noted before it takes place.
-ghost use Rattle.std.specs.Prelude.{◌≡◌, ◌<◌, ◌≤◌, ℕ, None, length, IfOk};
+ghost use Rattle.std.specs.Prelude.{◌≡◌, ◌<◌, ◌≤◌, ℕ, None, length, IfOk, OnOk};
 ghost use Rattle.schema.specs.Allowed.{AreAllowed};
 ghost use Rattle.schema.specs.Ranges.{AreInRange};
 ghost use Rattle.session_engine.specs.Cores.{machine_in};
 ghost use Rattle.online_recovery.specs.declared.layout.Layout.{Layout};
+ghost use Rattle.online_recovery.specs.declared.action.RecoveryAction.TheVariants.{Rest};
 ghost use Rattle.online_recovery.specs.Asking.{standing_in};
+ghost use Rattle.online_recovery.specs.Rules.{next_action};
 ghost use Rattle.session_seat.specs.Policy.{policy_in};
 ghost use Rattle.session_seat.specs.Shared.{shared_of};
 ghost use Rattle.session_seat.specs.Steps.{IsDid};
-ghost use Rattle.recovery_seat.specs.declared.step.Pace.TheVariants.{Own};
+ghost use Rattle.recovery_seat.specs.declared.step.Pace.TheVariants.{Ends, Own};
 ghost use Rattle.recovery_seat.specs.Dues.{IsOwn};
 ghost use Rattle.recovery_seat.specs.Places.{IsLayout, standing_of};
 ghost use Rattle.session_seat.specs.Speech.{Speech, speech};
@@ -85,10 +87,10 @@ pub fn take_step<B: Backend>(
         (at (shared_of B.meaning world.new.gate.state world.new.tables world.new.count
         world.new.shelf.items) (machine_in place.new.seat.core) (standing_of layout place.new)
         book.new.journal) (speech place.new.seat book.new.lines)) }
-    // Which step it is, of a session that has ordered no recovery.
-    ensures due { place.old.recovery ≡ None → IfOk result (λ step. IsOwn B.meaning B.is_prompt
-        setting.entry.tables.now setting.entry.moment place.old.seat world.old.gate.state
-        world.old.shelf.items step) }
+    // Which step it is, of a session that has no recovery under way.
+    ensures due { (layout : Layout) → next_action (standing_of layout place.old) ≡ Rest
+        → IfOk result (λ step. IsOwn B.meaning B.is_prompt setting.entry.tables.now
+        setting.entry.moment place.old.seat world.old.gate.state world.old.shelf.items step) }
     // An event is counted, so that a run of steps ends.
     ensures did { IfOk result (λ step. IsDid step → book.old.events < book.new.events) }
     ensures events { book.old.events ≤ book.new.events }
@@ -109,6 +111,8 @@ pub fn take_step<B: Backend>(
 fn pace_of(place: &Place) -> Pace
     ensures own { result ≡ Own → place.now.recovery ≡ None }
     ensures none { place.now.recovery ≡ None → result ≡ Own }
+    ensures busy { result ≡ Ends → (layout : Layout)
+        → next_action (standing_of layout place.now) ≡ Rest → ⊥ }
 {
     let Some(recovery) = &place.recovery else {
         return Pace::Own;
@@ -194,6 +198,8 @@ fn go_on<B: Backend>(
         (at (shared_of B.meaning world.new.gate.state world.new.tables world.new.count
         world.new.shelf.items) (machine_in place.new.seat.core) (standing_of layout place.new)
         book.new.journal) (record was { lines = book.new.lines })) }
+    ensures busy { (layout : Layout) → next_action (standing_of layout place.old) ≡ Rest
+        → OnOk result ⊥ }
     ensures wire { place.new.seat.wire ≡ place.old.seat.wire }
     ensures over { place.new.seat.over ≡ place.old.seat.over }
     ensures did { IfOk result (λ step. IsDid step → book.old.events < book.new.events) }
@@ -246,6 +252,7 @@ fn advance<B: Backend>(
         (at (shared_of B.meaning world.new.gate.state world.new.tables world.new.count
         world.new.shelf.items) (machine_in seat.now.core) (standing_in recovery.new)
         book.new.journal) (record was { lines = book.new.lines })) }
+    ensures busy { next_action (standing_in recovery.old) ≡ Rest → OnOk result ⊥ }
     ensures did { IfOk result (λ step. IsDid step → book.old.events < book.new.events) }
     ensures events { book.old.events ≤ book.new.events }
     ensures tables { world.new.tables ≡ world.old.tables }

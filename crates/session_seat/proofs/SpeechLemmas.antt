@@ -126,6 +126,21 @@ end_told tables moment nodes policy s shared m j k l was mid refused lines (Ok s
     closed_by tables moment nodes policy s shared m j k l was (record mid { lines = lines }) step kept noted closed (inr (over, (refused, (mid, asks, ap (λ (z : List ℕ). record mid { lines = z }) told))))
 end_told tables moment nodes policy s shared m j k l was mid refused lines (Err fault) kept noted closed over asks told = tt
 
+-- What a step said tells what it did.
+
+said_step : (tables : List TableDef) (moment : ℤ) (nodes : List Node) (policy : ReadPolicy) (s : SessionId) (old new : Stand) (was is : Speech) (step : Step) → Speaks tables moment nodes policy s old was step new is
+    → IsStep tables policy s old step new
+said_step tables moment nodes policy s old new was is (steps.Did mark) said = said.0
+said_step tables moment nodes policy s old new was is steps.Waits said = said.0
+said_step tables moment nodes policy s old new was is steps.Idle said = said.0
+said_step tables moment nodes policy s old new was is steps.Closed said = (said.0, said.1)
+said_step tables moment nodes policy s old new was is (steps.Recovers at_moment number) said = (said.0, said.1)
+
+pub said_ok : {E : Type 0} (tables : List TableDef) (moment : ℤ) (nodes : List Node) (policy : ReadPolicy) (s : SessionId) (old new : Stand) (was is : Speech) (r : Result Step E)
+    → IfOk r (λ step. Speaks tables moment nodes policy s old was step new is) → IfOk r (λ step. IsStep tables policy s old step new)
+said_ok tables moment nodes policy s old new was is (Ok step) said = said_step tables moment nodes policy s old new was is step said
+said_ok tables moment nodes policy s old new was is (Err fault) said = tt
+
 -- Where nothing is told.
 
 quiet_says : (tables : List TableDef) (moment : ℤ) (nodes : List Node) (s : ℕ) (was is : Speech) (event : SessionEvent) → IsQuiet event → is ≡ was → Says tables moment nodes s was event is

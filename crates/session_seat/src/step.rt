@@ -156,10 +156,6 @@ fn close(setting: Setting, seat: &Seat, book: &mut Book) -> Result<Step, StepFau
 fn take_order(setting: Setting, seat: &mut Seat, book: &mut Book) -> Result<Step, StepFault>
     requires within { IsWithin setting.tables.now }
     ensures did { IfOk result (λ step. IsDid step → book.old.events < book.new.events) }
-    ensures noted { (shared : Shared) → IfOk result (λ step. IsStep setting.entry.tables.now
-        (policy_in setting.entry.config.now) seat.old.s
-        (at shared (machine_in seat.old.core) book.old.journal) step
-        (at shared (machine_in seat.new.core) book.new.journal)) }
     ensures events { book.old.events ≤ book.new.events }
     ensures s { seat.new.s ≡ seat.old.s }
     ensures turn { seat.new.turn ≡ seat.old.turn }
@@ -193,10 +189,6 @@ fn take_order(setting: Setting, seat: &mut Seat, book: &mut Book) -> Result<Step
 /// Takes an order. That of a recovery is handed out.
 fn obey(setting: Setting, seat: &mut Seat, order: Order, book: &mut Book) -> Result<Step, StepFault>
     ensures did { IfOk result (λ step. IsDid step → book.old.events < book.new.events) }
-    ensures noted { (shared : Shared) → IfOk result (λ step. IsStep setting.entry.tables.now
-        (policy_in setting.entry.config.now) seat.old.s
-        (at shared (machine_in seat.old.core) book.old.journal) step
-        (at shared (machine_in seat.new.core) book.new.journal)) }
     ensures events { book.old.events ≤ book.new.events }
     ensures s { seat.new.s ≡ seat.old.s }
     ensures turn { seat.new.turn ≡ seat.old.turn }
@@ -270,10 +262,6 @@ fn accept(
     book: &mut Book,
 ) -> Result<Step, StepFault>
     ensures did { IfOk result (λ step. IsDid step → book.old.events < book.new.events) }
-    ensures noted { (shared : Shared) → IfOk result (λ step. IsStep setting.entry.tables.now
-        (policy_in setting.entry.config.now) seat.old.s
-        (at shared (machine_in seat.old.core) book.old.journal) step
-        (at shared (machine_in seat.new.core) book.new.journal)) }
     ensures events { book.old.events ≤ book.new.events }
     ensures s { seat.new.s ≡ seat.old.s }
     ensures turn { seat.new.turn ≡ seat.old.turn }
@@ -342,12 +330,6 @@ fn call_gate<B: Backend>(
 ) -> Result<Step, StepFault>
     requires asked { asked_of (next_action (machine_in seat.old.core)) ≡ asks.Gate call }
     ensures did { IfOk result (λ step. IsDid step → book.old.events < book.new.events) }
-    ensures noted { IfOk result (λ step. IsStep setting.entry.tables.now
-        (policy_in setting.entry.config.now) seat.old.s
-        (at (shared_of B.meaning world.old.gate.state world.old.tables world.old.count
-        world.old.shelf.items) (machine_in seat.old.core) book.old.journal) step
-        (at (shared_of B.meaning world.new.gate.state world.new.tables world.new.count
-        world.new.shelf.items) (machine_in seat.new.core) book.new.journal)) }
     ensures events { book.old.events ≤ book.new.events }
     ensures s { seat.new.s ≡ seat.old.s }
     ensures turn { seat.new.turn ≡ seat.old.turn }
@@ -388,12 +370,6 @@ fn post<B: Backend>(
     requires due { IsPost (next_action (machine_in seat.old.core)) }
     requires asked { asked_of (next_action (machine_in seat.old.core)) ≡ asks.Post b }
     ensures did { IfOk result (λ step. IsDid step → book.old.events < book.new.events) }
-    ensures noted { IfOk result (λ step. IsStep setting.entry.tables.now
-        (policy_in setting.entry.config.now) seat.old.s
-        (at (shared_of B.meaning world.old.gate.state world.old.tables world.old.count
-        world.old.shelf.items) (machine_in seat.old.core) book.old.journal) step
-        (at (shared_of B.meaning world.new.gate.state world.new.tables world.new.count
-        world.new.shelf.items) (machine_in seat.new.core) book.new.journal)) }
     ensures events { book.old.events ≤ book.new.events }
     ensures s { seat.new.s ≡ seat.old.s }
     ensures turn { seat.new.turn ≡ seat.old.turn }
@@ -473,10 +449,6 @@ fn send<B: Backend>(
 fn reply(setting: Setting, seat: &mut Seat, book: &mut Book) -> Result<Step, StepFault>
     requires due { IsReply (next_action (machine_in seat.old.core)) }
     ensures did { IfOk result (λ step. IsDid step → book.old.events < book.new.events) }
-    ensures noted { (shared : Shared) → IfOk result (λ step. IsStep setting.entry.tables.now
-        (policy_in setting.entry.config.now) seat.old.s
-        (at shared (machine_in seat.old.core) book.old.journal) step
-        (at shared (machine_in seat.new.core) book.new.journal)) }
     ensures events { book.old.events ≤ book.new.events }
     ensures s { seat.new.s ≡ seat.old.s }
     ensures turn { seat.new.turn ≡ seat.old.turn }
@@ -561,10 +533,6 @@ fn note_reply(
 fn end(setting: Setting, seat: &mut Seat, book: &mut Book) -> Result<Step, StepFault>
     requires due { next_action (machine_in seat.old.core) ≡ actions.End }
     ensures did { IfOk result (λ step. IsDid step → book.old.events < book.new.events) }
-    ensures noted { (shared : Shared) → IfOk result (λ step. IsStep setting.entry.tables.now
-        (policy_in setting.entry.config.now) seat.old.s
-        (at shared (machine_in seat.old.core) book.old.journal) step
-        (at shared (machine_in seat.new.core) book.new.journal)) }
     ensures events { book.old.events ≤ book.new.events }
     ensures s { seat.new.s ≡ seat.old.s }
     ensures turn { seat.new.turn ≡ seat.old.turn }

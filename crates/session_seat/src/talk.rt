@@ -12,7 +12,7 @@ ghost use Rattle.session_seat.specs.Policy.{policy_in};
 ghost use Rattle.session_seat.specs.Told.{added, told_lost, told_of};
 ghost use Rattle.session_seat.specs.Shared.{Serves, Shared, shared_of};
 ghost use Rattle.session_seat.specs.Schedule.{led};
-ghost use Rattle.session_seat.specs.Steps.{IsDid, IsStep, at};
+ghost use Rattle.session_seat.specs.Steps.{IsDid, at};
 ghost use Rattle.session_seat.specs.Dues.{WaitsFor};
 ghost use Rattle.session_seat.specs.Stops.{IsFull, IsUnfit, MayLookAt};
 ghost use Rattle.session_seat.specs.Speech.{IsQuietStep, Speaks, detached_line, speech, told_detached};
@@ -43,12 +43,6 @@ pub(crate) fn hear<B: Backend>(
 ) -> Result<Step, StepFault>
     requires asked { asked_of (next_action (machine_in seat.old.core)) ≡ asks.WaitFor b }
     ensures did { IfOk result (λ step. IsDid step → book.old.events < book.new.events) }
-    ensures noted { IfOk result (λ step. IsStep setting.entry.tables.now
-        (policy_in setting.entry.config.now) seat.old.s
-        (at (shared_of B.meaning world.old.gate.state world.old.tables world.old.count
-        world.old.shelf.items) (machine_in seat.old.core) book.old.journal) step
-        (at (shared_of B.meaning world.new.gate.state world.new.tables world.new.count
-        world.new.shelf.items) (machine_in seat.new.core) book.new.journal)) }
     ensures events { book.old.events ≤ book.new.events }
     ensures s { seat.new.s ≡ seat.old.s }
     ensures turn { seat.new.turn ≡ seat.old.turn }
@@ -96,12 +90,6 @@ fn take(
     book: &mut Book,
 ) -> Result<Step, StepFault>
     ensures did { IfOk result (λ step. IsDid step → book.old.events < book.new.events) }
-    ensures noted { (old new : Shared) → new.gate ≡ old.gate
-        → Serves setting.entry.tables.now old.stores seat.old.s.number (events.Taken b answer)
-        new.stores → IfOk result (λ step. IsStep setting.entry.tables.now
-        (policy_in setting.entry.config.now) seat.old.s
-        (at old (machine_in seat.old.core) book.old.journal) step
-        (at new (machine_in seat.new.core) book.new.journal)) }
     ensures events { book.old.events ≤ book.new.events }
     ensures s { seat.new.s ≡ seat.old.s }
     ensures turn { seat.new.turn ≡ seat.old.turn }
@@ -219,12 +207,6 @@ pub(crate) fn detach<B: Backend>(
     requires due { IsDetach (next_action (machine_in seat.old.core)) }
     requires asked { asked_of (next_action (machine_in seat.old.core)) ≡ asks.Detach b }
     ensures did { IfOk result (λ step. IsDid step → book.old.events < book.new.events) }
-    ensures noted { IfOk result (λ step. IsStep setting.entry.tables.now
-        (policy_in setting.entry.config.now) seat.old.s
-        (at (shared_of B.meaning world.old.gate.state world.old.tables world.old.count
-        world.old.shelf.items) (machine_in seat.old.core) book.old.journal) step
-        (at (shared_of B.meaning world.new.gate.state world.new.tables world.new.count
-        world.new.shelf.items) (machine_in seat.new.core) book.new.journal)) }
     ensures events { book.old.events ≤ book.new.events }
     ensures s { seat.new.s ≡ seat.old.s }
     ensures turn { seat.new.turn ≡ seat.old.turn }

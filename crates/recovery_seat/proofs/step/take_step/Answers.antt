@@ -6,6 +6,8 @@ use Rattle.recovery_seat.specs.Places.{standing_of}
 use Rattle.recovery_seat.specs.Steps.{at}
 use Rattle.session_wire.specs.Shown.{shown}
 use Rattle.session_seat.specs.Speech.{speech}
+use Rattle.recovery_seat.specs.Dues.{IsOwn}
+use Rattle.recovery_seat.proofs.DueLemmas.{never_ok}
 use Rattle.recovery_seat.proofs.SpeechLemmas.{went_spoken}
 use Rattle.recovery_seat.proofs.StepLemmas.{went_ok}
 use Rattle.recovery_seat.proofs.step.take_step.Goals as goal
@@ -57,3 +59,14 @@ returns-in-GoesOn-clause-speaks g c = λ layout is.
     (at (shared_of g.B.Backend.meaning new.gate.state new.tables new.count new.shelf.items) (machine_in last.seat.core) (standing_of layout last) c.go_on.new.book.journal)
     was (record was { lines = lines }) (speech last.seat lines) c.go_on.result
     (λ i. record { view = shown (c.go_on.ensures.wire i); over = c.go_on.ensures.over i; lines = lines }) (c.go_on.ensures.speaks layout was refl)
+
+pub returns-in-Own-clause-due : goal.returns-in-Own-clause-due
+returns-in-Own-clause-due g c = λ layout rests. c.take_own.ensures.due
+
+pub returns-in-Ends-clause-due : goal.returns-in-Ends-clause-due
+returns-in-Ends-clause-due g c = λ layout rests. absurd (c.pace_of.ensures.busy c.in-Ends.is layout rests)
+
+pub returns-in-GoesOn-clause-due : goal.returns-in-GoesOn-clause-due
+returns-in-GoesOn-clause-due g c = λ layout rests.
+    never_ok (λ step. IsOwn g.B.Backend.meaning g.B.Backend.is_prompt c.args.setting.tables.now c.args.setting.moment c.args.place.now.seat c.args.world.now.gate.state c.args.world.now.shelf.items step) c.go_on.result
+    (c.go_on.ensures.busy layout rests)

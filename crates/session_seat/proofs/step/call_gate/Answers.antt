@@ -13,8 +13,8 @@ pub returns-in-Held-clause-due : goal.returns-in-Held-clause-due
 returns-in-Held-clause-due g c =
     held_step c.args.world.now.gate.state c.call.new.self.gate.state c.args.call c.in_ok-answer.answer c.in-Held.field-0 c.in_ok-answer.ensures.answered c.in-Held.is
 
-pub returns-in-Held-clause-noted : goal.returns-in-Held-clause-noted
-returns-in-Held-clause-noted g c =
+pub returns-in-Held-clause-quiet : goal.returns-in-Held-clause-quiet
+returns-in-Held-clause-quiet g c =
     let world = c.args.world.now in
     let new = c.call.new.self in
     record {
@@ -24,9 +24,6 @@ returns-in-Held-clause-noted g c =
       journal = refl;
     }
 
-pub returns-in-Held-clause-quiet : goal.returns-in-Held-clause-quiet
-returns-in-Held-clause-quiet g c = returns-in-Held-clause-noted g c
-
 pub returns-clause-quiet : goal.returns-clause-quiet
 returns-clause-quiet g c =
     let world = c.args.world.now in
@@ -35,9 +32,6 @@ returns-clause-quiet g c =
     (shared_of g.B.Backend.meaning world.gate.state world.tables world.count world.shelf.items) (shared_of g.B.Backend.meaning new.gate.state new.tables new.count new.shelf.items)
     c.args.book.now.journal c.note.new.self.journal c.args.call c.in_ok-answer.answer c.requires.asked c.in_ok-answer.ensures.may c.in_ok-answer.ensures.answered c.call.ensures.stores
     (not_held c.in_ok-answer.answer c.in_default.not-Held) c.gate_answer.ensures c.in_ok-note.ensures.line
-
-pub returns-clause-noted : goal.returns-clause-noted
-returns-clause-noted g c = (returns-clause-quiet g c).0
 
 pub returns-clause-due : goal.returns-clause-due
 returns-clause-due g c =

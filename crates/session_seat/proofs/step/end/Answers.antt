@@ -6,15 +6,6 @@ use Rattle.session_seat.specs.Steps.{at}
 use Rattle.session_seat.proofs.StepLemmas.{ended}
 use Rattle.session_seat.proofs.step.end.Goals as goal
 
-pub returns-clause-noted : goal.returns-clause-noted
-returns-clause-noted c = λ shared. record {
-  event = events.Ended;
-  between = at shared (machine_in c.args.seat.now.core) c.args.book.now.journal;
-  first = refl;
-  moves = record { may = c.requires.due; answered = refl; serves = refl; leads = c.end.ensures ∙ ended (machine_in c.args.seat.now.core) c.requires.due };
-  tells = c.in_ok-note.ensures.line;
-}
-
 pub returns-clause-speaks : goal.returns-clause-speaks
 returns-clause-speaks c = λ shared. (
   record {

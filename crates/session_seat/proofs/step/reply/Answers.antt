@@ -11,20 +11,6 @@ use Rattle.session_seat.proofs.DueLemmas.{reply_stop}
 use Rattle.session_seat.proofs.StepLemmas.{replied}
 use Rattle.session_seat.proofs.step.reply.Goals as goal
 
-pub returns-clause-noted : goal.returns-clause-noted
-returns-clause-noted c = λ shared. record {
-  event = events.Replied c.reply-outcome.result.0 c.reply-outcome.result.1;
-  between = at shared (machine_in c.args.seat.now.core) c.args.book.now.journal;
-  first = refl;
-  moves = record {
-    may = sym c.reply-outcome.ensures.reply;
-    answered = refl;
-    serves = refl;
-    leads = ap (λ (core : Core). machine_in core) c.tell.ensures.core ∙ (c.reply-outcome.ensures.rest ∙ replied (machine_in c.args.seat.now.core) c.reply-outcome.result.0 c.reply-outcome.result.1 c.reply-outcome.ensures.reply);
-  };
-  tells = c.in_ok-tell.ensures.line;
-}
-
 pub returns-in_err-tell-clause-stopped : goal.returns-in_err-tell-clause-stopped
 returns-in_err-tell-clause-stopped c =
     let view = shown c.args.seat.now.wire in

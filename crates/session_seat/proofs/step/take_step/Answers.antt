@@ -7,8 +7,9 @@ use Rattle.session_wire.specs.Shown.{shown}
 use Rattle.session_seat.specs.Shared.{shared_of}
 use Rattle.session_seat.specs.Speech.{speech}
 use Rattle.session_seat.specs.Steps.{at}
-use Rattle.session_seat.proofs.SpeechLemmas.{over_told, quiet_told}
+use Rattle.session_seat.proofs.SpeechLemmas.{over_told, quiet_told, said_ok}
 use Rattle.session_seat.proofs.DueLemmas.{due_by, due_over, full_stop, stops_by, stops_over}
+use Rattle.session_seat.proofs.StepLemmas.{quiet_ok}
 use Rattle.session_seat.proofs.step.take_step.Goals as goal
 
 pub returns-then-seat-clause-due : goal.returns-then-seat-clause-due
@@ -138,3 +139,52 @@ returns-in-WaitFor-clause-speaks g c =
     (at (shared_of g.B.Backend.meaning world.gate.state world.tables world.count world.shelf.items) (machine_in c.args.seat.now.core) c.args.book.now.journal) (at (shared_of g.B.Backend.meaning new.gate.state new.tables new.count new.shelf.items) (machine_in c.hear.new.seat.core) c.hear.new.book.journal)
     (speech c.args.seat.now c.args.book.now.lines) (speech c.hear.new.seat c.hear.new.book.lines) c.hear.result
     (λ i. record { view = shown (c.hear.ensures.wire i); over = c.hear.ensures.over i; lines = c.hear.ensures.lines i }) c.hear.ensures.quiet
+
+pub returns-in-Rest-clause-noted : goal.returns-in-Rest-clause-noted
+returns-in-Rest-clause-noted g c =
+    let world = c.args.world.now in
+    let new = c.args.world.now in
+    said_ok c.args.setting.tables.now c.args.setting.moment c.args.setting.config.now.nodes (policy_in c.args.setting.config.now) c.args.seat.now.s (at (shared_of g.B.Backend.meaning world.gate.state world.tables world.count world.shelf.items) (machine_in c.args.seat.now.core) c.args.book.now.journal)
+    (at (shared_of g.B.Backend.meaning new.gate.state new.tables new.count new.shelf.items) (machine_in c.take_order.new.seat.core) c.take_order.new.book.journal) (speech c.args.seat.now c.args.book.now.lines) (speech c.take_order.new.seat c.take_order.new.book.lines) c.take_order.result (returns-in-Rest-clause-speaks g c)
+
+pub returns-in-Gate-clause-noted : goal.returns-in-Gate-clause-noted
+returns-in-Gate-clause-noted g c =
+    let world = c.args.world.now in
+    let new = c.call_gate.new.world in
+    quiet_ok c.args.setting.tables.now (policy_in c.args.setting.config.now) c.args.seat.now.s (at (shared_of g.B.Backend.meaning world.gate.state world.tables world.count world.shelf.items) (machine_in c.args.seat.now.core) c.args.book.now.journal)
+    (at (shared_of g.B.Backend.meaning new.gate.state new.tables new.count new.shelf.items) (machine_in c.call_gate.new.seat.core) c.call_gate.new.book.journal) c.call_gate.result c.call_gate.ensures.quiet
+
+pub returns-in-Post-clause-noted : goal.returns-in-Post-clause-noted
+returns-in-Post-clause-noted g c =
+    let world = c.args.world.now in
+    let new = c.post.new.world in
+    quiet_ok c.args.setting.tables.now (policy_in c.args.setting.config.now) c.args.seat.now.s (at (shared_of g.B.Backend.meaning world.gate.state world.tables world.count world.shelf.items) (machine_in c.args.seat.now.core) c.args.book.now.journal)
+    (at (shared_of g.B.Backend.meaning new.gate.state new.tables new.count new.shelf.items) (machine_in c.post.new.seat.core) c.post.new.book.journal) c.post.result c.post.ensures.quiet
+
+pub returns-in-WaitFor-clause-noted : goal.returns-in-WaitFor-clause-noted
+returns-in-WaitFor-clause-noted g c =
+    let world = c.args.world.now in
+    let new = c.hear.new.world in
+    quiet_ok c.args.setting.tables.now (policy_in c.args.setting.config.now) c.args.seat.now.s (at (shared_of g.B.Backend.meaning world.gate.state world.tables world.count world.shelf.items) (machine_in c.args.seat.now.core) c.args.book.now.journal)
+    (at (shared_of g.B.Backend.meaning new.gate.state new.tables new.count new.shelf.items) (machine_in c.hear.new.seat.core) c.hear.new.book.journal) c.hear.result c.hear.ensures.quiet
+
+pub returns-in-Detach-clause-noted : goal.returns-in-Detach-clause-noted
+returns-in-Detach-clause-noted g c =
+    let world = c.args.world.now in
+    let new = c.detach.new.world in
+    said_ok c.args.setting.tables.now c.args.setting.moment c.args.setting.config.now.nodes (policy_in c.args.setting.config.now) c.args.seat.now.s (at (shared_of g.B.Backend.meaning world.gate.state world.tables world.count world.shelf.items) (machine_in c.args.seat.now.core) c.args.book.now.journal)
+    (at (shared_of g.B.Backend.meaning new.gate.state new.tables new.count new.shelf.items) (machine_in c.detach.new.seat.core) c.detach.new.book.journal) (speech c.args.seat.now c.args.book.now.lines) (speech c.detach.new.seat c.detach.new.book.lines) c.detach.result c.detach.ensures.speaks
+
+pub returns-in-Reply-clause-noted : goal.returns-in-Reply-clause-noted
+returns-in-Reply-clause-noted g c =
+    let world = c.args.world.now in
+    let new = c.args.world.now in
+    said_ok c.args.setting.tables.now c.args.setting.moment c.args.setting.config.now.nodes (policy_in c.args.setting.config.now) c.args.seat.now.s (at (shared_of g.B.Backend.meaning world.gate.state world.tables world.count world.shelf.items) (machine_in c.args.seat.now.core) c.args.book.now.journal)
+    (at (shared_of g.B.Backend.meaning new.gate.state new.tables new.count new.shelf.items) (machine_in c.reply.new.seat.core) c.reply.new.book.journal) (speech c.args.seat.now c.args.book.now.lines) (speech c.reply.new.seat c.reply.new.book.lines) c.reply.result (returns-in-Reply-clause-speaks g c)
+
+pub returns-in-End-clause-noted : goal.returns-in-End-clause-noted
+returns-in-End-clause-noted g c =
+    let world = c.args.world.now in
+    let new = c.args.world.now in
+    said_ok c.args.setting.tables.now c.args.setting.moment c.args.setting.config.now.nodes (policy_in c.args.setting.config.now) c.args.seat.now.s (at (shared_of g.B.Backend.meaning world.gate.state world.tables world.count world.shelf.items) (machine_in c.args.seat.now.core) c.args.book.now.journal)
+    (at (shared_of g.B.Backend.meaning new.gate.state new.tables new.count new.shelf.items) (machine_in c.end.new.seat.core) c.end.new.book.journal) (speech c.args.seat.now c.args.book.now.lines) (speech c.end.new.seat c.end.new.book.lines) c.end.result (returns-in-End-clause-speaks g c)

@@ -3,18 +3,17 @@ use Rattle.std.specs.Prelude.{◌⊎◌}
 use Rattle.snapshot_gate.specs.declared.gate.Gate.{Gate}
 use Rattle.session_engine.specs.Cores.{machine_in}
 use Rattle.session_seat.specs.declared.step.Step.TheVariants as steps
-use Rattle.session_seat.specs.Policy.{policy_in}
 use Rattle.session_seat.specs.Shared.{shared_of, stores_of}
 use Rattle.session_seat.specs.Steps.{at}
 use Rattle.backend_trait.specs.declared.answer.Polled.TheVariants as polls
 use Rattle.session_seat.specs.Stops.{MayLookAt, IsUnfit}
 use Rattle.session_seat.proofs.DueLemmas.{heard_now, heard_step, lost_may, lost_stop, unfit_stop}
 use Rattle.session_seat.proofs.ServedLemmas.{lost_at, served, shared_same, unanswered}
-use Rattle.session_seat.proofs.StepLemmas.{missed_step, quiet_ok}
+use Rattle.session_seat.proofs.StepLemmas.{missed_step}
 use Rattle.session_seat.proofs.talk.hear.Goals as goal
 
-pub returns-in-NotYet-clause-noted : goal.returns-in-NotYet-clause-noted
-returns-in-NotYet-clause-noted g c =
+pub returns-in-NotYet-clause-quiet : goal.returns-in-NotYet-clause-quiet
+returns-in-NotYet-clause-quiet g c =
     let world = c.args.world.now in
     let new = c.poll.new.self in
     record {
@@ -25,15 +24,6 @@ returns-in-NotYet-clause-noted g c =
       machine = refl;
       journal = refl;
     }
-
-pub returns-in-Answered-clause-noted : goal.returns-in-Answered-clause-noted
-returns-in-Answered-clause-noted g c =
-    let world = c.args.world.now in
-    let new = c.poll.new.self in
-    c.take.ensures.noted (shared_of g.B.Backend.meaning world.gate.state world.tables world.count world.shelf.items) (shared_of g.B.Backend.meaning new.gate.state new.tables new.count new.shelf.items)
-    (ap (λ (gate : Gate). gate.state) c.poll.ensures.gate)
-    (served c.args.setting.tables.now (stores_of g.B.Backend.meaning world.tables world.count world.shelf.items) (stores_of g.B.Backend.meaning new.tables new.count new.shelf.items) c.args.b c.args.seat.now.s.number
-    c.in_ok-before.field-0.polled c.in-Answered.answer c.in-Answered.is c.in_ok-before.ensures.acts c.in_ok-before.ensures.alone)
 
 pub returns-in-Answered-clause-quiet : goal.returns-in-Answered-clause-quiet
 returns-in-Answered-clause-quiet g c =
@@ -58,18 +48,6 @@ returns-in_ok-note_loss-in-Lost-clause-quiet g c =
     (ap (λ (gate : Gate). gate.state) c.poll.ensures.gate)
     (lost_at (stores_of g.B.Backend.meaning world.tables world.count world.shelf.items) (stores_of g.B.Backend.meaning new.tables new.count new.shelf.items) c.args.b.number c.args.seat.now.s.number looked.polled looked.is_new
     c.in-Lost.is c.in_ok-before.ensures.acts c.in_ok-before.ensures.alone c.in_ok-before.ensures.pending c.in_ok-before.ensures.new_loss)
-
-pub returns-in_ok-note_loss-in-Lost-clause-noted : goal.returns-in_ok-note_loss-in-Lost-clause-noted
-returns-in_ok-note_loss-in-Lost-clause-noted g c =
-    let world = c.args.world.now in
-    let new = c.poll.new.self in
-    quiet_ok c.args.setting.tables.now (policy_in c.args.setting.config.now) c.args.seat.now.s
-    (at (shared_of g.B.Backend.meaning world.gate.state world.tables world.count world.shelf.items) (machine_in c.args.seat.now.core) c.args.book.now.journal)
-    (at (shared_of g.B.Backend.meaning new.gate.state new.tables new.count new.shelf.items) (machine_in c.miss.new.seat.core) c.miss.new.book.journal)
-    c.miss.result (returns-in_ok-note_loss-in-Lost-clause-quiet g c)
-
-pub returns-in-NotYet-clause-quiet : goal.returns-in-NotYet-clause-quiet
-returns-in-NotYet-clause-quiet g c = returns-in-NotYet-clause-noted g c
 
 pub returns-in-Answered-clause-due : goal.returns-in-Answered-clause-due
 returns-in-Answered-clause-due g c =

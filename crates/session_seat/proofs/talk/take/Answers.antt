@@ -15,6 +15,3 @@ returns-clause-quiet c = λ old new gate serves. (
   },
   tt,
 )
-
-pub returns-clause-noted : goal.returns-clause-noted
-returns-clause-noted c = λ old new gate serves. (returns-clause-quiet c old new gate serves).0
