@@ -7,11 +7,9 @@ use Rattle.std.proofs.lemmas.Bool.Decides.{eqb_tells}
 use Rattle.std.proofs.lemmas.List.{append-nil, take-append-le, get_or-set_same, get_or-set_other}
 use Rattle.std.proofs.lemmas.Option.{slice_get_read, get_or_from_slice_get}
 use Rattle.pool_config.specs.declared.config.Config.{Config}
-use Rattle.session_seat.specs.Policy.{policy_in}
 use Rattle.pool_base.specs.Outside.{Appends}
 use Rattle.pool_base.proofs.Sinking.{appends_on}
 use Rattle.pool_base.specs.declared.session_id.SessionId.{SessionId}
-use Rattle.pool_base.specs.declared.backend_id.BackendId.{BackendId}
 use Rattle.schema.specs.declared.catalogue.TableDef.{TableDef}
 use Rattle.schema.specs.Allowed.{AreAllowed}
 use Rattle.session_machine.specs.declared.machine.Machine.{Machine}
@@ -27,24 +25,21 @@ use Rattle.session_seat.specs.declared.book.Journal.{Journal}
 use Rattle.session_seat.specs.declared.book.Journal.TheVariants.{Off, On}
 use Rattle.session_seat.specs.declared.step.Step.{Step}
 use Rattle.session_seat.specs.declared.step.Step.TheVariants as steps
-use Rattle.session_seat.specs.Told.{added, told_lost}
-use Rattle.session_seat.specs.Shared.{Shared, IsLoss}
+use Rattle.session_seat.specs.Told.{added}
 use Rattle.session_seat.specs.Schedule.{with_machine}
 use Rattle.recovery_seat.specs.Places.{IsLayout, standing_of}
-use Rattle.recovery_seat.specs.Schedule.{Entry, Loses, State, Comes, IsSchedule, first_state, told, lines, with_standing}
-use Rattle.recovery_seat.specs.Steps.{Fits, IsAt, IsSeen, IsStep, RecoversAt, Stand, Stays, at, state}
+use Rattle.recovery_seat.specs.Schedule.{Entry, State, Comes, IsSchedule, told, lines, with_standing}
+use Rattle.recovery_seat.specs.Steps.{Fits, IsAt, IsStep, RecoversAt, Stand, at, state}
 use Rattle.session_player.specs.declared.slots.Client.{Client}
 use Rattle.session_player.specs.declared.slots.Slot.{Slot}
 use Rattle.session_player.specs.declared.slots.Slot.TheVariants.{Free, Taken}
-use Rattle.session_player.specs.Slots.{IsPlaced, is_taken}
+use Rattle.session_player.specs.Slots.{is_taken}
 use Rattle.pgproto.specs.declared.line.Mark.{Mark}
 use Rattle.session_player.specs.declared.round.TurnEnd.{TurnEnd}
 use Rattle.session_player.specs.declared.round.TurnEnd.TheVariants.{Closed, Marked, Rests, Waits}
 use Rattle.session_player.specs.Turns.{EndsBehind, IsTaken}
-use Rattle.pgproto.specs.Line.{Line}
-use Rattle.session_player.specs.Written.{Grew, AreParts}
 use Rattle.session_player.proofs.Walking.{taken_all}
-use Rattle.session_player.specs.Journals.{machine_in_slot, machines_of, standing_in_slot, standings_of, state_of, Went, Goes, IsPut, IsJournaled}
+use Rattle.session_player.specs.Journals.{machine_in_slot, machines_of, standing_in_slot, standings_of, IsPut}
 
 -- Lines behind lines.
 
@@ -63,13 +58,6 @@ lines_on tables (x ∷ xs) ys = ap (λ z. told tables x ++ z) (lines_on tables x
 pub schedule_on : (tables : List TableDef) (a b c : State) (xs ys : List Entry) → IsSchedule tables a xs b → IsSchedule tables b ys c → IsSchedule tables a (xs ++ ys) c
 schedule_on tables a b c [] ys is more = subst (λ z. IsSchedule tables z ys c) is more
 schedule_on tables a b c (x ∷ xs) ys (mid, comes, is) more = (mid, comes, schedule_on tables mid b c xs ys is more)
-
-pub went_none : (tables : List TableDef) (a : State) (j k : Journal) → k ≡ j → Went tables a j a k
-went_none tables a j k same = ([], refl, same ∙ added_none j)
-
-pub went_on : (tables : List TableDef) (a b c : State) (j k l : Journal) → Went tables a j b k → Went tables b k c l → Went tables a j c l
-went_on tables a b c j k l (xs, is, tells) (ys, more, behind) =
-    (xs ++ ys, schedule_on tables a b c xs ys is more, behind ∙ (ap (λ z. added z (lines tables ys)) tells ∙ (added_on j (lines tables xs) (lines tables ys) ∙ ap (added j) (sym (lines_on tables xs ys)))))
 
 -- What is one session's among that of all.
 
@@ -127,67 +115,11 @@ fits_on others s machines recoveries m r fits = record {
   recovers = λ o b other due. fits.recovers o b other (subst (λ (z : Standing). RecoversAt b (recovery_action z)) (with_other recoveries s o r other) due);
 }
 
-goes_stays : (tables : List TableDef) (s : SessionId) (others : ℕ) (old new : Stand) → Stays old new → Goes tables s others old new
-goes_stays tables s others old new stays machines recoveries is stands fits = (
-  [],
-  (λ i. record {
-    shared = stays.shared i;
-    machines = (ap (with_machine machines s) stays.machine ∙ with_self machines s old.machine is) i;
-    recoveries = (ap (with_standing recoveries s) stays.standing ∙ with_self recoveries s old.standing stands) i;
-  }),
-  stays.journal ∙ added_none old.journal,
-)
-
-pub goes_on : (tables : List TableDef) (s : SessionId) (others : ℕ) (a b c : Stand) → Goes tables s others a b → Goes tables s others b c → Goes tables s others a c
-goes_on tables s others a b c one two machines recoveries is stands fits =
-    let mid : SessionId → Machine = with_machine machines s b.machine in
-    let amid : SessionId → Standing = with_standing recoveries s b.standing in
-    let last : Went tables (state b.shared mid amid) b.journal (state c.shared (with_machine mid s c.machine) (with_standing amid s c.standing)) c.journal =
-    two mid amid (with_here machines s b.machine) (with_here recoveries s b.standing) (fits_on others s machines recoveries b.machine b.standing fits) in
-    went_on tables (state a.shared machines recoveries) (state b.shared mid amid) (state c.shared (with_machine machines s c.machine) (with_standing recoveries s c.standing)) a.journal b.journal c.journal
-    (one machines recoveries is stands fits)
-    (subst (λ (z : SessionId → Machine). Went tables (state b.shared mid amid) b.journal (state c.shared z (with_standing recoveries s c.standing)) c.journal) (with_twice machines s b.machine c.machine)
-    (subst (λ (z : SessionId → Standing). Went tables (state b.shared mid amid) b.journal (state c.shared (with_machine mid s c.machine) z) c.journal) (with_twice recoveries s b.standing c.standing) last))
-
 -- one entry comes, wherever the others stand
 abbrev pub ComesAlone : List TableDef → SessionId → ℕ → Stand → Entry → Stand → Type 0
 ComesAlone tables s others old entry new =
     (machines : SessionId → Machine) (recoveries : SessionId → Standing) → machines s ≡ old.machine → recoveries s ≡ old.standing → Fits others s machines recoveries
     → Comes tables (state old.shared machines recoveries) entry (state new.shared (with_machine machines s new.machine) (with_standing recoveries s new.standing))
-
-goes_told : (tables : List TableDef) (s : SessionId) (others : ℕ) (entry : Entry) (old new : Stand) → ComesAlone tables s others old entry new → new.journal ≡ added old.journal (told tables entry) → Goes tables s others old new
-goes_told tables s others entry old new comes tells machines recoveries is stands fits = (
-  entry ∷ [],
-  (state new.shared (with_machine machines s new.machine) (with_standing recoveries s new.standing), comes machines recoveries is stands fits, refl),
-  tells ∙ ap (added old.journal) (sym (append-nil (told tables entry))),
-)
-
--- the loss of a backend moves no machine and no recovery
-goes_seen : (tables : List TableDef) (s : SessionId) (others : ℕ) (entry : Entry) (old new : Stand) → IsSeen entry old new → Goes tables s others old new
-goes_seen tables s others entry old new seen =
-    goes_told tables s others (Loses seen.b) old new
-    (λ machines recoveries is stands fits. record {
-      loss = seen.loss;
-      machines = ap (with_machine machines s) seen.machine ∙ with_self machines s old.machine is;
-      recoveries = ap (with_standing recoveries s) seen.standing ∙ with_self recoveries s old.standing stands;
-    }) seen.tells
-
--- the entry, and the loss of a backend that may come before it
-goes_entry : (tables : List TableDef) (s : SessionId) (others : ℕ) (entry : Entry) (old mid new : Stand) → (mid ≡ old) ⊎ IsSeen entry old mid → ComesAlone tables s others mid entry new
-    → new.journal ≡ added mid.journal (told tables entry) → Goes tables s others old new
-goes_entry tables s others entry old mid new (inl same) comes tells = subst (λ (z : Stand). Goes tables s others z new) same (goes_told tables s others entry mid new comes tells)
-goes_entry tables s others entry old mid new (inr seen) comes tells =
-    goes_on tables s others old mid new (goes_seen tables s others entry old mid seen) (goes_told tables s others entry mid new comes tells)
-
-pub goes_none : (tables : List TableDef) (s : SessionId) (others : ℕ) (stand : Stand) → Goes tables s others stand stand
-goes_none tables s others stand = goes_stays tables s others stand stand (record { shared = refl; machine = refl; standing = refl; journal = refl })
-
-pub goes_step : (tables : List TableDef) (policy : ReadPolicy) (layout : Layout) (s : SessionId) (others : ℕ) (old new : Stand) (step : Step) → IsStep tables policy layout s others old step new → Goes tables s others old new
-goes_step tables policy layout s others old new (steps.Did mark) is = goes_entry tables s others is.entry old is.between new is.first is.comes is.tells
-goes_step tables policy layout s others old new steps.Waits is = goes_stays tables s others old new is
-goes_step tables policy layout s others old new steps.Idle is = goes_stays tables s others old new is
-goes_step tables policy layout s others old new steps.Closed is = goes_stays tables s others old new is.0
-goes_step tables policy layout s others old new (steps.Recovers moment number) is = absurd is
 
 -- a place begins a recovery itself
 pub taken_whole : (tables : List TableDef) (policy : ReadPolicy) (layout : Layout) (s : SessionId) (others : ℕ) (old new : Stand) (step : Step) → IsStep tables policy layout s others old step new → IsTaken step
@@ -205,12 +137,6 @@ closed_behind tables policy layout s t others old new until steps.Waits end is e
 closed_behind tables policy layout s t others old new until steps.Idle end is ends closed own = let never : Some Rests ≡ Some Closed = sym ends ∙ ap Some closed in absurd (cc)
 closed_behind tables policy layout s t others old new until steps.Closed end is ends closed own = is.1 ∙ ap (λ (u : SessionId). new_machine u policy) own
 closed_behind tables policy layout s t others old new until (steps.Recovers moment number) end is ends closed own = absurd is
-
--- a step behind others, of the same session
-pub goes_more : (tables : List TableDef) (policy : ReadPolicy) (layout : Layout) (s t : SessionId) (others : ℕ) (a b c : Stand) (step : Step) → t ≡ s → Goes tables s others a b → IsStep tables policy layout t others b step c
-    → Goes tables s others a c
-goes_more tables policy layout s t others a b c step same one is =
-    goes_on tables s others a b c one (subst (λ (u : SessionId). Goes tables u others b c) same (goes_step tables policy layout t others b c step is))
 
 -- The slots of all sessions.
 
@@ -250,30 +176,6 @@ pub own_here : {V : Type 0} (own_in : SessionId → Slot → V) (slots : List Sl
 own_here own_in slots i slot s is below read =
     let place : s.number - 1 ≡ i = omega (arith, is) in
     ap (λ (n : ℕ). own_in s (get_or slots n Free)) place ∙ ap (own_in s) (slot_read slots i slot below read)
-
-pub went_slot : (tables : List TableDef) (policy : ReadPolicy) (layout : Layout) (slots : List Slot) (i : ℕ) (old new : Slot) (s : SessionId) (others : ℕ) (g h : Shared) (j k : Journal)
-    → s.number ≡ suc i → i < length slots → old ≡ get_or slots i old → Fits others s (machines_of policy slots) (standings_of layout slots)
-    → Goes tables s others (at g (machine_in_slot policy s old) (standing_in_slot layout s old) j) (at h (machine_in_slot policy s new) (standing_in_slot layout s new) k)
-    → Went tables (state_of policy layout g slots) j (state_of policy layout h (set slots i new)) k
-went_slot tables policy layout slots i old new s others g h j k is below read fits goes =
-    let all : machines_of policy (set slots i new) ≡ with_machine (machines_of policy slots) s (machine_in_slot policy s new) = λ x t. set_at (machine_in_slot policy) slots i new s t is below x in
-    let each : standings_of layout (set slots i new) ≡ with_standing (standings_of layout slots) s (standing_in_slot layout s new) = λ x t. set_at (standing_in_slot layout) slots i new s t is below x in
-    subst (λ (z : SessionId → Machine). Went tables (state_of policy layout g slots) j (state h z (standings_of layout (set slots i new))) k) (sym all)
-    (subst (λ (z : SessionId → Standing). Went tables (state_of policy layout g slots) j (state h (with_machine (machines_of policy slots) s (machine_in_slot policy s new)) z) k) (sym each)
-    (goes (machines_of policy slots) (standings_of layout slots) (own_here (machine_in_slot policy) slots i old s is below read) (own_here (standing_in_slot layout) slots i old s is below read) fits))
-
--- what the client of a slot did, its slot did
-pub goes_in : (tables : List TableDef) (policy : ReadPolicy) (layout : Layout) (s : SessionId) (others before : ℕ) (slot new : Slot) (client : Client) (g h : Shared) (j k : Journal) (m : Machine) (r : Standing)
-    → s.number ≡ suc before → IsPlaced before slot → slot ≡ Taken client → Goes tables client.place.seat.s others (at g (machine_in client.place.seat.core) (standing_of layout client.place) j) (at h m r k)
-    → (client.place.seat.s ≡ s → machine_in_slot policy s new ≡ m) → (client.place.seat.s ≡ s → standing_in_slot layout s new ≡ r)
-    → Goes tables s others (at g (machine_in_slot policy s slot) (standing_in_slot layout s slot) j) (at h (machine_in_slot policy s new) (standing_in_slot layout s new) k)
-goes_in tables policy layout s others before slot new client g h j k m r is placed taken goes left stands =
-    let here : client.place.seat.s.number ≡ suc before = subst (IsPlaced before) taken placed in
-    let own : client.place.seat.s ≡ s = same_session client.place.seat.s s (here ∙ sym is) in
-    let first : Stand = at g (machine_in client.place.seat.core) (standing_of layout client.place) j in
-    subst (λ (z : Slot). Goes tables s others (at g (machine_in_slot policy s z) (standing_in_slot layout s z) j) (at h (machine_in_slot policy s new) (standing_in_slot layout s new) k)) (sym taken)
-    (subst (λ (z : Standing). Goes tables s others first (at h (machine_in_slot policy s new) z k)) (sym (stands own))
-    (subst (λ (z : Machine). Goes tables s others first (at h z r k)) (sym (left own)) (subst (λ (u : SessionId). Goes tables u others first (at h m r k)) own goes)))
 
 -- a session that is closed stands as at its start, so that its slot may be free
 pub freed : (policy : ReadPolicy) (s t : SessionId) (new : Slot) (m : Machine) → new ≡ Free → m ≡ new_machine t policy → t ≡ s → machine_in_slot policy s new ≡ m
@@ -326,23 +228,6 @@ connected_at_rest layout slots i seen old new client s below is read again free 
 pub whole_again : (n : ℕ) (new rest : List Slot) → n ≡ length new → take n (new ++ rest) ≡ new
 whole_again n new rest is = take-append-le n new rest (omega (arith, is)) ∙ taken_all new n (omega (arith, is))
 
--- One part of a play behind another.
-
-pub went_round : (tables : List TableDef) (policy : ReadPolicy) (layout : Layout) (a : State) (g h : Shared) (j k l : Journal) (xs ys zs ws : List Slot) → ys ≡ xs → ws ≡ zs → Went tables a j (state_of policy layout g xs) k
-    → Went tables (state_of policy layout g ys) k (state_of policy layout h zs) l → Went tables a j (state_of policy layout h ws) l
-went_round tables policy layout a g h j k l xs ys zs ws read written first last =
-    went_on tables a (state_of policy layout g xs) (state_of policy layout h ws) j k l first
-    (subst (λ (z : List Slot). Went tables (state_of policy layout g xs) k (state_of policy layout h z) l) (sym written)
-    (subst (λ (z : List Slot). Went tables (state_of policy layout g z) k (state_of policy layout h zs) l) read last))
-
--- a backend is lost, where it was not so before
-pub went_lost : (tables : List TableDef) (b : BackendId) (g h : Shared) (machines : SessionId → Machine) (recoveries : SessionId → Standing) (j k : Journal) (is_new : Bool) → (is_new ≡ true → IsLoss g b h) → (is_new ≡ false → h ≡ g)
-    → k ≡ (if is_new then added j (told_lost b) else j) → Went tables (state g machines recoveries) j (state h machines recoveries) k
-went_lost tables b g h machines recoveries j k true lost same tells =
-    (Loses b ∷ [], (state h machines recoveries, record { loss = lost refl; machines = refl; recoveries = refl }, refl), tells ∙ ap (added j) (sym (append-nil (told_lost b))))
-went_lost tables b g h machines recoveries j k false lost same tells =
-    subst (λ (z : Shared). Went tables (state g machines recoveries) j (state z machines recoveries) k) (sym (same refl)) (went_none tables (state g machines recoveries) j k tells)
-
 -- the journal is written behind its header
 pub put_on : (config : Config) (tables : List TableDef) (journal : Journal) (kept header : List ℕ) (a b c : Option (List ℕ)) → journal ≡ On kept → IsHeader config tables header → Appends a b header → Appends b c kept
     → IsPut config tables journal a c
@@ -352,22 +237,6 @@ put_on config tables journal kept header a b c is shown one two =
 pub on_ok_always : {T E P : Type 0} (r : Result T E) → P → OnOk r P
 on_ok_always (Ok x) holds = holds
 on_ok_always (Err e) holds = tt
-
--- all machines, all recoveries and the journal are as before
-pub went_kept : (tables : List TableDef) (policy : ReadPolicy) (layout : Layout) (g : Shared) (xs ys : List Slot) (j k : Journal) → machines_of policy ys ≡ machines_of policy xs → standings_of layout ys ≡ standings_of layout xs → k ≡ j
-    → Went tables (state_of policy layout g xs) j (state_of policy layout g ys) k
-went_kept tables policy layout g xs ys j k same rest told_same =
-    subst (λ (z : SessionId → Machine). Went tables (state_of policy layout g xs) j (state g z (standings_of layout ys)) k) (sym same)
-    (subst (λ (z : SessionId → Standing). Went tables (state_of policy layout g xs) j (state g (machines_of policy xs) z) k) (sym rest) (went_none tables (state_of policy layout g xs) j k told_same))
-
--- what is played behind something reads the same tables and configuration
-pub went_behind : (tables used : List TableDef) (config read : Config) (layout : Layout) (a : State) (g h : Shared) (xs ys : List Slot) (j k l : Journal)
-    → used ≡ tables → read ≡ config → Went tables a j (state_of (policy_in config) layout g xs) k
-    → Went used (state_of (policy_in read) layout g xs) k (state_of (policy_in read) layout h ys) l → Went tables a j (state_of (policy_in config) layout h ys) l
-went_behind tables used config read layout a g h xs ys j k l same own first last =
-    went_on tables a (state_of (policy_in config) layout g xs) (state_of (policy_in config) layout h ys) j k l first
-    (subst (λ (z : Config). Went tables (state_of (policy_in z) layout g xs) k (state_of (policy_in z) layout h ys) l) own
-    (subst (λ (z : List TableDef). Went z (state_of (policy_in read) layout g xs) k (state_of (policy_in read) layout h ys) l) same last))
 
 -- the layout of a configuration and its tables
 pub layout_of : (config : Config) (tables : List TableDef) → AreAllowed tables → Layout
@@ -381,34 +250,3 @@ is_layout config tables allowed = record { of_nodes = refl; of_tables = refl }
 pub layout_there : (config read : Config) (tables used : List TableDef) (layout : Layout) → read ≡ config → used ≡ tables → IsLayout config tables layout → IsLayout read used layout
 layout_there config read tables used layout own same is =
     subst (λ (z : Config). IsLayout z used layout) (sym own) (subst (λ (z : List TableDef). IsLayout config z layout) (sym same) is)
-
--- Before a play every slot is free, and behind it stands the journal.
-
-journaled_by : (config : Config) (tables : List TableDef) (layout : Layout) (script : List Line) (journal k : Journal) (g h : Shared) (free ys : List Slot) (a b c : Option (List ℕ))
-    → ((n : ℕ) → get_or free n Free ≡ Free) → AreParts script a b → Went tables (state_of (policy_in config) layout g free) journal (state_of (policy_in config) layout h ys) k
-    → (told : Option (List ℕ)) × Grew b told × IsPut config tables k told c → IsJournaled config tables layout script journal g h a c
-journaled_by config tables layout script journal k g h free ys a b c none parts (entries, is, tells) (told, grew, put) =
-    let first : state_of (policy_in config) layout g free ≡ first_state (policy_in config) layout g = λ x. record {
-      shared = g;
-      machines = λ s. ap (machine_in_slot (policy_in config) s) (none (s.number - 1)) x;
-      recoveries = λ s. ap (standing_in_slot layout s) (none (s.number - 1)) x;
-    } in
-    record {
-      entries = entries;
-      machines = machines_of (policy_in config) ys;
-      recoveries = standings_of layout ys;
-      schedule = subst (λ (z : State). IsSchedule tables z entries (state_of (policy_in config) layout h ys)) first is;
-      transcript = told;
-      played = (b, parts, grew);
-      put = subst (λ (z : Journal). IsPut config tables z told c) tells put;
-    }
-
-pub journaled : (config : Config) (tables : List TableDef) (layout : Layout) (script : List Line) (journal i j k : Journal) (g mid h : Shared) (free xs ys : List Slot) (a b c : Option (List ℕ))
-    → ((n : ℕ) → get_or free n Free ≡ Free) → i ≡ journal → AreParts script a b → Went tables (state_of (policy_in config) layout g free) i (state_of (policy_in config) layout mid xs) j
-    → Went tables (state_of (policy_in config) layout mid xs) j (state_of (policy_in config) layout h ys) k
-    → (told : Option (List ℕ)) × Grew b told × IsPut config tables k told c → IsJournaled config tables layout script journal g h a c
-journaled config tables layout script journal i j k g mid h free xs ys a b c none begins parts one two put =
-    let policy = policy_in config in
-    journaled_by config tables layout script journal k g h free ys a b c none parts
-    (subst (λ (z : Journal). Went tables (state_of policy layout g free) z (state_of policy layout h ys) k) begins
-    (went_on tables (state_of policy layout g free) (state_of policy layout mid xs) (state_of policy layout h ys) i j k one two)) put

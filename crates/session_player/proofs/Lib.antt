@@ -8,3 +8,5 @@ pub mod Speaking
 pub mod Parts
 pub mod Counting
 pub mod Losing
+pub mod Breaking
+pub mod Stilling

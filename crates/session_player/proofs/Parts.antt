@@ -1,5 +1,5 @@
 -- The parts of a script, one behind another, and the schedule that they make.
-use Rattle.std.proofs.Common.{Result, Ok, Err, ◌≡◌, ℕ, suc, zero, ◌-◌, List, [], ◌∷◌, ◌++◌, get_or, refl, sym, ap, ◌∙◌, subst, append_assoc}
+use Rattle.std.proofs.Common.{Result, Ok, Err, true, ◌≡◌, ℕ, suc, zero, ◌-◌, List, [], ◌∷◌, ◌++◌, get_or, refl, sym, ap, ◌∙◌, subst, append_assoc}
 use Rattle.std.specs.Prelude.{ℤ, Option, None, OnOk}
 use Rattle.std.proofs.lemmas.List.{append-nil}
 use Rattle.pool_base.specs.Outside.{Appends}
@@ -23,8 +23,9 @@ use Rattle.session_player.specs.declared.slots.Slot.{Slot}
 use Rattle.session_player.specs.declared.slots.Slot.TheVariants.{Free}
 use Rattle.session_seat.specs.declared.book.Book.{Book}
 use Rattle.session_player.specs.Deeds.{IsDeedOf}
-use Rattle.session_player.specs.Journals.{IsPut, machine_in_slot, machines_of, standing_in_slot, standings_of, state_of}
-use Rattle.session_player.specs.Written.{echo_of}
+use Rattle.session_player.specs.Journals.{IsPut, IsShort, machine_in_slot, machines_of, standing_in_slot, standings_of, state_of}
+use Rattle.session_player.specs.Written.{ArePlayed, AreParts, echo_of}
+use Rattle.session_player.specs.Stillness.{AllStill, goes_round}
 use Rattle.session_player.specs.Speaking.{AllHappen, Board, Event, Happening, Rest, Close, Spoke, board_of, entries_of, hearer_in, hearers_of}
 use Rattle.session_player.specs.Transcript.{AreTold, Does, IsEnd, IsTold, IsTranscript, LosesOne, Part, Scene, again, all_ended, cleared, first_scene, input_ended, lost, scene_of, unknown}
 use Rattle.session_player.proofs.Going.{added_none, added_on, lines_on, schedule_on}
@@ -38,13 +39,13 @@ pub record Tracks (tables : List TableDef) (old : Board) (entries : List Entry) 
 tracks_none : (tables : List TableDef) (old new : Board) → new.state ≡ old.state → new.journal ≡ old.journal → Tracks tables old [] new
 tracks_none tables old new same kept = record { schedule = same; tells = kept ∙ added_none old.journal }
 
-tracks_on : (tables : List TableDef) (a b c : Board) (xs ys : List Entry) → Tracks tables a xs b → Tracks tables b ys c → Tracks tables a (xs ++ ys) c
+pub tracks_on : (tables : List TableDef) (a b c : Board) (xs ys : List Entry) → Tracks tables a xs b → Tracks tables b ys c → Tracks tables a (xs ++ ys) c
 tracks_on tables a b c xs ys one two = record {
   schedule = schedule_on tables a.state b.state c.state xs ys one.schedule two.schedule;
   tells = two.tells ∙ (ap (λ (z : Journal). added z (lines tables ys)) one.tells ∙ (added_on a.journal (lines tables xs) (lines tables ys) ∙ ap (added a.journal) (sym (lines_on tables xs ys))));
 }
 
-tracks_at : (tables : List TableDef) (a b c : Board) (entries : List Entry) → b.state ≡ a.state → b.journal ≡ a.journal → Tracks tables b entries c → Tracks tables a entries c
+pub tracks_at : (tables : List TableDef) (a b c : Board) (entries : List Entry) → b.state ≡ a.state → b.journal ≡ a.journal → Tracks tables b entries c → Tracks tables a entries c
 tracks_at tables a b c entries same kept is = record {
   schedule = subst (λ (z : State). IsSchedule tables z entries c.state) same is.schedule;
   tells = is.tells ∙ ap (λ (z : Journal). added z (lines tables entries)) kept;
@@ -64,7 +65,7 @@ entries_on (Event entry ∷ xs) ys = ap (λ (z : List Entry). entry ∷ z) (entr
 entries_on (Rest s ∷ xs) ys = entries_on xs ys
 entries_on (Close s ∷ xs) ys = entries_on xs ys
 
-tracks_none_of : (tables : List TableDef) (old new : Board) (happenings : List Happening) → happenings ≡ [] → new.state ≡ old.state → new.journal ≡ old.journal → Tracks tables old (entries_of happenings) new
+pub tracks_none_of : (tables : List TableDef) (old new : Board) (happenings : List Happening) → happenings ≡ [] → new.state ≡ old.state → new.journal ≡ old.journal → Tracks tables old (entries_of happenings) new
 tracks_none_of tables old new happenings none same kept = subst (λ (z : List Happening). Tracks tables old (entries_of z) new) (sym none) (tracks_none tables old new same kept)
 
 loss_tracks : (tables : List TableDef) (moment : ℤ) (nodes : List Node) (count : ℕ) (b : BackendId) (old new : Board) (happenings : List Happening) → LosesOne tables moment nodes count b old happenings new
@@ -135,8 +136,8 @@ told_on tables nodes children count (first ∷ script) line old mid new a b c xs
 
 pub transcript_of : (config : Config) (tables : List TableDef) (layout : Layout) (count : ℕ) (script : List Line) (moment : ℤ) (journal : Journal) (first : Shared) (scene : Scene) (last : Board) (a b c d : Option (List ℕ)) (xs ys : List Happening)
     → AreTold tables config.nodes config.children count script (first_scene config layout first moment journal) a xs scene b → IsEnd tables config.nodes scene b ys last c → IsPut config tables last.journal c d
-    → IsTranscript config tables layout count script moment journal first last.state.shared a d
-transcript_of config tables layout count script moment journal first scene last a b c d xs ys told ends put =
+    → IsShort last.journal → IsTranscript config tables layout count script moment journal first last.state.shared a d
+transcript_of config tables layout count script moment journal first scene last a b c d xs ys told ends put short =
     let start = first_scene config layout first moment journal in
     let tracks = tracks_on tables start.board scene.board last (entries_of xs) (entries_of ys) (told_tracks tables config.nodes config.children count script start scene a b xs told)
     (tracks_at tables scene.board (all_ended scene.board) last (entries_of ys) refl refl (all_tracks tables scene.moment config.nodes (all_ended scene.board) last ys ends.rounds)) in
@@ -152,7 +153,20 @@ transcript_of config tables layout count script moment journal first scene last 
       shared = refl;
       schedule = subst (λ (z : List Entry). IsSchedule tables (first_state (policy_in config) layout first) z last.state) (sym (entries_on xs ys)) tracks.schedule;
       put = subst (λ (z : List Entry). IsPut config tables (added journal (lines tables z)) c d) (sym (entries_on xs ys)) (subst (λ (z : Journal). IsPut config tables z c d) tracks.tells put);
+      short = subst (λ (z : List Entry). IsShort (added journal (lines tables z))) (sym (entries_on xs ys)) (subst IsShort tracks.tells short);
     }
+
+-- each line has its part, and behind the parts stands what is told at the end
+pub told_parts : (tables : List TableDef) (nodes : List Node) (children count : ℕ) (script : List Line) (old new : Scene) (a b : Option (List ℕ)) (happenings : List Happening) → AreTold tables nodes children count script old a happenings new b
+    → AreParts script a b
+told_parts tables nodes children count [] old new a b happenings (none, same, kept) = kept
+told_parts tables nodes children count (line ∷ script) old new a b happenings (here, rest, all, mid, taken, is, more) =
+    (taken, (is.last.board.lines, is.wrote), told_parts tables nodes children count script mid new taken b rest more)
+
+pub is_spoken : (config : Config) (tables : List TableDef) (layout : Layout) (count : ℕ) (script : List Line) (moment : ℤ) (journal : Journal) (first last : Shared) (a b : Option (List ℕ))
+    → (it : IsTranscript config tables layout count script moment journal first last a b) → ArePlayed script a it.transcript
+is_spoken config tables layout count script moment journal first last a b it =
+    (it.played, told_parts tables config.nodes config.children count script (first_scene config layout first moment journal) it.scene a it.played it.happenings it.told, (it.board.lines, it.ends.wrote))
 
 -- What a line does, and the rounds behind it.
 
@@ -168,27 +182,28 @@ on_ok_both P Q (Err e) p q = tt
 abbrev pub Did : List TableDef → List Node → ℕ → ℕ → Line → Scene → Scene → Type 0
 Did tables nodes children count line old mid = (deed : Deed) × IsDeedOf line deed × (happenings : List Happening) × Does tables nodes children count deed old happenings mid
 
-pub part_alone : (tables : List TableDef) (nodes : List Node) (children count : ℕ) (line : Line) (old mid : Scene) → Did tables nodes children count line old mid
+pub part_alone : (tables : List TableDef) (nodes : List Node) (children count : ℕ) (line : Line) (old mid : Scene) → Did tables nodes children count line old mid → (goes_round line ≡ true → AllStill mid.board)
     → (happenings : List Happening) × Part tables nodes children count line old happenings mid
-part_alone tables nodes children count line old mid (deed, is, before, does) =
-    (before, record { deed = deed; is = is; before = before; mid = mid; does = does; behind = []; rounds = refl; moment = refl; all = sym (append-nil before) })
+part_alone tables nodes children count line old mid (deed, is, before, does) still =
+    (before, record { deed = deed; is = is; before = before; mid = mid; does = does; behind = []; rounds = refl; moment = refl; all = sym (append-nil before); still = still })
 
 part_then : (tables : List TableDef) (nodes : List Node) (children count : ℕ) (line : Line) (old mid : Scene) (last : Board) → Did tables nodes children count line old mid → Spoke tables mid.moment nodes mid.board last
+    → (goes_round line ≡ true → AllStill last)
     → (happenings : List Happening) × Part tables nodes children count line old happenings (record { moment = mid.moment; board = last })
-part_then tables nodes children count line old mid last (deed, is, before, does) (behind, rounds) =
-    (before ++ behind, record { deed = deed; is = is; before = before; mid = mid; does = does; behind = behind; rounds = rounds; moment = refl; all = refl })
+part_then tables nodes children count line old mid last (deed, is, before, does) (behind, rounds) still =
+    (before ++ behind, record { deed = deed; is = is; before = before; mid = mid; does = does; behind = behind; rounds = rounds; moment = refl; all = refl; still = still })
 
 -- what is played behind something reads the same tables and configuration
 pub part_rounds : (tables used : List TableDef) (config read : Config) (layout : Layout) (count : ℕ) (line : Line) (old : Scene) (g h : Shared) (moment shown : ℤ) (xs ys : List Slot) (before last : Book) → used ≡ tables → read ≡ config
     → shown ≡ moment → Did tables config.nodes config.children count line old (scene_of (policy_in config) layout g moment xs before)
     → Spoke used shown read.nodes (board_of (policy_in read) layout g xs before) (board_of (policy_in read) layout h ys last)
-    → (happenings : List Happening) × Part tables config.nodes config.children count line old happenings (scene_of (policy_in config) layout h moment ys last)
-part_rounds tables used config read layout count line old g h moment shown xs ys before last same own clock did spoke =
+    → (goes_round line ≡ true → AllStill (board_of (policy_in config) layout h ys last)) → (happenings : List Happening) × Part tables config.nodes config.children count line old happenings (scene_of (policy_in config) layout h moment ys last)
+part_rounds tables used config read layout count line old g h moment shown xs ys before last same own clock did spoke still =
     let policy = policy_in config in
     part_then tables config.nodes config.children count line old (scene_of policy layout g moment xs before) (board_of policy layout h ys last) did
     (subst (λ (z : ℤ). Spoke tables z config.nodes (board_of policy layout g xs before) (board_of policy layout h ys last)) clock
     (subst (λ (z : Config). Spoke tables shown z.nodes (board_of (policy_in z) layout g xs before) (board_of (policy_in z) layout h ys last)) own
-    (subst (λ (z : List TableDef). Spoke z shown read.nodes (board_of (policy_in read) layout g xs before) (board_of (policy_in read) layout h ys last)) same spoke)))
+    (subst (λ (z : List TableDef). Spoke z shown read.nodes (board_of (policy_in read) layout g xs before) (board_of (policy_in read) layout h ys last)) same spoke))) still
 
 -- and what was told is written behind its echo
 pub told_part : (tables : List TableDef) (nodes : List Node) (children count : ℕ) (line : Line) (old last new : Scene) (a b c : Option (List ℕ)) → (happenings : List Happening) × Part tables nodes children count line old happenings last
@@ -240,9 +255,9 @@ end_rounds tables used config read layout g h moment shown xs ys zs before last 
 
 pub played_all : (config : Config) (tables : List TableDef) (layout : Layout) (count : ℕ) (script : List Line) (moment : ℤ) (journal : Journal) (first last : Shared) (start scene : Scene) (a b d : Option (List ℕ))
     → start ≡ first_scene config layout first moment journal → (happenings : List Happening) × AreTold tables config.nodes config.children count script start a happenings scene b
-    → (happenings : List Happening) × (final : Board) × (c : Option (List ℕ)) × IsEnd tables config.nodes scene b happenings final c × IsPut config tables final.journal c d × (final.state.shared ≡ last)
+    → (happenings : List Happening) × (final : Board) × (c : Option (List ℕ)) × IsEnd tables config.nodes scene b happenings final c × IsPut config tables final.journal c d × IsShort final.journal × (final.state.shared ≡ last)
     → IsTranscript config tables layout count script moment journal first last a d
-played_all config tables layout count script moment journal first last start scene a b d begins (xs, told) (ys, final, c, ends, put, there) =
+played_all config tables layout count script moment journal first last start scene a b d begins (xs, told) (ys, final, c, ends, put, short, there) =
     subst (λ (z : Shared). IsTranscript config tables layout count script moment journal first z a d) there
     (transcript_of config tables layout count script moment journal first scene final a b c d xs ys
-    (subst (λ (z : Scene). AreTold tables config.nodes config.children count script z a xs scene b) begins told) ends put)
+    (subst (λ (z : Scene). AreTold tables config.nodes config.children count script z a xs scene b) begins told) ends put short)

@@ -15,6 +15,7 @@ use Rattle.session_wire.specs.declared.wire.WireStep.TheVariants as wires
 use Rattle.online_recovery.specs.declared.layout.Layout.{Layout}
 use Rattle.online_recovery.specs.declared.standing.Standing.{Standing}
 use Rattle.session_seat.specs.declared.book.Journal.{Journal}
+use Rattle.session_seat.specs.declared.seat.Turn.{Turn}
 use Rattle.session_seat.specs.declared.step.Step.{Step}
 use Rattle.session_seat.specs.declared.step.Step.TheVariants as steps
 use Rattle.session_seat.specs.Told.{added}
@@ -113,68 +114,6 @@ module _ (tables : List TableDef) (moment : ℤ) (nodes : List Node) (s : Sessio
       (board (state c.stand.shared (with_machine machines s c.stand.machine) (with_standing recoveries s c.stand.standing)) (with_at hearers s.number c.hearer) c.stand.journal c.lines)
       (one machines recoveries hearers is stands hears fits) (subst (Spoke tables moment nodes first) same last)
 
-  -- it has nothing to do
-  alone_rests : (old new : Stand) (was is : Speech) → Stays old new → spoken.Asks tables moment s.number was wires.NeedInput is
-      → SpokeAlone tables moment nodes s others (spot old (Some (hearer_by was)) was.lines) (spot new (Some (hearer_by is)) is.lines)
-  alone_rests old new was is stays asks machines recoveries hearers own stands hears fits = (
-    Rest s ∷ [],
-    (
-      board (state new.shared (with_machine machines s new.machine) (with_standing recoveries s new.standing)) (with_at hearers s.number (Some (hearer_by is))) new.journal is.lines,
-      (
-        record { state = same_state old new machines recoveries stays own stands; journal = stays.journal },
-        record { was = hearer_by was; connected = hears; is = hearer_by is; said = asks; hearers = refl },
-      ),
-      refl,
-    ),
-  )
-
-  -- it is closed
-  alone_closes : (old new : Stand) (was is : Speech) → Stays old new → spoken.Closes tables moment s.number was is
-      → SpokeAlone tables moment nodes s others (spot old (Some (hearer_by was)) was.lines) (spot new None is.lines)
-  alone_closes old new was is stays closes machines recoveries hearers own stands hears fits = (
-    Close s ∷ [],
-    (
-      board (state new.shared (with_machine machines s new.machine) (with_standing recoveries s new.standing)) (with_at hearers s.number None) new.journal is.lines,
-      (
-        record { state = same_state old new machines recoveries stays own stands; journal = stays.journal },
-        record { was = hearer_by was; connected = hears; is = is; said = closes; lines = refl; hearers = refl },
-      ),
-      refl,
-    ),
-  )
-
-  -- an entry comes
-  tells_of : (entry : Entry) (was is : Speech) (old new : Board) → SaysAt tables moment nodes s was entry is → old.hearers s.number ≡ Some (hearer_by was) → old.lines ≡ was.lines → new.lines ≡ is.lines
-      → new.hearers ≡ with_at old.hearers s.number (Some (hearer_by is)) → TellsOf tables moment nodes entry old new
-  tells_of (Of t event) was is old new (same, says) hears had has hearers =
-      subst (λ (u : SessionId). Tells u (λ a b. spoken.Says tables moment nodes u.number a event b) old new) (sym same)
-      (record {
-        was = hearer_by was;
-        connected = hears;
-        is = hearer_by is;
-        said = subst (λ (l : List ℕ). spoken.Says tables moment nodes s.number (record was { lines = l }) event (record is { lines = new.lines })) (sym had)
-            (subst (λ (l : List ℕ). spoken.Says tables moment nodes s.number was event (record is { lines = l })) (sym has) says);
-        hearers = hearers;
-      })
-  tells_of (Recovers t event) was is old new (same, says) hears had has hearers =
-      subst (λ (u : SessionId). Tells u (λ a b. RecoverySays tables moment nodes u.number a event b) old new) (sym same)
-      (record {
-        was = hearer_by was;
-        connected = hears;
-        is = hearer_by is;
-        said = subst (λ (l : List ℕ). RecoverySays tables moment nodes s.number (record was { lines = l }) event (record is { lines = new.lines })) (sym had)
-            (subst (λ (l : List ℕ). RecoverySays tables moment nodes s.number was event (record is { lines = l })) (sym has) says);
-        hearers = hearers;
-      })
-  tells_of (Loses b) was is old new says hears had has hearers = absurd says
-
-  alone_told : (entry : Entry) (old new : Stand) (was is : Speech) → ComesAlone tables s others old entry new → new.journal ≡ added old.journal (told tables entry) → SaysAt tables moment nodes s was entry is
-      → SpokeAlone tables moment nodes s others (spot old (Some (hearer_by was)) was.lines) (spot new (Some (hearer_by is)) is.lines)
-  alone_told entry old new was is comes tells says machines recoveries hearers own stands hears fits =
-      let first : Board = board (state old.shared machines recoveries) hearers old.journal was.lines in
-      let last : Board = board (state new.shared (with_machine machines s new.machine) (with_standing recoveries s new.standing)) (with_at hearers s.number (Some (hearer_by is))) new.journal is.lines in
-      (Event entry ∷ [], (last, (record { comes = comes machines recoveries own stands fits; tells = tells }, tells_of entry was is first last says hears refl refl refl), refl))
-
   -- a backend is lost before
   alone_seen : (entry : Entry) (old new : Stand) (hearer : Option Hearer) (lines : List ℕ) → IsSeen entry old new → SpokeAlone tables moment nodes s others (spot old hearer lines) (spot new hearer lines)
   alone_seen entry old new hearer lines seen machines recoveries hearers own stands hears fits = (
@@ -196,33 +135,98 @@ module _ (tables : List TableDef) (moment : ℤ) (nodes : List Node) (s : Sessio
     ),
   )
 
+module _ (tables : List TableDef) (moment : ℤ) (nodes : List Node) (s : SessionId) (others : ℕ) (turn : Turn) where
+  -- it has nothing to do
+  alone_rests : (old new : Stand) (was is : Speech) → Stays old new → spoken.Asks tables moment s.number was wires.NeedInput is
+      → SpokeAlone tables moment nodes s others (spot old (Some (hearer_by turn was)) was.lines) (spot new (Some (hearer_by turn is)) is.lines)
+  alone_rests old new was is stays asks machines recoveries hearers own stands hears fits = (
+    Rest s ∷ [],
+    (
+      board (state new.shared (with_machine machines s new.machine) (with_standing recoveries s new.standing)) (with_at hearers s.number (Some (hearer_by turn is))) new.journal is.lines,
+      (
+        record { state = same_state tables moment nodes s others old new machines recoveries stays own stands; journal = stays.journal },
+        record { was = hearer_by turn was; connected = hears; is = hearer_by turn is; said = asks; turn = refl; hearers = refl },
+      ),
+      refl,
+    ),
+  )
+
+  -- it is closed
+  alone_closes : (old new : Stand) (was is : Speech) → Stays old new → spoken.Closes tables moment s.number was is
+      → SpokeAlone tables moment nodes s others (spot old (Some (hearer_by turn was)) was.lines) (spot new None is.lines)
+  alone_closes old new was is stays closes machines recoveries hearers own stands hears fits = (
+    Close s ∷ [],
+    (
+      board (state new.shared (with_machine machines s new.machine) (with_standing recoveries s new.standing)) (with_at hearers s.number None) new.journal is.lines,
+      (
+        record { state = same_state tables moment nodes s others old new machines recoveries stays own stands; journal = stays.journal },
+        record { was = hearer_by turn was; connected = hears; is = is; said = closes; lines = refl; hearers = refl },
+      ),
+      refl,
+    ),
+  )
+
+  -- an entry comes
+  tells_of : (entry : Entry) (was is : Speech) (old new : Board) → SaysAt tables moment nodes s was entry is → old.hearers s.number ≡ Some (hearer_by turn was) → old.lines ≡ was.lines → new.lines ≡ is.lines
+      → new.hearers ≡ with_at old.hearers s.number (Some (hearer_by turn is)) → TellsOf tables moment nodes entry old new
+  tells_of (Of t event) was is old new (same, says) hears had has hearers =
+      subst (λ (u : SessionId). Tells u (λ a b. spoken.Says tables moment nodes u.number a event b) old new) (sym same)
+      (record {
+        was = hearer_by turn was;
+        connected = hears;
+        is = hearer_by turn is;
+        said = subst (λ (l : List ℕ). spoken.Says tables moment nodes s.number (record was { lines = l }) event (record is { lines = new.lines })) (sym had)
+            (subst (λ (l : List ℕ). spoken.Says tables moment nodes s.number was event (record is { lines = l })) (sym has) says);
+        turn = refl;
+        hearers = hearers;
+      })
+  tells_of (Recovers t event) was is old new (same, says) hears had has hearers =
+      subst (λ (u : SessionId). Tells u (λ a b. RecoverySays tables moment nodes u.number a event b) old new) (sym same)
+      (record {
+        was = hearer_by turn was;
+        connected = hears;
+        is = hearer_by turn is;
+        said = subst (λ (l : List ℕ). RecoverySays tables moment nodes s.number (record was { lines = l }) event (record is { lines = new.lines })) (sym had)
+            (subst (λ (l : List ℕ). RecoverySays tables moment nodes s.number was event (record is { lines = l })) (sym has) says);
+        turn = refl;
+        hearers = hearers;
+      })
+  tells_of (Loses b) was is old new says hears had has hearers = absurd says
+
+  alone_told : (entry : Entry) (old new : Stand) (was is : Speech) → ComesAlone tables s others old entry new → new.journal ≡ added old.journal (told tables entry) → SaysAt tables moment nodes s was entry is
+      → SpokeAlone tables moment nodes s others (spot old (Some (hearer_by turn was)) was.lines) (spot new (Some (hearer_by turn is)) is.lines)
+  alone_told entry old new was is comes tells says machines recoveries hearers own stands hears fits =
+      let first : Board = board (state old.shared machines recoveries) hearers old.journal was.lines in
+      let last : Board = board (state new.shared (with_machine machines s new.machine) (with_standing recoveries s new.standing)) (with_at hearers s.number (Some (hearer_by turn is))) new.journal is.lines in
+      (Event entry ∷ [], (last, (record { comes = comes machines recoveries own stands fits; tells = tells }, tells_of entry was is first last says hears refl refl refl), refl))
+
   alone_from : (old mid new : Stand) (was is : Speech) (entry : Entry) → (mid ≡ old) ⊎ IsSeen entry old mid → ComesAlone tables s others mid entry new → new.journal ≡ added mid.journal (told tables entry)
-      → SaysAt tables moment nodes s was entry is → SpokeAlone tables moment nodes s others (spot old (Some (hearer_by was)) was.lines) (spot new (Some (hearer_by is)) is.lines)
+      → SaysAt tables moment nodes s was entry is → SpokeAlone tables moment nodes s others (spot old (Some (hearer_by turn was)) was.lines) (spot new (Some (hearer_by turn is)) is.lines)
   alone_from old mid new was is entry (inl same) comes tells says =
-      subst (λ (z : Stand). SpokeAlone tables moment nodes s others (spot z (Some (hearer_by was)) was.lines) (spot new (Some (hearer_by is)) is.lines)) same (alone_told entry mid new was is comes tells says)
+      subst (λ (z : Stand). SpokeAlone tables moment nodes s others (spot z (Some (hearer_by turn was)) was.lines) (spot new (Some (hearer_by turn is)) is.lines)) same (alone_told entry mid new was is comes tells says)
   alone_from old mid new was is entry (inr seen) comes tells says =
-      alone_on (spot old (Some (hearer_by was)) was.lines) (spot mid (Some (hearer_by was)) was.lines) (spot new (Some (hearer_by is)) is.lines) (alone_seen entry old mid (Some (hearer_by was)) was.lines seen)
+      alone_on tables moment nodes s others (spot old (Some (hearer_by turn was)) was.lines) (spot mid (Some (hearer_by turn was)) was.lines) (spot new (Some (hearer_by turn is)) is.lines) (alone_seen tables moment nodes s others entry old mid (Some (hearer_by turn was)) was.lines seen)
       (alone_told entry mid new was is comes tells says)
 
   pub alone_step : (policy : ReadPolicy) (layout : Layout) (old new : Stand) (was is : Speech) (step : Step) → Speaks tables moment nodes policy layout s others old was step new is
-      → SpokeAlone tables moment nodes s others (spot old (Some (hearer_by was)) was.lines) (spot new (left_by step (hearer_by is)) is.lines)
+      → SpokeAlone tables moment nodes s others (spot old (Some (hearer_by turn was)) was.lines) (spot new (left_by step (hearer_by turn is)) is.lines)
   alone_step policy layout old new was is (steps.Did mark) speaks = alone_from old speaks.0.between new was is speaks.0.entry speaks.0.first speaks.0.comes speaks.0.tells speaks.1
   alone_step policy layout old new was is steps.Waits speaks =
-      subst (λ (z : Speech). SpokeAlone tables moment nodes s others (spot old (Some (hearer_by was)) was.lines) (spot new (Some (hearer_by z)) z.lines)) (sym speaks.1)
-      (alone_stays old new (Some (hearer_by was)) was.lines was.lines speaks.0 refl)
+      subst (λ (z : Speech). SpokeAlone tables moment nodes s others (spot old (Some (hearer_by turn was)) was.lines) (spot new (Some (hearer_by turn z)) z.lines)) (sym speaks.1)
+      (alone_stays tables moment nodes s others old new (Some (hearer_by turn was)) was.lines was.lines speaks.0 refl)
   alone_step policy layout old new was is steps.Idle speaks = alone_rests old new was is speaks.0 speaks.1
   alone_step policy layout old new was is steps.Closed speaks = alone_closes old new was is speaks.0 speaks.3
   alone_step policy layout old new was is (steps.Recovers at_moment number) speaks = absurd speaks
 
 -- a step behind others, of the same session
-pub alone_more : (tables : List TableDef) (moment : ℤ) (nodes : List Node) (policy : ReadPolicy) (layout : Layout) (s t : SessionId) (others : ℕ) (a : Spot) (b c : Stand) (was is : Speech) (step : Step) (x : Option Hearer) → t ≡ s
-    → left_by step (hearer_by is) ≡ x → SpokeAlone tables moment nodes s others a (spot b (Some (hearer_by was)) was.lines) → Speaks tables moment nodes policy layout t others b was step c is
+pub alone_more : (tables : List TableDef) (moment : ℤ) (nodes : List Node) (policy : ReadPolicy) (layout : Layout) (s t : SessionId) (others : ℕ) (turn : Turn) (a : Spot) (b c : Stand) (was is : Speech) (step : Step) (x : Option Hearer) → t ≡ s
+    → left_by step (hearer_by turn is) ≡ x → SpokeAlone tables moment nodes s others a (spot b (Some (hearer_by turn was)) was.lines) → Speaks tables moment nodes policy layout t others b was step c is
     → SpokeAlone tables moment nodes s others a (spot c x is.lines)
-alone_more tables moment nodes policy layout s t others a b c was is step x same left one speaks =
-    alone_on tables moment nodes s others a (spot b (Some (hearer_by was)) was.lines) (spot c x is.lines) one
-    (subst (λ (z : Option Hearer). SpokeAlone tables moment nodes s others (spot b (Some (hearer_by was)) was.lines) (spot c z is.lines)) left
-    (subst (λ (u : SessionId). SpokeAlone tables moment nodes u others (spot b (Some (hearer_by was)) was.lines) (spot c (left_by step (hearer_by is)) is.lines)) same
-    (alone_step tables moment nodes t others policy layout b c was is step speaks)))
+alone_more tables moment nodes policy layout s t others turn a b c was is step x same left one speaks =
+    alone_on tables moment nodes s others a (spot b (Some (hearer_by turn was)) was.lines) (spot c x is.lines) one
+    (subst (λ (z : Option Hearer). SpokeAlone tables moment nodes s others (spot b (Some (hearer_by turn was)) was.lines) (spot c z is.lines)) left
+    (subst (λ (u : SessionId). SpokeAlone tables moment nodes u others (spot b (Some (hearer_by turn was)) was.lines) (spot c (left_by step (hearer_by turn is)) is.lines)) same
+    (alone_step tables moment nodes t others turn policy layout b c was is step speaks)))
 
 -- where a turn goes on its session is not closed, and where it ends it is as the step was
 pub left_on : (until : Option Mark) (step : Step) (hearer : Hearer) → EndsBehind until step None → left_by step hearer ≡ Some hearer

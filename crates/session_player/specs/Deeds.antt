@@ -1,5 +1,5 @@
 -- What a line of a script does.
-use Rattle.std.specs.Prelude.{◌≡◌, ℕ, Some}
+use Rattle.std.specs.Prelude.{◌≡◌, ℕ, Bool, true, false, Some}
 use Rattle.pgproto.specs.Line.{Line, line_of, place_of, session, lose, cut, moment, hold, go, until}
 use Rattle.pgproto.specs.Spelling.{IsOfGrammar, sender}
 use Rattle.session_player.specs.declared.deed.Deed.{Deed}
@@ -28,3 +28,10 @@ CanBeSent Hold = Unit {0}
 CanBeSent Go = Unit {0}
 CanBeSent (Until mark) = Unit {0}
 CanBeSent (Send sent) = IsOfGrammar (line_of sent.now)
+
+-- behind it rounds are made: the session is not held
+abbrev pub goes_on : Wish → Bool
+goes_on Hold = false
+goes_on Go = true
+goes_on (Until mark) = false
+goes_on (Send sent) = true

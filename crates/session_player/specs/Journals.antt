@@ -1,5 +1,5 @@
--- The schedule of a play, and its journal.
-use Rattle.std.specs.Prelude.{◌≡◌, ℕ, ◌-◌, List, ◌++◌, Option, slice_index_or}
+-- Where the sessions of a play stand, and its journal.
+use Rattle.std.specs.Prelude.{◌≡◌, ◌<◌, ℕ, ◌-◌, List, ◌++◌, Option, length, slice_index_or}
 use Rattle.pool_base.specs.Outside.{Appends}
 use Rattle.pool_base.specs.declared.session_id.SessionId.{SessionId}
 use Rattle.pool_config.specs.declared.config.Config.{Config}
@@ -14,17 +14,12 @@ use Rattle.online_recovery.specs.declared.standing.Standing.{Standing}
 use Rattle.online_recovery.specs.State.{new_standing}
 use Rattle.session_seat.specs.declared.book.Journal.{Journal}
 use Rattle.session_seat.specs.declared.book.Journal.TheVariants.{Off, On}
-use Rattle.session_seat.specs.Policy.{policy_in}
-use Rattle.session_seat.specs.Told.{added}
 use Rattle.session_seat.specs.Shared.{Shared}
-use Rattle.session_seat.specs.Schedule.{with_machine}
-use Rattle.recovery_seat.specs.Places.{IsLayout, standing_of}
-use Rattle.recovery_seat.specs.Schedule.{Entry, State, first_state, with_standing, lines, IsSchedule}
-use Rattle.recovery_seat.specs.Steps.{Fits, Stand, state}
-use Rattle.pgproto.specs.Line.{Line}
+use Rattle.recovery_seat.specs.Places.{standing_of}
+use Rattle.recovery_seat.specs.Schedule.{State}
+use Rattle.recovery_seat.specs.Steps.{state}
 use Rattle.session_player.specs.declared.slots.Slot.{Slot}
 use Rattle.session_player.specs.declared.slots.Slot.TheVariants.{Free, Taken}
-use Rattle.session_player.specs.Written.{ArePlayed}
 
 -- the machine of session s: that of its client; where none is connected, that of its start
 abbrev pub machine_in_slot : ReadPolicy → SessionId → Slot → Machine
@@ -45,27 +40,12 @@ standings_of layout slots s = standing_in_slot layout s (slice_index_or slots (s
 abbrev pub state_of : ReadPolicy → Layout → Shared → List Slot → State
 state_of policy layout shared slots = state shared (machines_of policy slots) (standings_of layout slots)
 
--- a schedule leads from one state to the other, and the journal tells of it, line by line
-abbrev pub Went : List TableDef → State → Journal → State → Journal → Type 0
-Went tables old journal new journal_then = (entries : List Entry) × IsSchedule tables old entries new × (journal_then ≡ added journal (lines tables entries))
-
--- so does one of session s and its recovery alone, wherever the others stand that fit this set
-abbrev pub Goes : List TableDef → SessionId → ℕ → Stand → Stand → Type 0
-Goes tables s others old new =
-    (machines : SessionId → Machine) (recoveries : SessionId → Standing) → machines s ≡ old.machine → recoveries s ≡ old.standing → Fits others s machines recoveries
-    → Went tables (state old.shared machines recoveries) old.journal (state new.shared (with_machine machines s new.machine) (with_standing recoveries s new.standing)) new.journal
-
 -- a journal that is kept was written behind its header
 abbrev pub IsPut : Config → List TableDef → Journal → Option (List ℕ) → Option (List ℕ) → Type 0
 IsPut config tables Off old new = new ≡ old
 IsPut config tables (On kept) old new = (header : List ℕ) × IsHeader config tables header × Appends old new (header ++ kept)
 
--- behind the transcript of a script stands the journal of a schedule, which leads from the start, where this is shared, to where that is
-pub record IsJournaled (config : Config) (tables : List TableDef) (layout : Layout) (script : List Line) (journal : Journal) (first last : Shared) (old new : Option (List ℕ)) : Type 0 where
-  pub entries : List Entry
-  pub machines : SessionId → Machine
-  pub recoveries : SessionId → Standing
-  pub schedule : IsSchedule tables (first_state (policy_in config) layout first) entries (state last machines recoveries)
-  pub transcript : Option (List ℕ)
-  pub played : ArePlayed script old transcript
-  pub put : IsPut config tables (added journal (lines tables entries)) transcript new
+-- a journal that is kept has fewer than 2^64 bytes, as each list has
+abbrev pub IsShort : Journal → Type 0
+IsShort Off = Unit {0}
+IsShort (On kept) = length kept < 18446744073709551616

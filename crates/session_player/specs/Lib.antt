@@ -9,4 +9,6 @@ pub mod Written
 pub mod Journals
 pub mod Others
 pub mod Speaking
+pub mod Stillness
 pub mod Transcript
+pub mod BrokenOff

@@ -13,6 +13,7 @@ use Rattle.online_recovery.specs.declared.standing.Standing.{Standing}
 use Rattle.session_seat.specs.declared.book.Book.{Book}
 use Rattle.session_seat.specs.declared.book.Journal.{Journal}
 use Rattle.session_seat.specs.declared.seat.Seat.{Seat}
+use Rattle.session_seat.specs.declared.seat.Turn.{Turn}
 use Rattle.session_seat.specs.declared.step.Step.{Step}
 use Rattle.session_seat.specs.declared.step.Step.TheVariants as step
 use Rattle.session_seat.specs.Told.{added}
@@ -31,13 +32,14 @@ use Rattle.session_player.specs.Journals.{state_of}
 
 -- Clients.
 
--- a client that is connected: where its wire stands, and whether its session is over
+-- a client that is connected: where its wire stands, whether its session is over, and whether it is held
 pub record Hearer : Type 0 where
   pub view : View
   pub over : Bool
+  pub turn : Turn
 
 abbrev pub hearer_of : Seat → Hearer
-hearer_of seat = record { view = shown seat.wire; over = seat.over }
+hearer_of seat = record { view = shown seat.wire; over = seat.over; turn = seat.turn }
 
 abbrev pub hearer_in : Slot → Option Hearer
 hearer_in Free = None
@@ -51,8 +53,8 @@ hearers_of slots (suc i) = hearer_in (slice_index_or slots i Free)
 abbrev pub speech_of : Hearer → List ℕ → Speech
 speech_of hearer lines = record { view = hearer.view; over = hearer.over; lines = lines }
 
-abbrev pub hearer_by : Speech → Hearer
-hearer_by speech = record { view = speech.view; over = speech.over }
+abbrev pub hearer_by : Turn → Speech → Hearer
+hearer_by turn speech = record { view = speech.view; over = speech.over; turn = turn }
 
 -- All of a play.
 
@@ -87,6 +89,7 @@ pub record Tells (s : SessionId) (says : Speech → Speech → Type 0) (old new 
   pub connected : old.hearers s.number ≡ Some was
   pub is : Hearer
   pub said : says (speech_of was old.lines) (speech_of is new.lines)
+  pub turn : is.turn ≡ was.turn
   pub hearers : new.hearers ≡ with_at old.hearers s.number (Some is)
 
 -- and is connected no more behind it

@@ -16,6 +16,7 @@ use Rattle.online_recovery.specs.declared.layout.Layout.{Layout}
 use Rattle.online_recovery.specs.declared.standing.Standing.{Standing}
 use Rattle.session_seat.specs.declared.book.Book.{Book}
 use Rattle.session_seat.specs.declared.book.Journal.{Journal}
+use Rattle.session_seat.specs.declared.seat.Turn.TheVariants as turns
 use Rattle.session_seat.specs.Policy.{policy_in}
 use Rattle.session_seat.specs.Told.{added}
 use Rattle.session_seat.specs.Shared.{Shared}
@@ -31,7 +32,8 @@ use Rattle.session_player.specs.Deeds.{IsDeedOf}
 use Rattle.session_player.specs.Sent.{sent_of}
 use Rattle.session_player.specs.Times.{IsMomentOf}
 use Rattle.session_player.specs.Written.{echo_of}
-use Rattle.session_player.specs.Journals.{IsPut}
+use Rattle.session_player.specs.Journals.{IsPut, IsShort}
+use Rattle.session_player.specs.Stillness.{AllStill, goes_round}
 use Rattle.session_player.specs.Speaking.{AllHappen, Board, Event, Happening, Happens, Hearer, board, board_of, entries_of, hearer_in}
 
 -- where a play stands between two lines: the moment that the clock shows, and all else
@@ -57,7 +59,7 @@ start_bytes =
 
 -- a client that has sent it
 abbrev pub joined : View → Hearer
-joined view = record { view = with_piece view start_bytes; over = false }
+joined view = record { view = with_piece view start_bytes; over = false; turn = turns.Free }
 
 -- a client connects, where the number is free and a place is left; else that is told
 pub data Connects (children s : ℕ) (old : ℕ → Option Hearer) (had : List ℕ) (new : ℕ → Option Hearer) (has : List ℕ) : Type 0 where
@@ -65,11 +67,11 @@ pub data Connects (children s : ℕ) (old : ℕ → Option Hearer) (had : List �
   full : old s ≡ None → children ≤ count_to old 64 → new ≡ old → has ≡ had ++ (message_line s no_place ++ closed_line s) → Connects children s old had new has
   joins : old s ≡ None → count_to old 64 < children → (view : View) → IsFresh s view → new ≡ with_at old s (Some (joined view)) → has ≡ had → Connects children s old had new has
 
--- a client has what it sends
+-- a client has what it sends, and its session is held, or takes steps again
 abbrev pub wished : Wish → Hearer → Hearer
-wished Hold hearer = hearer
-wished Go hearer = hearer
-wished (Until mark) hearer = hearer
+wished Hold hearer = record hearer { turn = turns.Held }
+wished Go hearer = record hearer { turn = turns.Free }
+wished (Until mark) hearer = record hearer { turn = turns.Held }
 wished (Send line) hearer = record hearer { view = with_piece hearer.view (sent_of (line_of line.now)) }
 
 -- a session is asked, where its client is connected; else that is told
@@ -112,7 +114,7 @@ Does tables nodes children count (SetMoment text) old happenings new = (happenin
 Does tables nodes children count (Of s wish) old happenings new =
     Keeps old happenings new × Addresses s.number wish old.board.hearers old.board.lines new.board.hearers new.board.lines
 
--- The part of a line: what it does, and the rounds behind it.
+-- The part of a line: what it does, and the rounds behind it, up to where all stand still.
 
 pub record Part (tables : List TableDef) (nodes : List Node) (children count : ℕ) (line : Line) (old : Scene) (happenings : List Happening) (new : Scene) : Type 0 where
   pub deed : Deed
@@ -124,6 +126,7 @@ pub record Part (tables : List TableDef) (nodes : List Node) (children count : �
   pub rounds : AllHappen tables mid.moment nodes mid.board behind new.board
   pub moment : new.moment ≡ mid.moment
   pub all : happenings ≡ before ++ behind
+  pub still : goes_round line ≡ true → AllStill new.board
 
 -- behind it nothing is left to be told
 abbrev pub cleared : Scene → Scene
@@ -143,11 +146,11 @@ AreTold tables nodes children count (line ∷ script) old a happenings new b =
     (here : List Happening) × (rest : List Happening) × (happenings ≡ here ++ rest) × (mid : Scene) × (taken : Option (List ℕ))
     × IsTold tables nodes children count line old a here mid taken × AreTold tables nodes children count script mid taken rest new b
 
--- The end: the input of each client ends.
+-- The end: the input of each client ends, and none is held.
 
 abbrev pub input_ended : Option Hearer → Option Hearer
 input_ended None = None
-input_ended (Some hearer) = Some (record hearer { view = with_end hearer.view })
+input_ended (Some hearer) = Some (record hearer { view = with_end hearer.view; turn = turns.Free })
 
 abbrev pub all_ended : Board → Board
 all_ended b = record b { hearers = λ n. input_ended (b.hearers n) }
@@ -155,6 +158,7 @@ all_ended b = record b { hearers = λ n. input_ended (b.hearers n) }
 -- rounds are made, and what is told is written
 pub record IsEnd (tables : List TableDef) (nodes : List Node) (old : Scene) (a : Option (List ℕ)) (happenings : List Happening) (last : Board) (b : Option (List ℕ)) : Type 0 where
   pub rounds : AllHappen tables old.moment nodes (all_ended old.board) happenings last
+  pub still : AllStill last
   pub wrote : Appends a b last.lines
 
 -- All of it.
@@ -178,3 +182,4 @@ pub record IsTranscript (config : Config) (tables : List TableDef) (layout : Lay
   pub shared : board.state.shared ≡ last
   pub schedule : IsSchedule tables (first_state (policy_in config) layout first) (entries_of (happenings ++ at_end)) board.state
   pub put : IsPut config tables (added journal (lines tables (entries_of (happenings ++ at_end)))) transcript new
+  pub short : IsShort (added journal (lines tables (entries_of (happenings ++ at_end))))

@@ -15,8 +15,9 @@ ghost use Rattle.online_recovery.specs.State.{new_standing};
 ghost use Rattle.recovery_seat.specs.Places.{standing_of};
 ghost use Rattle.recovery_seat.specs.Steps.{state};
 ghost use Rattle.session_seat.specs.Speech.{closed_line, message_line, no_place, word_line};
-ghost use Rattle.session_player.specs.Deeds.{CanBeSent};
-ghost use Rattle.session_player.specs.Journals.{Went, machine_in_slot, machines_of, standing_in_slot, standings_of};
+ghost use Rattle.session_player.specs.Deeds.{CanBeSent, goes_on};
+ghost use Rattle.session_player.specs.declared.connecting.Then.TheVariants.{Rounds};
+ghost use Rattle.session_player.specs.Journals.{machine_in_slot, machines_of, standing_in_slot, standings_of};
 ghost use Rattle.pool_config.specs.declared.config.Node.{Node};
 ghost use Rattle.session_wire.specs.Shown.{View, IsFresh, shown, with_piece};
 ghost use Rattle.session_player.specs.Sent.{sent_of};
@@ -66,6 +67,7 @@ pub(crate) fn connect(
     ensures connects { OnOk result (Connects setting.entry.config.now.children s.number
         (hearers_of seats.old.slots.items) book.old.lines (hearers_of seats.new.slots.items)
         book.new.lines) }
+    ensures rounds { IfOk result (λ next. next ≡ Rounds) }
 {
     let place = place_of(s);
     if is_taken(&seats.slots[place]) {
@@ -93,6 +95,7 @@ fn is_full(seats: &Seats, config: &Config) -> bool
 fn tell_busy(alloc: Global, s: SessionId, book: &mut Book) -> Result<Then, StepFault>
     ensures lines { OnOk result (book.new.lines
         ≡ book.old.lines ++ word_line s.number (codes "busy")) }
+    ensures rounds { IfOk result (λ next. next ≡ Rounds) }
     ensures journal { book.new.journal ≡ book.old.journal }
 {
     book.say_of(alloc, s, "busy")?;
@@ -103,6 +106,7 @@ fn tell_busy(alloc: Global, s: SessionId, book: &mut Book) -> Result<Then, StepF
 fn tell_full(alloc: Global, s: SessionId, book: &mut Book) -> Result<Then, StepFault>
     ensures lines { OnOk result (book.new.lines ≡ book.old.lines
         ++ (message_line s.number no_place ++ closed_line s.number)) }
+    ensures rounds { IfOk result (λ next. next ≡ Rounds) }
     ensures journal { book.new.journal ≡ book.old.journal }
 {
     put_no_place(alloc, s, book)?;
@@ -121,10 +125,7 @@ fn client_of(setting: Setting, s: SessionId, cut: Cut) -> Result<Client, StepFau
 {
     let mut place = Place::new(setting.alloc, s, policy_of(setting.config))?;
     match feed(&mut place.seat.wire, cut, &START) {
-        Ok(()) => Ok(Client {
-            place,
-            rests: false,
-        }),
+        Ok(()) => Ok(Client { place }),
         Err(fault) => {
             drop(place);
             Err(StepFault::from(fault))
@@ -150,6 +151,7 @@ pub(crate) fn address(
     ensures addresses { OnOk result (Addresses s.number wish.entry
         (hearers_of seats.old.slots.items) book.old.lines (hearers_of seats.new.slots.items)
         book.new.lines) }
+    ensures rounds { goes_on wish.entry ≡ true → IfOk result (λ next. next ≡ Rounds) }
 {
     let place = place_of(s);
     let is_there = grant(alloc, &mut seats.slots[place], wish, cut)?;
@@ -206,7 +208,10 @@ fn grant_client(alloc: Global, client: &mut Client, wish: Wish, cut: Cut) -> Res
             client.place.seat.turn = Turn::Free;
             Ok(())
         }
-        Wish::Until(_) => Ok(()),
+        Wish::Until(_) => {
+            client.place.seat.turn = Turn::Held;
+            Ok(())
+        }
         Wish::Send(line) => send(alloc, client, line, cut),
     }
 }
@@ -217,18 +222,20 @@ fn send(alloc: Global, client: &mut Client, line: &ScriptLine, cut: Cut) -> Resu
     ensures hears { OnOk result (shown client.new.place.seat.wire
         ≡ with_piece (shown client.old.place.seat.wire) (sent_of (line_of line.now))) }
     ensures over { client.new.place.seat.over ≡ client.old.place.seat.over }
+    ensures turn { client.new.place.seat.turn ≡ client.old.place.seat.turn }
     ensures s { client.new.place.seat.s ≡ client.old.place.seat.s }
     ensures core { client.new.place.seat.core ≡ client.old.place.seat.core }
     ensures standing { (layout : Layout) → standing_of layout client.new.place
         ≡ standing_of layout client.old.place }
 {
     let bytes = sent_of(alloc, line)?;
-    client.rests = false;
     feed(&mut client.place.seat.wire, cut, bytes.as_slice())
 }
 
 /// What is played behind a line that asks this of a session, whether it is connected or not.
-fn then_of(s: SessionId, wish: Wish) -> Then {
+fn then_of(s: SessionId, wish: Wish) -> Then
+    ensures { goes_on wish.entry ≡ true → result ≡ Rounds }
+{
     match wish {
         Wish::Hold => Then::Nothing,
         Wish::Until(mark) => Then::Alone(s, mark),
@@ -243,12 +250,6 @@ pub(crate) fn lose<B: Backend>(
     world: &mut World<B>,
     book: &mut Book,
 ) -> Result<Then, StepFault>
-    ensures went { (machines : SessionId → Machine) → (recoveries : SessionId → Standing)
-        → OnOk result (Went setting.entry.tables.now
-        (state (shared_of B.meaning world.old.gate.state world.old.tables world.old.count
-        world.old.shelf.items) machines recoveries) book.old.journal
-        (state (shared_of B.meaning world.new.gate.state world.new.tables world.new.count
-        world.new.shelf.items) machines recoveries) book.new.journal) }
     ensures loses { (machines : SessionId → Machine) → (recoveries : SessionId → Standing)
         → (hearers : ℕ → Maybe Hearer) → (moment : ℤ) → (nodes : Sequence Node)
         → OnOk result ((happenings : Sequence Happening) × LosesOne setting.entry.tables.now moment
@@ -258,6 +259,7 @@ pub(crate) fn lose<B: Backend>(
         happenings
         (board (state (shared_of B.meaning world.new.gate.state world.new.tables world.new.count
         world.new.shelf.items) machines recoveries) hearers book.new.journal book.new.lines)) }
+    ensures rounds { IfOk result (λ next. next ≡ Rounds) }
     ensures tables { world.new.tables ≡ world.old.tables }
     ensures count { world.new.count ≡ world.old.count }
     ensures boxes { length world.new.shelf.items ≡ length world.old.shelf.items }

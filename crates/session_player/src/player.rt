@@ -1,5 +1,5 @@
 //! A script, played part by part: one for each line, and one for the end.
-ghost use Rattle.std.specs.Prelude.{◌≡◌, ◌≤◌, ℕ, List as Sequence, Option as Maybe, length, map, OnOk, IfErr};
+ghost use Rattle.std.specs.Prelude.{◌≡◌, ◌≤◌, ℕ, List as Sequence, Option as Maybe, true, length, map, OnOk, OnErr, IfOk, IfErr};
 ghost use Rattle.std.specs.List.{AllByRecursion};
 ghost use Rattle.pgproto.specs.Line.{line_of};
 ghost use Rattle.pgproto.specs.Spelling.{IsOfGrammar};
@@ -14,13 +14,16 @@ ghost use Rattle.session_seat.specs.Shared.{shared_of};
 ghost use Rattle.session_player.specs.declared.fault.PlayFault.TheVariants as faults;
 ghost use Rattle.online_recovery.specs.declared.layout.Layout.{Layout};
 ghost use Rattle.recovery_seat.specs.Places.{IsLayout};
-ghost use Rattle.session_player.specs.Journals.{IsJournaled, IsPut, Went, machine_in_slot, machines_of, standing_in_slot, standings_of, state_of};
+ghost use Rattle.session_player.specs.Journals.{IsPut, IsShort, machine_in_slot, machines_of, standing_in_slot, standings_of};
 ghost use Rattle.session_player.specs.Slots.{ArePlaced, IsPlaced};
 ghost use Rattle.session_player.specs.Times.{IsMomentRead};
 ghost use Rattle.session_player.specs.Deeds.{IsDeedOf};
+ghost use Rattle.session_player.specs.declared.connecting.Then.TheVariants.{Rounds};
 ghost use Rattle.session_player.specs.declared.deed.Deed.{Deed as Doing};
 ghost use Rattle.session_player.specs.Speaking.{Board, Happening, hearer_in, hearers_of};
+ghost use Rattle.session_player.specs.Stillness.{goes_round};
 ghost use Rattle.session_player.specs.Transcript.{AreTold, Does, IsEnd, IsTold, IsTranscript, Part, Sets, input_ended, scene_of};
+ghost use Rattle.session_player.specs.BrokenOff.{AreTellingOn, HasEndFront, HasPartFront, IsBrokenOff};
 ghost use Rattle.session_player.specs.Written.{ArePlayed, AreParts, Grew, IsPart};
 
 use crate::connecting::{Then, address, connect, lose};
@@ -29,7 +32,7 @@ use crate::fault::PlayFault;
 use crate::feeding::Cut;
 use crate::round::{go_until, rounds};
 use crate::slots::{Seats, Slot};
-use crate::writing::{put_echo, put_journal, put_told};
+use crate::writing::{is_short, put_echo, put_journal, put_told};
 use backend_trait::Backend;
 use pg_values::{ColType, Value, ValueFault, from_text};
 use pgproto::ScriptLine;
@@ -64,18 +67,11 @@ pub fn play<B: Backend, O: Sink>(
     // For each line its echo was written, and behind it what is told.
     ensures all { OnOk result (ArePlayed (map line_of script.now) (O.taken out.old)
         (O.taken out.new)) }
-    // The journal behind it tells of a schedule: from the gate and the stores as they stood, and
-    // no client connected, to the gate and the stores as they stand.
-    ensures journal { (layout : Layout) → IsLayout setting.entry.config.now
-        setting.entry.tables.now layout → OnOk result (IsJournaled setting.entry.config.now
-        setting.entry.tables.now layout (map line_of script.now) journal
-        (shared_of B.meaning world.old.gate.state world.old.tables world.old.count
-        world.old.shelf.items)
-        (shared_of B.meaning world.new.gate.state world.new.tables world.new.count
-        world.new.shelf.items) (O.taken out.old) (O.taken out.new)) }
-    // And behind each echo stands what is told of such a schedule: each client is told what its
-    // wire puts out, led to its orders by what the lines have sent, and by the replies; and each
-    // detachment, attachment and closing. With its journal it is this very schedule.
+    // Behind each echo stands what is told of a schedule, which leads from the gate and the stores
+    // as they stood, and no client connected, to the gate and the stores as they stand. Each
+    // client is told what its wire puts out, led to its orders by what the lines have sent, and by
+    // the replies; and each detachment, attachment and closing. A part ends only where no session
+    // can go on. A journal that is kept stands behind all, and tells this very schedule.
     ensures transcript { (layout : Layout) → IsLayout setting.entry.config.now
         setting.entry.tables.now layout → OnOk result (IsTranscript setting.entry.config.now
         setting.entry.tables.now layout world.old.count (map line_of script.now)
@@ -84,6 +80,14 @@ pub fn play<B: Backend, O: Sink>(
         world.old.shelf.items)
         (shared_of B.meaning world.new.gate.state world.new.tables world.new.count
         world.new.shelf.items) (O.taken out.old) (O.taken out.new)) }
+    // Where it is broken off, a front of such a transcript was written: the parts of the first
+    // lines, and a front of the next; or all parts, and a front of the end.
+    ensures front { (layout : Layout) → IsLayout setting.entry.config.now setting.entry.tables.now
+        layout → OnErr result (IsBrokenOff setting.entry.config.now setting.entry.tables.now layout
+        world.old.count (map line_of script.now) setting.entry.moment journal
+        (shared_of B.meaning world.old.gate.state world.old.tables world.old.count
+        world.old.shelf.items) (O.taken out.old) (O.taken out.new)) }
+    ensures attached { IfOk result (λ set. set ≡ world.new.gate.state.attached) }
     // What was taken begins with what had been taken, whatever the answer.
     ensures grows { Grew (O.taken out.old) (O.taken out.new) }
     ensures tables { world.new.tables ≡ world.old.tables }
@@ -118,14 +122,6 @@ fn play_lines<B: Backend, O: Sink>(
     requires allowed { AreAllowed setting.tables.now }
     requires in_range { AreInRange setting.tables.now }
     requires tables { world.old.tables ≡ setting.tables.now }
-    ensures went { (layout : Layout) → IsLayout setting.entry.config.now setting.entry.tables.now
-        layout → OnOk result (Went setting.entry.tables.now
-        (state_of (policy_in setting.entry.config.now) layout
-        (shared_of B.meaning world.old.gate.state world.old.tables world.old.count
-        world.old.shelf.items) scene.old.seats.slots.items) scene.old.book.journal
-        (state_of (policy_in setting.entry.config.now) layout
-        (shared_of B.meaning world.new.gate.state world.new.tables world.new.count
-        world.new.shelf.items) scene.new.seats.slots.items) scene.new.book.journal) }
     ensures parts { OnOk result (AreParts (map line_of script.now) (O.taken out.old)
         (O.taken out.new)) }
     ensures told { (layout : Layout) → IsLayout setting.entry.config.now setting.entry.tables.now
@@ -138,6 +134,14 @@ fn play_lines<B: Backend, O: Sink>(
         (scene_of (policy_in setting.entry.config.now) layout (shared_of B.meaning
         world.new.gate.state world.new.tables world.new.count world.new.shelf.items)
         scene.new.moment scene.new.seats.slots.items scene.new.book) (O.taken out.new)) }
+    ensures front { (layout : Layout) → IsLayout setting.entry.config.now setting.entry.tables.now
+        layout → OnErr result (AreTellingOn setting.entry.tables.now
+        setting.entry.config.now.nodes setting.entry.config.now.children world.old.count
+        (map line_of script.now)
+        (scene_of (policy_in setting.entry.config.now) layout (shared_of B.meaning
+        world.old.gate.state world.old.tables world.old.count world.old.shelf.items)
+        scene.old.moment scene.old.seats.slots.items scene.old.book) (O.taken out.old)
+        (O.taken out.new)) }
     ensures grows { Grew (O.taken out.old) (O.taken out.new) }
     ensures tables { world.new.tables ≡ world.old.tables }
     ensures count { world.new.count ≡ world.old.count }
@@ -164,14 +168,6 @@ fn play_part<B: Backend, O: Sink>(
     requires allowed { AreAllowed setting.tables.now }
     requires in_range { AreInRange setting.tables.now }
     requires tables { world.old.tables ≡ setting.tables.now }
-    ensures went { (layout : Layout) → IsLayout setting.entry.config.now setting.entry.tables.now
-        layout → OnOk result (Went setting.entry.tables.now
-        (state_of (policy_in setting.entry.config.now) layout
-        (shared_of B.meaning world.old.gate.state world.old.tables world.old.count
-        world.old.shelf.items) scene.old.seats.slots.items) scene.old.book.journal
-        (state_of (policy_in setting.entry.config.now) layout
-        (shared_of B.meaning world.new.gate.state world.new.tables world.new.count
-        world.new.shelf.items) scene.new.seats.slots.items) scene.new.book.journal) }
     ensures part { OnOk result (IsPart (line_of line.now) (O.taken out.old) (O.taken out.new)) }
     ensures told { (layout : Layout) → IsLayout setting.entry.config.now setting.entry.tables.now
         layout → OnOk result ((happenings : Sequence Happening) × IsTold
@@ -183,6 +179,14 @@ fn play_part<B: Backend, O: Sink>(
         (scene_of (policy_in setting.entry.config.now) layout (shared_of B.meaning
         world.new.gate.state world.new.tables world.new.count world.new.shelf.items)
         scene.new.moment scene.new.seats.slots.items scene.new.book) (O.taken out.new)) }
+    ensures front { (layout : Layout) → IsLayout setting.entry.config.now setting.entry.tables.now
+        layout → OnErr result (HasPartFront setting.entry.tables.now
+        setting.entry.config.now.nodes setting.entry.config.now.children world.old.count
+        (line_of line.now)
+        (scene_of (policy_in setting.entry.config.now) layout (shared_of B.meaning
+        world.old.gate.state world.old.tables world.old.count world.old.shelf.items)
+        scene.old.moment scene.old.seats.slots.items scene.old.book) (O.taken out.old)
+        (O.taken out.new)) }
     ensures grows { Grew (O.taken out.old) (O.taken out.new) }
     ensures tables { world.new.tables ≡ world.old.tables }
     ensures count { world.new.count ≡ world.old.count }
@@ -221,14 +225,6 @@ fn play_line<B: Backend>(
     requires allowed { AreAllowed setting.tables.now }
     requires in_range { AreInRange setting.tables.now }
     requires tables { world.old.tables ≡ setting.tables.now }
-    ensures went { (layout : Layout) → IsLayout setting.entry.config.now setting.entry.tables.now
-        layout → OnOk result (Went setting.entry.tables.now
-        (state_of (policy_in setting.entry.config.now) layout
-        (shared_of B.meaning world.old.gate.state world.old.tables world.old.count
-        world.old.shelf.items) scene.old.seats.slots.items) scene.old.book.journal
-        (state_of (policy_in setting.entry.config.now) layout
-        (shared_of B.meaning world.new.gate.state world.new.tables world.new.count
-        world.new.shelf.items) scene.new.seats.slots.items) scene.new.book.journal) }
     ensures part { (layout : Layout) → IsLayout setting.entry.config.now setting.entry.tables.now
         layout → OnOk result ((happenings : Sequence Happening) × Part
         setting.entry.tables.now setting.entry.config.now.nodes
@@ -262,14 +258,6 @@ fn do_line<B: Backend>(
     world: &mut World<B>,
 ) -> Result<Then, StepFault>
     requires { IsOfGrammar (line_of line.now) }
-    ensures went { (layout : Layout) → IsLayout setting.entry.config.now setting.entry.tables.now
-        layout → OnOk result (Went setting.entry.tables.now
-        (state_of (policy_in setting.entry.config.now) layout
-        (shared_of B.meaning world.old.gate.state world.old.tables world.old.count
-        world.old.shelf.items) scene.old.seats.slots.items) scene.old.book.journal
-        (state_of (policy_in setting.entry.config.now) layout
-        (shared_of B.meaning world.new.gate.state world.new.tables world.new.count
-        world.new.shelf.items) scene.new.seats.slots.items) scene.new.book.journal) }
     ensures does { (layout : Layout) → IsLayout setting.entry.config.now setting.entry.tables.now
         layout → OnOk result ((deed : Doing) × IsDeedOf (line_of line.now) deed
         × (happenings : Sequence Happening) × Does setting.entry.tables.now
@@ -280,6 +268,7 @@ fn do_line<B: Backend>(
         (scene_of (policy_in setting.entry.config.now) layout (shared_of B.meaning
         world.new.gate.state world.new.tables world.new.count world.new.shelf.items)
         scene.new.moment scene.new.seats.slots.items scene.new.book)) }
+    ensures rounds { goes_round (line_of line.now) ≡ true → IfOk result (λ next. next ≡ Rounds) }
     ensures tables { world.new.tables ≡ world.old.tables }
     ensures count { world.new.count ≡ world.old.count }
     ensures boxes { length world.new.shelf.items ≡ length world.old.shelf.items }
@@ -343,17 +332,6 @@ fn play_end<B: Backend, O: Sink>(
     requires in_range { AreInRange setting.tables.now }
     requires tables { world.old.tables ≡ setting.tables.now }
     requires config { IsAllowed setting.config.now }
-    ensures went { (layout : Layout) → IsLayout setting.entry.config.now setting.entry.tables.now
-        layout → OnOk result (Went setting.entry.tables.now
-        (state_of (policy_in setting.entry.config.now) layout
-        (shared_of B.meaning world.old.gate.state world.old.tables world.old.count
-        world.old.shelf.items) scene.old.seats.slots.items) scene.old.book.journal
-        (state_of (policy_in setting.entry.config.now) layout
-        (shared_of B.meaning world.new.gate.state world.new.tables world.new.count
-        world.new.shelf.items) scene.new.seats.slots.items) scene.new.book.journal) }
-    ensures put { OnOk result ((told : Maybe (Sequence ℕ)) × Grew (O.taken out.old) told
-        × IsPut setting.entry.config.now setting.entry.tables.now scene.new.book.journal told
-        (O.taken out.new)) }
     ensures ends { (layout : Layout) → IsLayout setting.entry.config.now setting.entry.tables.now
         layout → OnOk result ((happenings : Sequence Happening) × (last : Board)
         × (told : Maybe (Sequence ℕ)) × IsEnd setting.entry.tables.now
@@ -362,9 +340,15 @@ fn play_end<B: Backend, O: Sink>(
         world.old.gate.state world.old.tables world.old.count world.old.shelf.items)
         scene.old.moment scene.old.seats.slots.items scene.old.book)
         (O.taken out.old) happenings last told × IsPut setting.entry.config.now
-        setting.entry.tables.now last.journal told (O.taken out.new)
+        setting.entry.tables.now last.journal told (O.taken out.new) × IsShort last.journal
         × (last.state.shared ≡ shared_of B.meaning world.new.gate.state world.new.tables
         world.new.count world.new.shelf.items)) }
+    ensures front { (layout : Layout) → IsLayout setting.entry.config.now setting.entry.tables.now
+        layout → OnErr result (HasEndFront setting.entry.config.now setting.entry.tables.now
+        (scene_of (policy_in setting.entry.config.now) layout (shared_of B.meaning
+        world.old.gate.state world.old.tables world.old.count world.old.shelf.items)
+        scene.old.moment scene.old.seats.slots.items scene.old.book) (O.taken out.old)
+        (O.taken out.new)) }
     ensures grows { Grew (O.taken out.old) (O.taken out.new) }
     ensures tables { world.new.tables ≡ world.old.tables }
     ensures count { world.new.count ≡ world.old.count }
@@ -377,6 +361,7 @@ fn play_end<B: Backend, O: Sink>(
     let last = at_moment(setting, scene.moment);
     rounds(last, &mut scene.seats, world, &mut scene.book)?;
     put_told(&mut scene.book, out)?;
+    is_short(&scene.book.journal);
     put_journal(setting, &scene.book, out)
 }
 
@@ -418,7 +403,6 @@ fn end_input(slot: &mut Slot)
         Slot::Free => {}
         Slot::Taken(client) => {
             client.place.seat.turn = Turn::Free;
-            client.rests = false;
             client.place.seat.wire.end_input();
         }
     }

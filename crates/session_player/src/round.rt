@@ -2,13 +2,13 @@
 //!
 //! ```text
 //! turn      steps of one session, until it waits, rests, is closed, or has come to the mark
-//! round     a turn of each session in the order of numbers, but of those that are held or rest
+//! round     a turn of each session in the order of numbers, but of those that are held
 //! rounds    round after round, up to the first without an event
 //! ```
 //!
 //! A turn goes on behind an event alone, and rounds go on behind a round with an event. A play has
 //! fewer than 2^64 events, so turns and rounds end.
-ghost use Rattle.std.specs.Prelude.{◌≡◌, ◌↔◌, ◌<◌, ◌≤◌, ℕ, suc, length, Some, IsTrue, IfOk, OnOk, false, slice_index_or};
+ghost use Rattle.std.specs.Prelude.{◌≡◌, ◌↔◌, ◌<◌, ◌≤◌, ℕ, suc, length, None, Some, IsTrue, IfOk, OnOk, false, slice_index_or};
 ghost use Rattle.pool_base.specs.declared.session_id.SessionId.{SessionId};
 ghost use Rattle.schema.specs.Allowed.{AreAllowed};
 ghost use Rattle.schema.specs.Ranges.{AreInRange};
@@ -23,8 +23,10 @@ ghost use Rattle.recovery_seat.specs.Places.{IsLayout, standing_of};
 ghost use Rattle.recovery_seat.specs.Steps.{at};
 ghost use Rattle.session_player.specs.declared.round.TurnEnd.TheVariants.{Closed};
 ghost use Rattle.session_player.specs.declared.slots.Slot.TheVariants.{Free};
-ghost use Rattle.session_player.specs.Journals.{Goes, Went, machine_in_slot, standing_in_slot, state_of};
+ghost use Rattle.session_player.specs.Journals.{machine_in_slot, standing_in_slot};
 ghost use Rattle.session_player.specs.Slots.{ArePlaced, IsPlaced, IsHeld, IsHeldOrFree};
+ghost use Rattle.session_player.specs.Stillness.{AreStill, EndsStill, IsSlotStill, StandsStill};
+ghost use Rattle.session_wire.specs.Shown.{shown};
 ghost use Rattle.session_player.specs.Speaking.{Spoke, SpokeAlone, board_of, hearer_in, hearer_of, left_at, spot};
 ghost use Rattle.session_player.specs.Turns.{EndsBehind, IsTaken};
 
@@ -83,14 +85,6 @@ fn take_steps<B: Backend>(
     requires allowed { AreAllowed setting.tables.now }
     requires in_range { AreInRange setting.tables.now }
     requires tables { world.old.tables ≡ setting.tables.now }
-    ensures goes { (layout : Layout) → IsLayout setting.entry.config.now setting.entry.tables.now
-        layout → OnOk result (Goes setting.entry.tables.now place.old.seat.s others.bits
-        (at (shared_of B.meaning world.old.gate.state world.old.tables world.old.count
-        world.old.shelf.items) (machine_in place.old.seat.core) (standing_of layout place.old)
-        book.old.journal)
-        (at (shared_of B.meaning world.new.gate.state world.new.tables world.new.count
-        world.new.shelf.items) (machine_in place.new.seat.core) (standing_of layout place.new)
-        book.new.journal)) }
     ensures speaks { (layout : Layout) → IsLayout setting.entry.config.now setting.entry.tables.now
         layout → IfOk result (λ end. SpokeAlone setting.entry.tables.now setting.entry.moment
         setting.entry.config.now.nodes place.old.seat.s others.bits
@@ -105,6 +99,15 @@ fn take_steps<B: Backend>(
     ensures at_rest { (layout : Layout) → IsLayout setting.entry.config.now
         setting.entry.tables.now layout → IfOk result (λ end. end ≡ Closed
         → standing_of layout place.new ≡ new_standing place.old.seat.s layout) }
+    ensures still { (layout : Layout) → IsLayout setting.entry.config.now setting.entry.tables.now
+        layout → IfOk result (λ end. EndsStill until end
+        (StandsStill world.new.gate.state (machine_in place.new.seat.core)
+        (standing_of layout place.new) (shown place.new.seat.wire) place.new.seat.over)) }
+    ensures unmoved { OnOk result (book.new.events ≤ book.old.events → shared_of B.meaning
+        world.new.gate.state world.new.tables world.new.count world.new.shelf.items
+        ≡ shared_of B.meaning world.old.gate.state world.old.tables world.old.count
+        world.old.shelf.items) }
+    ensures events { book.old.events ≤ book.new.events }
     ensures same { place.new.seat.s ≡ place.old.seat.s }
     ensures turn { place.new.seat.turn ≡ place.old.seat.turn }
     ensures tables { world.new.tables ≡ world.old.tables }
@@ -144,14 +147,6 @@ fn turn_of<B: Backend>(
     requires allowed { AreAllowed setting.tables.now }
     requires in_range { AreInRange setting.tables.now }
     requires tables { world.old.tables ≡ setting.tables.now }
-    ensures goes { (layout : Layout) → IsLayout setting.entry.config.now setting.entry.tables.now
-        layout → OnOk result (Goes setting.entry.tables.now client.old.place.seat.s others.bits
-        (at (shared_of B.meaning world.old.gate.state world.old.tables world.old.count
-        world.old.shelf.items) (machine_in client.old.place.seat.core)
-        (standing_of layout client.old.place) book.old.journal)
-        (at (shared_of B.meaning world.new.gate.state world.new.tables world.new.count
-        world.new.shelf.items) (machine_in client.new.place.seat.core)
-        (standing_of layout client.new.place) book.new.journal)) }
     ensures speaks { (layout : Layout) → IsLayout setting.entry.config.now setting.entry.tables.now
         layout → IfOk result (λ end. SpokeAlone setting.entry.tables.now setting.entry.moment
         setting.entry.config.now.nodes client.old.place.seat.s others.bits
@@ -167,14 +162,22 @@ fn turn_of<B: Backend>(
     ensures at_rest { (layout : Layout) → IsLayout setting.entry.config.now
         setting.entry.tables.now layout → IfOk result (λ end. end ≡ Closed
         → standing_of layout client.new.place ≡ new_standing client.old.place.seat.s layout) }
+    ensures still { (layout : Layout) → IsLayout setting.entry.config.now setting.entry.tables.now
+        layout → IfOk result (λ end. EndsStill None end
+        (StandsStill world.new.gate.state (machine_in client.new.place.seat.core)
+        (standing_of layout client.new.place) (shown client.new.place.seat.wire)
+        client.new.place.seat.over)) }
+    ensures unmoved { OnOk result (book.new.events ≤ book.old.events → shared_of B.meaning
+        world.new.gate.state world.new.tables world.new.count world.new.shelf.items
+        ≡ shared_of B.meaning world.old.gate.state world.old.tables world.old.count
+        world.old.shelf.items) }
+    ensures events { book.old.events ≤ book.new.events }
     ensures same { client.new.place.seat.s ≡ client.old.place.seat.s }
     ensures tables { world.new.tables ≡ world.old.tables }
     ensures count { world.new.count ≡ world.old.count }
     ensures boxes { length world.new.shelf.items ≡ length world.old.shelf.items }
 {
-    let end = take_steps(setting, &mut client.place, others, None, world, book)?;
-    client.rests = matches!(end, TurnEnd::Rests);
-    Ok(end)
+    take_steps(setting, &mut client.place, others, None, world, book)
 }
 
 /// The turn of a slot in a round.
@@ -188,15 +191,6 @@ fn turn<B: Backend>(
     requires allowed { AreAllowed setting.tables.now }
     requires in_range { AreInRange setting.tables.now }
     requires tables { world.old.tables ≡ setting.tables.now }
-    ensures goes { (layout : Layout) → IsLayout setting.entry.config.now setting.entry.tables.now
-        layout → (before : ℕ) → (s : SessionId) → s.number ≡ suc before
-        → IsPlaced before slot.old → OnOk result (Goes setting.entry.tables.now s others.bits
-        (at (shared_of B.meaning world.old.gate.state world.old.tables world.old.count
-        world.old.shelf.items) (machine_in_slot (policy_in setting.entry.config.now) s slot.old)
-        (standing_in_slot layout s slot.old) book.old.journal)
-        (at (shared_of B.meaning world.new.gate.state world.new.tables world.new.count
-        world.new.shelf.items) (machine_in_slot (policy_in setting.entry.config.now) s slot.new)
-        (standing_in_slot layout s slot.new) book.new.journal)) }
     ensures speaks { (layout : Layout) → IsLayout setting.entry.config.now setting.entry.tables.now
         layout → (before : ℕ) → (s : SessionId) → s.number ≡ suc before
         → IsPlaced before slot.old → OnOk result (SpokeAlone setting.entry.tables.now
@@ -208,6 +202,14 @@ fn turn<B: Backend>(
         world.new.shelf.items) (machine_in_slot (policy_in setting.entry.config.now) s slot.new)
         (standing_in_slot layout s slot.new) book.new.journal) (hearer_in slot.new)
         book.new.lines)) }
+    ensures still { (layout : Layout) → IsLayout setting.entry.config.now setting.entry.tables.now
+        layout → OnOk result (IsSlotStill world.new.gate.state layout
+        slot.new) }
+    ensures unmoved { OnOk result (book.new.events ≤ book.old.events → shared_of B.meaning
+        world.new.gate.state world.new.tables world.new.count world.new.shelf.items
+        ≡ shared_of B.meaning world.old.gate.state world.old.tables world.old.count
+        world.old.shelf.items) }
+    ensures events { book.old.events ≤ book.new.events }
     ensures placed { (before : ℕ) → IsPlaced before slot.old → IsPlaced before slot.new }
     ensures tables { world.new.tables ≡ world.old.tables }
     ensures count { world.new.count ≡ world.old.count }
@@ -223,14 +225,14 @@ fn turn<B: Backend>(
     Ok(())
 }
 
-/// Whether the session of a slot takes a turn. One that is held takes no step; one that rests would
-/// find nothing to do.
+/// Whether the session of a slot takes a turn. One that is held takes no step.
 fn is_due(slot: &Slot) -> bool
-    ensures { IsHeld slot.now → result ≡ false }
+    ensures held { IsHeld slot.now → result ≡ false }
+    ensures others { result ≡ false → IsHeldOrFree slot.now }
 {
     match slot {
         Slot::Free => false,
-        Slot::Taken(client) => !client.rests && !is_held(client.place.seat.turn),
+        Slot::Taken(client) => !is_held(client.place.seat.turn),
     }
 }
 
@@ -248,16 +250,6 @@ fn turn_at<B: Backend>(
     requires placed { ArePlaced 0 slots.old }
     requires below { at < length slots.old }
     requires few { length slots.old ≤ 64 }
-    ensures went { (layout : Layout) → IsLayout setting.entry.config.now setting.entry.tables.now
-        layout → OnOk result (Went setting.entry.tables.now
-        (state_of (policy_in setting.entry.config.now) layout
-        (shared_of B.meaning world.old.gate.state
-        world.old.tables world.old.count world.old.shelf.items) slots.old)
-        book.old.journal
-        (state_of (policy_in setting.entry.config.now) layout
-        (shared_of B.meaning world.new.gate.state
-        world.new.tables world.new.count world.new.shelf.items) slots.new)
-        book.new.journal) }
     ensures speaks { (layout : Layout) → IsLayout setting.entry.config.now setting.entry.tables.now
         layout → OnOk result (Spoke setting.entry.tables.now setting.entry.moment
         setting.entry.config.now.nodes
@@ -267,6 +259,16 @@ fn turn_at<B: Backend>(
         (board_of (policy_in setting.entry.config.now) layout (shared_of B.meaning
         world.new.gate.state world.new.tables world.new.count
         world.new.shelf.items) slots.new book.new)) }
+    ensures still { (layout : Layout) → IsLayout setting.entry.config.now setting.entry.tables.now
+        layout → OnOk result (IsSlotStill world.new.gate.state layout
+        (slice_index_or slots.new at Free)) }
+    ensures others { (j : ℕ) → (j ≡ at → ⊥) → slice_index_or slots.new j Free
+        ≡ slice_index_or slots.old j Free }
+    ensures unmoved { OnOk result (book.new.events ≤ book.old.events → shared_of B.meaning
+        world.new.gate.state world.new.tables world.new.count world.new.shelf.items
+        ≡ shared_of B.meaning world.old.gate.state world.old.tables world.old.count
+        world.old.shelf.items) }
+    ensures events { book.old.events ≤ book.new.events }
     ensures held { IsHeld (slice_index_or slots.old at Free) → slots.new ≡ slots.old }
     ensures quiet { IsHeld (slice_index_or slots.old at Free) → book.new ≡ book.old }
     ensures placed { ArePlaced 0 slots.new }
@@ -294,16 +296,6 @@ fn round<B: Backend>(
     requires tables { world.old.tables ≡ setting.tables.now }
     requires placed { ArePlaced 0 slots.old }
     requires few { length slots.old ≤ 64 }
-    ensures went { (layout : Layout) → IsLayout setting.entry.config.now setting.entry.tables.now
-        layout → OnOk result (Went setting.entry.tables.now
-        (state_of (policy_in setting.entry.config.now) layout
-        (shared_of B.meaning world.old.gate.state
-        world.old.tables world.old.count world.old.shelf.items) slots.old)
-        book.old.journal
-        (state_of (policy_in setting.entry.config.now) layout
-        (shared_of B.meaning world.new.gate.state
-        world.new.tables world.new.count world.new.shelf.items) slots.new)
-        book.new.journal) }
     ensures speaks { (layout : Layout) → IsLayout setting.entry.config.now setting.entry.tables.now
         layout → OnOk result (Spoke setting.entry.tables.now setting.entry.moment
         setting.entry.config.now.nodes
@@ -313,6 +305,10 @@ fn round<B: Backend>(
         (board_of (policy_in setting.entry.config.now) layout (shared_of B.meaning
         world.new.gate.state world.new.tables world.new.count
         world.new.shelf.items) slots.new book.new)) }
+    ensures still { (layout : Layout) → IsLayout setting.entry.config.now setting.entry.tables.now
+        layout → OnOk result (book.new.events ≤ book.old.events
+        → AreStill world.new.gate.state layout slots.new) }
+    ensures events { book.old.events ≤ book.new.events }
     ensures placed { ArePlaced 0 slots.new }
     ensures slots { length slots.new ≡ length slots.old }
     ensures tables { world.new.tables ≡ world.old.tables }
@@ -335,16 +331,6 @@ pub(crate) fn rounds<B: Backend>(
     requires allowed { AreAllowed setting.tables.now }
     requires in_range { AreInRange setting.tables.now }
     requires tables { world.old.tables ≡ setting.tables.now }
-    ensures went { (layout : Layout) → IsLayout setting.entry.config.now setting.entry.tables.now
-        layout → OnOk result (Went setting.entry.tables.now
-        (state_of (policy_in setting.entry.config.now) layout
-        (shared_of B.meaning world.old.gate.state
-        world.old.tables world.old.count world.old.shelf.items) seats.old.slots.items)
-        book.old.journal
-        (state_of (policy_in setting.entry.config.now) layout
-        (shared_of B.meaning world.new.gate.state
-        world.new.tables world.new.count world.new.shelf.items) seats.new.slots.items)
-        book.new.journal) }
     ensures speaks { (layout : Layout) → IsLayout setting.entry.config.now setting.entry.tables.now
         layout → OnOk result (Spoke setting.entry.tables.now setting.entry.moment
         setting.entry.config.now.nodes
@@ -354,6 +340,9 @@ pub(crate) fn rounds<B: Backend>(
         (board_of (policy_in setting.entry.config.now) layout (shared_of B.meaning
         world.new.gate.state world.new.tables world.new.count
         world.new.shelf.items) seats.new.slots.items book.new)) }
+    ensures still { (layout : Layout) → IsLayout setting.entry.config.now setting.entry.tables.now
+        layout → OnOk result (AreStill world.new.gate.state layout
+        seats.new.slots.items) }
     ensures tables { world.new.tables ≡ world.old.tables }
     ensures count { world.new.count ≡ world.old.count }
     ensures boxes { length world.new.shelf.items ≡ length world.old.shelf.items }
@@ -367,7 +356,7 @@ pub(crate) fn rounds<B: Backend>(
     }
 }
 
-/// A session that is connected takes steps up to a mark, and is held there.
+/// A session that is connected takes steps up to a mark.
 fn turn_until<B: Backend>(
     setting: Setting,
     slot: &mut Slot,
@@ -379,15 +368,6 @@ fn turn_until<B: Backend>(
     requires allowed { AreAllowed setting.tables.now }
     requires in_range { AreInRange setting.tables.now }
     requires tables { world.old.tables ≡ setting.tables.now }
-    ensures goes { (layout : Layout) → IsLayout setting.entry.config.now setting.entry.tables.now
-        layout → (before : ℕ) → (s : SessionId) → s.number ≡ suc before
-        → IsPlaced before slot.old → OnOk result (Goes setting.entry.tables.now s others.bits
-        (at (shared_of B.meaning world.old.gate.state world.old.tables world.old.count
-        world.old.shelf.items) (machine_in_slot (policy_in setting.entry.config.now) s slot.old)
-        (standing_in_slot layout s slot.old) book.old.journal)
-        (at (shared_of B.meaning world.new.gate.state world.new.tables world.new.count
-        world.new.shelf.items) (machine_in_slot (policy_in setting.entry.config.now) s slot.new)
-        (standing_in_slot layout s slot.new) book.new.journal)) }
     ensures speaks { (layout : Layout) → IsLayout setting.entry.config.now setting.entry.tables.now
         layout → (before : ℕ) → (s : SessionId) → s.number ≡ suc before
         → IsPlaced before slot.old → OnOk result (SpokeAlone setting.entry.tables.now
@@ -399,7 +379,6 @@ fn turn_until<B: Backend>(
         world.new.shelf.items) (machine_in_slot (policy_in setting.entry.config.now) s slot.new)
         (standing_in_slot layout s slot.new) book.new.journal) (hearer_in slot.new)
         book.new.lines)) }
-    ensures held { OnOk result (IsHeldOrFree slot.new) }
     ensures placed { (before : ℕ) → IsPlaced before slot.old → IsPlaced before slot.new }
     ensures tables { world.new.tables ≡ world.old.tables }
     ensures count { world.new.count ≡ world.old.count }
@@ -408,9 +387,7 @@ fn turn_until<B: Backend>(
     let end = match slot {
         Slot::Free => return Ok(()),
         Slot::Taken(client) => {
-            client.place.seat.turn = Turn::Held;
-            let until = Some(mark);
-            take_steps(setting, &mut client.place, others, until, world, book)?
+            take_steps(setting, &mut client.place, others, Some(mark), world, book)?
         }
     };
     if let TurnEnd::Closed = end {
@@ -419,7 +396,7 @@ fn turn_until<B: Backend>(
     Ok(())
 }
 
-/// One session alone takes steps up to a mark, and is held there.
+/// One session alone takes steps up to a mark.
 pub(crate) fn go_until<B: Backend>(
     setting: Setting,
     s: SessionId,
@@ -431,16 +408,6 @@ pub(crate) fn go_until<B: Backend>(
     requires allowed { AreAllowed setting.tables.now }
     requires in_range { AreInRange setting.tables.now }
     requires tables { world.old.tables ≡ setting.tables.now }
-    ensures went { (layout : Layout) → IsLayout setting.entry.config.now setting.entry.tables.now
-        layout → OnOk result (Went setting.entry.tables.now
-        (state_of (policy_in setting.entry.config.now) layout
-        (shared_of B.meaning world.old.gate.state
-        world.old.tables world.old.count world.old.shelf.items) seats.old.slots.items)
-        book.old.journal
-        (state_of (policy_in setting.entry.config.now) layout
-        (shared_of B.meaning world.new.gate.state
-        world.new.tables world.new.count world.new.shelf.items) seats.new.slots.items)
-        book.new.journal) }
     ensures speaks { (layout : Layout) → IsLayout setting.entry.config.now setting.entry.tables.now
         layout → OnOk result (Spoke setting.entry.tables.now setting.entry.moment
         setting.entry.config.now.nodes

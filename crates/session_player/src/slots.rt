@@ -17,8 +17,6 @@ const MOST_SESSIONS: usize = 64;
 #[derive(Drop)]
 pub(crate) struct Client {
     pub(crate) place: Place,
-    /// It has nothing to do until its client sends something more, or has gone.
-    pub(crate) rests: bool,
 }
 
 /// A place for a session.

@@ -17,4 +17,4 @@ returns-in-Until-clause-hears c = ap (λ (w : Wish). wished w (hearer_of c.args.
 pub returns-in-Send-clause-hears : goal.returns-in-Send-clause-hears
 returns-in-Send-clause-hears c =
     on_ok_weaker c.send.result
-    (λ hears. (λ i. record { view = hears i; over = c.send.ensures.over i }) ∙ ap (λ (w : Wish). wished w (hearer_of c.args.client.now.place.seat)) (sym c.in-Send.is)) c.send.ensures.hears
+    (λ hears. (λ i. record { view = hears i; over = c.send.ensures.over i; turn = c.send.ensures.turn i }) ∙ ap (λ (w : Wish). wished w (hearer_of c.args.client.now.place.seat)) (sym c.in-Send.is)) c.send.ensures.hears

@@ -5,39 +5,14 @@ use Rattle.session_player.specs.declared.deed.Deed.{Deed}
 use Rattle.session_seat.specs.Policy.{policy_in}
 use Rattle.session_seat.specs.Shared.{shared_of}
 use Rattle.session_player.specs.Journals.{machines_of, standings_of}
-use Rattle.session_player.proofs.Going.{on_ok_always, went_kept}
+use Rattle.session_player.proofs.Going.{on_ok_always}
 use Rattle.session_player.specs.Speaking.{Happening, hearers_of}
 use Rattle.session_player.specs.Transcript.{Does, Scene, Sets, scene_of}
 use Rattle.session_player.proofs.Parts.{kept_state}
+use Rattle.pgproto.specs.Line.{line_of}
+use Rattle.session_player.specs.Deeds.{IsDeedOf}
+use Rattle.session_player.proofs.Stilling.{wish_goes_on}
 use Rattle.session_player.proofs.player.do_line.Goals as goal
-
-pub returns-in-Connect-clause-went : goal.returns-in-Connect-clause-went
-returns-in-Connect-clause-went g c = λ layout is.
-    let shared = shared_of g.B.Backend.meaning c.args.world.now.gate.state c.args.world.now.tables c.args.world.now.count c.args.world.now.shelf.items in
-    let scene = c.args.scene.now in
-    on_ok_always c.connect.result
-    (went_kept c.args.setting.tables.now (policy_in c.args.setting.config.now) layout shared scene.seats.slots.items c.connect.new.seats.slots.items scene.book.journal c.connect.new.book.journal
-    c.connect.ensures.machines (c.connect.ensures.standings layout) c.connect.ensures.journal)
-
-pub returns-in-Lose-clause-went : goal.returns-in-Lose-clause-went
-returns-in-Lose-clause-went g c = λ layout is.
-    let slots = c.args.scene.now.seats.slots.items in
-    c.lose.ensures.went (machines_of (policy_in c.args.setting.config.now) slots) (standings_of layout slots)
-
-pub returns-in-Cut-clause-went : goal.returns-in-Cut-clause-went
-returns-in-Cut-clause-went g c = λ layout is.
-    let shared = shared_of g.B.Backend.meaning c.args.world.now.gate.state c.args.world.now.tables c.args.world.now.count c.args.world.now.shelf.items in
-    let scene = c.args.scene.now in
-    went_kept c.args.setting.tables.now (policy_in c.args.setting.config.now) layout shared scene.seats.slots.items scene.seats.slots.items scene.book.journal scene.book.journal refl refl refl
-
-pub returns-in-Of-clause-went : goal.returns-in-Of-clause-went
-returns-in-Of-clause-went g c = λ layout is.
-    let shared = shared_of g.B.Backend.meaning c.args.world.now.gate.state c.args.world.now.tables c.args.world.now.count c.args.world.now.shelf.items in
-    let scene = c.args.scene.now in
-    let policy = policy_in c.args.setting.config.now in
-    on_ok_always c.address.result
-    (went_kept c.args.setting.tables.now policy layout shared scene.seats.slots.items c.address.new.seats.slots.items scene.book.journal c.address.new.book.journal (c.address.ensures.machines policy)
-    (c.address.ensures.standings layout) c.address.ensures.journal)
 
 pub returns-in-Connect-clause-does : goal.returns-in-Connect-clause-does
 returns-in-Connect-clause-does g c = λ layout is.
@@ -121,3 +96,13 @@ returns-in-Lose-clause-does g c = λ layout is.
     on_ok_weaker c.lose.result
     (λ loses. (c.deed_of.result, c.deed_of.ensures, loses.0, subst (λ (deed : Deed). Doing deed loses.0 new) (sym c.in-Lose.is) (refl, loses.1)))
     (c.lose.ensures.loses (machines_of policy slots) (standings_of layout slots) (hearers_of slots) scene.moment setting.config.now.nodes)
+
+pub returns-in-Connect-clause-rounds : goal.returns-in-Connect-clause-rounds
+returns-in-Connect-clause-rounds g c = λ goes. c.connect.ensures.rounds
+
+pub returns-in-Lose-clause-rounds : goal.returns-in-Lose-clause-rounds
+returns-in-Lose-clause-rounds g c = λ goes. c.lose.ensures.rounds
+
+pub returns-in-Of-clause-rounds : goal.returns-in-Of-clause-rounds
+returns-in-Of-clause-rounds g c = λ goes.
+    c.address.ensures.rounds (wish_goes_on (line_of c.args.line.now) c.in-Of.s.number c.in-Of.wish (subst (IsDeedOf (line_of c.args.line.now)) c.in-Of.is c.deed_of.ensures) goes)

@@ -1,17 +1,16 @@
-use Rattle.std.proofs.Common.{refl, ◌≤◌, List, [], length, map, take, sym, subst, ◌∙◌, arith}
+use Rattle.std.proofs.Common.{refl, ◌+◌, ◌≤◌, List, [], length, map, take, drop, sym, subst, ◌∙◌, arith}
 use Rattle.pgproto.specs.Line.{Line, line_of}
 use Rattle.pgproto.specs.Spelling.{IsOfGrammar}
 use Rattle.session_player.specs.Written.{AreParts}
 use Rattle.session_seat.specs.Policy.{policy_in}
 use Rattle.session_seat.specs.Shared.{shared_of}
-use Rattle.session_player.specs.Journals.{state_of}
-use Rattle.session_player.proofs.Going.{went_none, went_on}
 use Rattle.pgproto.specs.declared.line.ScriptLine.{ScriptLine}
-use Rattle.session_player.proofs.Walking.{taken, taken_all, here_of}
+use Rattle.session_player.proofs.Walking.{taken, taken_all, here_of, parted}
 use Rattle.session_player.proofs.Telling.{parts_on, grew_parts, grew_on}
 use Rattle.session_player.specs.Speaking.{Happening}
 use Rattle.session_player.specs.Transcript.{AreTold, scene_of}
 use Rattle.session_player.proofs.Parts.{told_more, told_none}
+use Rattle.session_player.proofs.Breaking.{on_err_always, telling_on}
 use Rattle.session_player.proofs.player.play_lines.Goals as goal
 
 pub returns-in_err-play_part-clause-grows : goal.returns-in_err-play_part-clause-grows
@@ -25,9 +24,6 @@ loop-line-init g c =
     let old = shared_of g.B.Backend.meaning c.args.world.now.gate.state c.args.world.now.tables c.args.world.now.count c.args.world.now.shelf.items in
     record {
       grammar = c.requires.grammar;
-      went = λ layout is.
-          went_none c.args.setting.tables.now (state_of (policy_in c.args.setting.config.now) layout old c.args.scene.now.seats.slots.items) c.args.scene.now.book.journal
-          c.args.scene.now.book.journal refl;
       told = λ layout is.
           let scene = c.args.scene.now in
           let config = c.args.setting.config.now in
@@ -51,10 +47,6 @@ loop-line-preserved g c =
     let mid = shared_of g.B.Backend.meaning c.loop-line.world.gate.state c.loop-line.world.tables c.loop-line.world.count c.loop-line.world.shelf.items in
     let new = shared_of g.B.Backend.meaning c.play_part.new.world.gate.state c.play_part.new.world.tables c.play_part.new.world.count c.play_part.new.world.shelf.items in
     record {
-      went = λ layout is.
-          went_on c.args.setting.tables.now (state_of policy layout old c.args.scene.now.seats.slots.items)
-          (state_of policy layout mid c.loop-line.scene.seats.slots.items) (state_of policy layout new c.play_part.new.scene.seats.slots.items)
-          c.args.scene.now.book.journal c.loop-line.scene.book.journal c.play_part.new.scene.book.journal (c.loop-line.invariant.went layout is) (c.in_ok-play_part.ensures.went layout is);
       grammar = (here_of line_of IsOfGrammar script i line c.loop-line-test.true c.line-item.is c.loop-line.invariant.grammar).1;
       told = λ layout is.
           let config = c.args.setting.config.now in
@@ -92,3 +84,19 @@ returns-clause-told g c = λ layout is.
     subst (λ (ls : List ScriptLine). (happenings : List Happening) × AreTold c.args.setting.tables.now config.nodes config.children c.args.world.now.count (map line_of ls)
     (scene_of policy layout old scene.moment scene.seats.slots.items scene.book) (had c.args.out.now) happenings (scene_of policy layout new last.moment last.seats.slots.items last.book) (had c.loop-line.out))
     (taken_all script c.loop-line.line-index past) (c.loop-line.invariant.told layout is)
+
+pub returns-in_err-play_part-clause-front : goal.returns-in_err-play_part-clause-front
+returns-in_err-play_part-clause-front g c = λ layout is.
+    let had = g.O.Sink.taken in
+    let config = c.args.setting.config.now in
+    let policy = policy_in config in
+    let script = c.args.script.now in
+    let i = c.loop-line.line-index in
+    let line = c.line-item.result in
+    let old = shared_of g.B.Backend.meaning c.args.world.now.gate.state c.args.world.now.tables c.args.world.now.count c.args.world.now.shelf.items in
+    let mid = shared_of g.B.Backend.meaning c.loop-line.world.gate.state c.loop-line.world.tables c.loop-line.world.count c.loop-line.world.shelf.items in
+    let first = scene_of policy layout old c.args.scene.now.moment c.args.scene.now.seats.slots.items c.args.scene.now.book in
+    let before = scene_of policy layout mid c.loop-line.scene.moment c.loop-line.scene.seats.slots.items c.loop-line.scene.book in
+    on_err_always c.from_residual.result
+    (telling_on c.args.setting.tables.now config.nodes config.children c.args.world.now.count c.loop-line.world.count (map line_of script) (map line_of (take i script)) (map line_of (drop (i + 1) script)) (line_of line) first before
+    (had c.args.out.now) (had c.loop-line.out) (had c.play_part.new.out) c.loop-line.invariant.count (parted line_of script i line c.loop-line-test.true c.line-item.is) (c.loop-line.invariant.told layout is) (c.in_err-play_part.ensures.front layout is))

@@ -3,13 +3,11 @@ use Rattle.online_recovery.specs.declared.layout.Layout.{Layout}
 use Rattle.session_seat.specs.Policy.{policy_in}
 use Rattle.session_seat.specs.Shared.{shared_of}
 use Rattle.recovery_seat.specs.Places.{IsLayout}
-use Rattle.session_player.specs.Journals.{Went, state_of}
 use Rattle.session_player.specs.Speaking.{Spoke, board_of}
 use Rattle.session_player.proofs.round.rounds.Given as goal
 
 abbrev pub invariant-rounds : goal.invariant-rounds
 invariant-rounds g l = record {
-  went : (layout : Layout) → IsLayout l.setting.config.now l.setting.tables.now layout → Went l.setting.tables.now (state_of (policy_in l.setting.config.now) layout (shared_of g.B.Backend.meaning l.fn.world.gate.state l.fn.world.tables l.fn.world.count l.fn.world.shelf.items) l.fn.seats.slots.items) l.fn.book.journal (state_of (policy_in l.setting.config.now) layout (shared_of g.B.Backend.meaning l.world.gate.state l.world.tables l.world.count l.world.shelf.items) l.seats.slots.items) l.book.journal;
   speaks : (layout : Layout) → IsLayout l.setting.config.now l.setting.tables.now layout → Spoke l.setting.tables.now l.setting.moment l.setting.config.now.nodes (board_of (policy_in l.setting.config.now) layout (shared_of g.B.Backend.meaning l.fn.world.gate.state l.fn.world.tables l.fn.world.count l.fn.world.shelf.items) l.fn.seats.slots.items l.fn.book) (board_of (policy_in l.setting.config.now) layout (shared_of g.B.Backend.meaning l.world.gate.state l.world.tables l.world.count l.world.shelf.items) l.seats.slots.items l.book);
   tables : l.world.tables ≡ l.fn.world.tables;
   count : l.world.count ≡ l.fn.world.count;

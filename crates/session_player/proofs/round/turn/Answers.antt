@@ -1,4 +1,4 @@
-use Rattle.std.proofs.Common.{refl, ap, sym, ◌∙◌}
+use Rattle.std.proofs.Common.{refl, inr, ap, sym, ◌∙◌}
 use Rattle.session_engine.specs.Cores.{machine_in}
 use Rattle.session_seat.specs.Policy.{policy_in}
 use Rattle.session_seat.specs.Shared.{shared_of}
@@ -6,35 +6,13 @@ use Rattle.recovery_seat.specs.Places.{standing_of}
 use Rattle.recovery_seat.specs.Steps.{at}
 use Rattle.session_player.specs.declared.slots.Slot.TheVariants.{Taken}
 use Rattle.session_player.specs.Journals.{machine_in_slot, standing_in_slot}
-use Rattle.session_player.proofs.Going.{freed, freed_at_rest, goes_in, goes_none}
+use Rattle.session_player.proofs.Going.{freed, freed_at_rest}
 use Rattle.session_player.specs.Speaking.{hearer_in, hearer_of, left_at}
 use Rattle.session_player.proofs.Speaking.{alone_in, alone_none, goes_away, stays_there}
+use Rattle.session_wire.specs.Shown.{shown}
+use Rattle.session_player.specs.Stillness.{StandsStill}
+use Rattle.session_player.proofs.Stilling.{ended_still, free_still}
 use Rattle.session_player.proofs.round.turn.Goals as goal
-
-pub returns-in-Free-clause-goes : goal.returns-in-Free-clause-goes
-returns-in-Free-clause-goes g c = λ layout is before s own placed.
-    let old = shared_of g.B.Backend.meaning c.args.world.now.gate.state c.args.world.now.tables c.args.world.now.count c.args.world.now.shelf.items in
-    goes_none c.args.setting.tables.now s c.args.others.bits (at old (machine_in_slot (policy_in c.args.setting.config.now) s c.args.slot.now) (standing_in_slot layout s c.args.slot.now) c.args.book.now.journal)
-
-pub returns-in-Closed-clause-goes : goal.returns-in-Closed-clause-goes
-returns-in-Closed-clause-goes g c = λ layout is before s own placed.
-    let old = shared_of g.B.Backend.meaning c.args.world.now.gate.state c.args.world.now.tables c.args.world.now.count c.args.world.now.shelf.items in
-    let new = shared_of g.B.Backend.meaning c.turn_of.new.world.gate.state c.turn_of.new.world.tables c.turn_of.new.world.count c.turn_of.new.world.shelf.items in
-    let policy = policy_in c.args.setting.config.now in
-    let client = c.in-Taken.client in
-    let core = machine_in c.turn_of.new.client.place.seat.core in
-    let stands = standing_of layout c.turn_of.new.client.place in
-    let ended = c.in_ok-end-in-Taken.ensures in
-    goes_in c.args.setting.tables.now policy layout s c.args.others.bits before c.args.slot.now c.free.new.slot client old new c.args.book.now.journal c.turn_of.new.book.journal core stands own placed c.in-Taken.is
-    (ended.goes layout is) (freed policy s client.place.seat.s c.free.new.slot core c.free.ensures (ended.closed c.in-Closed.is))
-    (freed_at_rest layout s client.place.seat.s c.free.new.slot stands c.free.ensures (ended.at_rest layout is c.in-Closed.is))
-
-pub returns-in_default-clause-goes : goal.returns-in_default-clause-goes
-returns-in_default-clause-goes g c = λ layout is before s own placed.
-    let old = shared_of g.B.Backend.meaning c.args.world.now.gate.state c.args.world.now.tables c.args.world.now.count c.args.world.now.shelf.items in
-    let new = shared_of g.B.Backend.meaning c.turn_of.new.world.gate.state c.turn_of.new.world.tables c.turn_of.new.world.count c.turn_of.new.world.shelf.items in
-    goes_in c.args.setting.tables.now (policy_in c.args.setting.config.now) layout s c.args.others.bits before c.args.slot.now (Taken c.turn_of.new.client) c.in-Taken.client old new
-    c.args.book.now.journal c.turn_of.new.book.journal (machine_in c.turn_of.new.client.place.seat.core) (standing_of layout c.turn_of.new.client.place) own placed c.in-Taken.is (c.in_ok-end-in-Taken.ensures.goes layout is) (λ same. refl) (λ same. refl)
 
 pub returns-in-Free-clause-speaks : goal.returns-in-Free-clause-speaks
 returns-in-Free-clause-speaks g c = λ layout is before s own placed.
@@ -64,3 +42,15 @@ returns-in_default-clause-speaks g c = λ layout is before s own placed.
     alone_in c.args.setting.tables.now c.args.setting.moment c.args.setting.config.now.nodes (policy_in c.args.setting.config.now) layout s c.args.others.bits before c.args.slot.now (Taken c.turn_of.new.client) c.in-Taken.client old new
     c.args.book.now.journal c.turn_of.new.book.journal (machine_in c.turn_of.new.client.place.seat.core) (standing_of layout c.turn_of.new.client.place) (left_at c.in_ok-end-in-Taken.end (hearer_of c.turn_of.new.client.place.seat)) c.args.book.now.lines c.turn_of.new.book.lines
     own placed c.in-Taken.is (c.in_ok-end-in-Taken.ensures.speaks layout is) (λ same. refl) (λ same. refl) (sym (stays_there c.in_ok-end-in-Taken.end (hearer_of c.turn_of.new.client.place.seat) c.in_default.not-Closed))
+
+pub returns-in-Free-clause-still : goal.returns-in-Free-clause-still
+returns-in-Free-clause-still g c = λ layout is. free_still c.args.world.now.gate.state layout c.args.slot.now c.in-Free.is
+
+pub returns-in-Closed-clause-still : goal.returns-in-Closed-clause-still
+returns-in-Closed-clause-still g c = λ layout is. free_still c.turn_of.new.world.gate.state layout c.free.new.slot c.free.ensures
+
+pub returns-in_default-clause-still : goal.returns-in_default-clause-still
+returns-in_default-clause-still g c = λ layout is.
+    let place = c.turn_of.new.client.place in
+    inr (ended_still c.in_ok-end-in-Taken.end (StandsStill c.turn_of.new.world.gate.state (machine_in place.seat.core) (standing_of layout place) (shown place.seat.wire) place.seat.over)
+    (c.in_ok-end-in-Taken.ensures.still layout is) c.in_default.not-Closed)

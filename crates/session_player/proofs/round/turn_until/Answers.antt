@@ -6,35 +6,10 @@ use Rattle.recovery_seat.specs.Places.{standing_of}
 use Rattle.recovery_seat.specs.Steps.{at}
 use Rattle.session_player.specs.declared.slots.Slot.TheVariants.{Taken}
 use Rattle.session_player.specs.Journals.{machine_in_slot, standing_in_slot}
-use Rattle.session_player.proofs.Going.{freed, freed_at_rest, goes_in, goes_none}
+use Rattle.session_player.proofs.Going.{freed, freed_at_rest}
 use Rattle.session_player.specs.Speaking.{hearer_in, hearer_of, left_at}
 use Rattle.session_player.proofs.Speaking.{alone_in, alone_none, goes_away, stays_there}
 use Rattle.session_player.proofs.round.turn_until.Goals as goal
-
-pub returns-in-Free-clause-goes : goal.returns-in-Free-clause-goes
-returns-in-Free-clause-goes g c = λ layout is before s own placed.
-    let old = shared_of g.B.Backend.meaning c.args.world.now.gate.state c.args.world.now.tables c.args.world.now.count c.args.world.now.shelf.items in
-    goes_none c.args.setting.tables.now s c.args.others.bits (at old (machine_in_slot (policy_in c.args.setting.config.now) s c.args.slot.now) (standing_in_slot layout s c.args.slot.now) c.args.book.now.journal)
-
-pub returns-in-Closed-clause-goes : goal.returns-in-Closed-clause-goes
-returns-in-Closed-clause-goes g c = λ layout is before s own placed.
-    let old = shared_of g.B.Backend.meaning c.args.world.now.gate.state c.args.world.now.tables c.args.world.now.count c.args.world.now.shelf.items in
-    let new = shared_of g.B.Backend.meaning c.take_steps.new.world.gate.state c.take_steps.new.world.tables c.take_steps.new.world.count c.take_steps.new.world.shelf.items in
-    let policy = policy_in c.args.setting.config.now in
-    let client = c.in-Taken.client in
-    let core = machine_in c.take_steps.new.place.seat.core in
-    let stands = standing_of layout c.take_steps.new.place in
-    let ended = c.in_ok-end-in-Taken.ensures in
-    goes_in c.args.setting.tables.now policy layout s c.args.others.bits before c.args.slot.now c.free.new.slot client old new c.args.book.now.journal c.take_steps.new.book.journal core stands own placed c.in-Taken.is
-    (ended.goes layout is) (freed policy s client.place.seat.s c.free.new.slot core c.free.ensures (ended.closed c.in-Closed.is))
-    (freed_at_rest layout s client.place.seat.s c.free.new.slot stands c.free.ensures (ended.at_rest layout is c.in-Closed.is))
-
-pub returns-in_default-clause-goes : goal.returns-in_default-clause-goes
-returns-in_default-clause-goes g c = λ layout is before s own placed.
-    let old = shared_of g.B.Backend.meaning c.args.world.now.gate.state c.args.world.now.tables c.args.world.now.count c.args.world.now.shelf.items in
-    let new = shared_of g.B.Backend.meaning c.take_steps.new.world.gate.state c.take_steps.new.world.tables c.take_steps.new.world.count c.take_steps.new.world.shelf.items in
-    goes_in c.args.setting.tables.now (policy_in c.args.setting.config.now) layout s c.args.others.bits before c.args.slot.now (Taken (record c.in-Taken.client { place = c.take_steps.new.place })) c.in-Taken.client old new
-    c.args.book.now.journal c.take_steps.new.book.journal (machine_in c.take_steps.new.place.seat.core) (standing_of layout c.take_steps.new.place) own placed c.in-Taken.is (c.in_ok-end-in-Taken.ensures.goes layout is) (λ same. refl) (λ same. refl)
 
 pub returns-in-Free-clause-speaks : goal.returns-in-Free-clause-speaks
 returns-in-Free-clause-speaks g c = λ layout is before s own placed.
