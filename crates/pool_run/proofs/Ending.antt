@@ -1,8 +1,8 @@
 -- What each stage says of the end of the run.
-use Rattle.std.proofs.Common.{◌≡◌, ◌≢◌, ℕ, ◌<◌, ◌≤◌, length, true, List, [], refl, sym, subst}
-use Rattle.std.specs.Prelude.{Option, Some, Err}
+use Rattle.std.proofs.Common.{◌≡◌, ◌≢◌, ℕ, ◌<◌, ◌≤◌, length, true, List, [], refl, sym, subst, inl}
+use Rattle.std.specs.Prelude.{◌⊎◌, Option, Some, Err}
 use Rattle.pool_base.specs.Outside.{Appends}
-use Rattle.pool_base.proofs.Sinking.{rose_after, front_nothing, appends_nothing}
+use Rattle.pool_base.proofs.Sinking.{rose_after, front_nothing}
 use Rattle.backend_trait.specs.Rows.{Rows}
 use Rattle.backend_trait.specs.Store.{Store}
 use Rattle.pgproto.specs.Line.{Line}
@@ -25,7 +25,7 @@ use Rattle.pool_run.specs.Schemas.{IsSchemaAnswer, schema_too_long, bad_schema_l
 use Rattle.pool_run.specs.Texts.{IsBuilt, IsSeveral, IsRead, config_name, schema_name, is_plain, is_play}
 use Rattle.pool_run.specs.Ways.{AreSingle}
 use Rattle.pool_run.specs.Reading.{IsFault}
-use Rattle.pool_run.specs.Ends.{Outside, outside, Grows, Says, IsSchemaRefusal, NoCommandEnds, RefusedEnds, UnbuiltEnds, UnreadEnds, ScriptEnds, no_command, not_built, fault_line}
+use Rattle.pool_run.specs.Ends.{Outside, outside, Says, IsSchemaRefusal, NoCommandEnds, RefusedEnds, UnbuiltEnds, UnreadEnds, ScriptEnds, no_command, not_built, fault_line}
 use Rattle.pool_run.specs.Ends.{ScriptStageEnds, script_unread, script_read, SchemaEnds, schema_stands, schema_refused, schema_unparsed, RestEnds, schema_unread, schema_read, ConfigEnds, configured, faulty, unparsed, CommandEnds, read}
 
 pub said : (s : Status) (bytes : List ℕ) (a b : Option (List ℕ)) (n m : ℕ) → s ≢ SinkFailed → Appends a b bytes → Says s s bytes a b n m
@@ -199,5 +199,5 @@ ends_from count tables lines Stopped n m a b x y z p = p
 ends_from count tables lines NoneLeft n m a b x y z p = p
 
 -- nothing was written
-pub grows_none : (o : Outside) → o.has ≡ o.had → Grows o
-grows_none o same = ([], subst (λ (b : Option (List ℕ)). Appends o.had b []) (sym same) (appends_nothing o.had))
+pub unwritten : (o : Outside) (P : Type 0) → o.has ≡ o.had → (o.has ≡ o.had) ⊎ P
+unwritten o P same = inl same

@@ -7,7 +7,7 @@ use Rattle.pgproto.specs.Line.{Line}
 use Rattle.pgproto.specs.Script.{IsScript}
 use Rattle.play.specs.Script.{IsSession}
 use Rattle.play.specs.Transcript.{ArePlayed, ArePlayedInPart}
-use Rattle.session_player.specs.Written.{Grew, ArePlayed as AreSpoken}
+use Rattle.session_player.specs.Written.{ArePlayed as AreSpoken}
 use Rattle.pool_run.specs.declared.status.Status.{Status}
 use Rattle.pool_command.specs.declared.command.Command.{Command}
 use Rattle.pool_command.specs.Command.{command_of}
@@ -25,7 +25,7 @@ use Rattle.pool_run.specs.Schemas.{IsSchemaRead, SchemaCause, schema_too_long, b
 use Rattle.pool_run.specs.Scripts.{ScriptCause, Stands}
 use Rattle.pool_run.specs.Shelf.{HaveRows}
 use Rattle.pool_run.specs.Journals.{HasJournal}
-use Rattle.pool_run.specs.Replies.{IsReplied}
+use Rattle.pool_run.specs.Replies.{IsReplied, IsRepliedInPart}
 use Rattle.pool_run.specs.Texts.{config_name, schema_name, IsRead, IsScriptRead, IsBuilt, IsSeveral, keeps_journal, line}
 
 abbrev pub no_command : List ℕ
@@ -125,28 +125,29 @@ ScriptEnds count tables lines NotBuilt o = ⊥
 ScriptEnds count tables lines Stopped o = ⊥
 ScriptEnds count tables lines NoneLeft o = ⊥
 
--- what was written stands behind what was there
-abbrev pub Grows : Outside → Type 0
-Grows o = Grew o.had o.has
-
 -- a script of sessions was played to its end: each line has its echo, in order, and behind it what is told; behind all stands the journal, where
--- it is kept; and what is told is the transcript of a schedule of one store
-abbrev pub IsSpoken : Bool → Config → List TableDef → List Line → Outside → Type 0
-IsSpoken journal config tables lines o =
-    AreSpoken lines o.had o.has × (journal ≡ true → HasJournal config tables lines o.had o.has) × IsReplied config tables lines journal o.had o.has
+-- it is kept; and what is told is the transcript of a schedule of one store. The status has that number
+abbrev pub IsSpoken : Bool → ℕ → Config → List TableDef → List Line → Outside → Type 0
+IsSpoken journal number config tables lines o =
+    AreSpoken lines o.had o.has × (journal ≡ true → HasJournal config tables lines o.had o.has) × IsReplied config tables lines journal number o.stores_after o.had o.has
 
--- a script of sessions is played, with its journal or without; where a check inside the pool fails, the pool stops itself
+-- a play of such a script was broken off
+abbrev pub IsSpokenInPart : Bool → Config → List TableDef → List Line → Outside → Type 0
+IsSpokenInPart journal config tables lines o = IsRepliedInPart config tables lines journal o.had o.has
+
+-- a script of sessions is played, with its journal or without; where a check inside the pool fails, the pool stops itself. Memory may be
+-- refused before anything is written
 abbrev pub SeveralEnds : Bool → Config → List TableDef → List Line → Status → Outside → Type 0
-SeveralEnds journal config tables lines Done o = IsSpoken journal config tables lines o
+SeveralEnds journal config tables lines Done o = IsSpoken journal 0 config tables lines o
 SeveralEnds journal config tables lines NoCommand o = ⊥
 SeveralEnds journal config tables lines Refused o = ⊥
 SeveralEnds journal config tables lines ScriptRefused o = ⊥
 SeveralEnds journal config tables lines FilesFailed o = ⊥
-SeveralEnds journal config tables lines SinkFailed o = Rose o.faults_before o.faults_after × Grows o
-SeveralEnds journal config tables lines NoMemory o = Grows o
+SeveralEnds journal config tables lines SinkFailed o = Rose o.faults_before o.faults_after × IsSpokenInPart journal config tables lines o
+SeveralEnds journal config tables lines NoMemory o = (o.has ≡ o.had) ⊎ IsSpokenInPart journal config tables lines o
 SeveralEnds journal config tables lines NotBuilt o = ⊥
-SeveralEnds journal config tables lines Stopped o = Grows o
-SeveralEnds journal config tables lines NoneLeft o = IsSpoken journal config tables lines o
+SeveralEnds journal config tables lines Stopped o = IsSpokenInPart journal config tables lines o
+SeveralEnds journal config tables lines NoneLeft o = IsSpoken journal 6 config tables lines o
 
 -- a script of this text was played to its end over these tables and the backends of the configuration: what was written is the transcript of
 -- one store, and each backend has its rows

@@ -1,5 +1,5 @@
 -- The journal of a play, where it is kept: each event comes where it may, and they are those of one store.
-use Rattle.std.specs.Prelude.{◌≡◌, ◌<◌, ℕ, List, ◌++◌, Option, length}
+use Rattle.std.specs.Prelude.{◌≡◌, ℕ, List, ◌++◌, Option, length}
 use Rattle.pool_base.specs.Outside.{Appends, Told, IsTold}
 use Rattle.pool_base.specs.declared.backend_set.BackendSet.{BackendSet}
 use Rattle.pgproto.specs.Line.{Line}
@@ -20,7 +20,7 @@ use Rattle.one_copy_model.specs.Statement.{ReplicasAgree}
 use Rattle.play_laws.specs.Journals.{IsRun}
 use Rattle.recovery_laws.specs.Pool.{first_pool, pool_all, IsPlayed}
 use Rattle.recovery_laws.specs.Steps.{AllHold}
-use Rattle.play_laws.specs.RecoveryFollowing.{steps_of}
+use Rattle.play_laws.specs.RecoveryFollowing.{Follows, steps_of}
 
 -- a text is the header of this configuration and these tables, and behind it the lines of a schedule of the replicated world that they say, and
 -- so of one run of one store
@@ -31,15 +31,16 @@ pub record IsOfOneStore (config : Config) (tables : List TableDef) (text : List 
   pub of_tables : run.start.catalogue ≡ tables
 
 -- what takes place are steps of the replicated world with recoveries, and so of one store: at each of them the invariant holds, each reply to
--- a session is right, and each commit that it acknowledges is done; behind them the attached backends agree with the single run
-pub record AreOfOneStore (layout : Layout) (policy : ReadPolicy) (attached : BackendSet) (entries : List Entry) : Type 0 where
+-- a session is right, and each commit that it acknowledges is done. Behind them the world stands as the play does, and the attached
+-- backends agree with the single run
+pub record AreOfOneStore (layout : Layout) (policy : ReadPolicy) (attached : BackendSet) (entries : List Entry) (last : State) : Type 0 where
   pub played : IsPlayed (first_pool layout policy attached) (steps_of entries)
   pub all_hold : AllHold (first_pool layout policy attached) (steps_of entries)
+  pub follows : Follows layout.tables last (pool_all (first_pool layout policy attached) (steps_of entries))
   pub agree : ReplicasAgree (pool_all (first_pool layout policy attached) (steps_of entries)).tracked
 
 -- a text is the header of this configuration and these tables, and behind it the lines of what takes place in a play: it begins with each
--- backend attached, each entry comes where it may, and where the lines are fewer than 2^64 bytes it is of one store. So it is where no
--- recovery is ordered, however many they are
+-- backend attached, each entry comes where it may, and it is of one store
 pub record IsJournalOf (config : Config) (tables : List TableDef) (text : List ℕ) : Type 0 where
   pub layout : Layout
   pub of_layout : IsLayout config tables layout
@@ -52,7 +53,7 @@ pub record IsJournalOf (config : Config) (tables : List TableDef) (text : List �
   pub printed : IsHeader config tables header
   pub parts : text ≡ header ++ lines tables entries
   pub sessions_alone : AreOfSessions entries → IsOfOneStore config tables text
-  pub with_recoveries : length (lines tables entries) < 18446744073709551616 → AreOfOneStore layout (policy_in config) attached entries
+  pub with_recoveries : AreOfOneStore layout (policy_in config) attached entries last
 
 -- a script was played to its end: its transcript was written, and behind it such a journal
 pub record HasJournal (config : Config) (tables : List TableDef) (lines : List Line) (old new : Option (List ℕ)) : Type 0 where

@@ -1,7 +1,9 @@
 -- What is written of a script that is played as sessions, its journal kept or not: the transcript of a schedule, which is of one store.
-use Rattle.std.specs.Prelude.{◌≡◌, ◌⊎◌, ◌<◌, ℕ, pos, Bool, true, false, List, [], ◌++◌, Option, length}
+use Rattle.std.specs.Prelude.{◌≡◌, ◌⊎◌, ◌↔◌, ◌<◌, ℕ, pos, Bool, true, false, List, [], ◌++◌, Option, length}
 use Rattle.pool_base.specs.Outside.{Told, IsTold}
+use Rattle.pool_base.specs.Sets.{IsEmptySet}
 use Rattle.pool_base.specs.declared.backend_set.BackendSet.{BackendSet}
+use Rattle.backend_trait.specs.Store.{Store}
 use Rattle.pgproto.specs.Line.{Line}
 use Rattle.pgproto.specs.Script.{IsScript}
 use Rattle.play.specs.Script.{IsSession}
@@ -16,10 +18,12 @@ use Rattle.session_seat.specs.declared.book.Journal.TheVariants.{Off, On}
 use Rattle.session_seat.specs.Policy.{policy_in}
 use Rattle.session_seat.specs.Shared.{AreFirst, Shared, first_shared}
 use Rattle.recovery_seat.specs.Places.{IsLayout}
-use Rattle.recovery_seat.specs.Schedule.{AreOfSessions, Entry, lines}
+use Rattle.recovery_seat.specs.Schedule.{AreOfSessions, Entry, State, lines}
 use Rattle.session_player.specs.Speaking.{entries_of}
 use Rattle.session_player.specs.Transcript.{IsTranscript}
+use Rattle.session_player.specs.BrokenOff.{IsBrokenOff}
 use Rattle.pool_run.specs.Drawing.{TakesNone}
+use Rattle.pool_run.specs.Shelf.{HaveStores}
 use Rattle.pool_run.specs.Ways.{AreSingle}
 use Rattle.pool_run.specs.Journals.{AreOfOneStore, IsOfOneStore}
 
@@ -28,21 +32,39 @@ abbrev pub kept_at : Bool → Journal
 kept_at true = On []
 kept_at false = Off
 
--- entries are of one store: where no recovery is ordered, and, where their lines are fewer than 2^64 bytes, with recoveries
-pub record IsOneRun (config : Config) (tables : List TableDef) (layout : Layout) (attached : BackendSet) (entries : List Entry) : Type 0 where
+-- the lines of entries are fewer than 2^64 bytes
+abbrev pub IsBounded : List TableDef → List Entry → Type 0
+IsBounded tables entries = length (lines tables entries) < 18446744073709551616
+
+-- entries that lead to a state are of one store: where no recovery is ordered, and, where their lines are fewer than 2^64 bytes, with
+-- recoveries
+pub record IsOneRun (config : Config) (tables : List TableDef) (layout : Layout) (attached : BackendSet) (entries : List Entry) (last : State) : Type 0 where
   pub sessions_alone : AreOfSessions entries → (header : List ℕ) → IsHeader config tables header → IsOfOneStore config tables (header ++ lines tables entries)
-  pub with_recoveries : length (lines tables entries) < 18446744073709551616 → AreOfOneStore layout (policy_in config) attached entries
+  pub with_recoveries : IsBounded tables entries → AreOfOneStore layout (policy_in config) attached entries last
 
 -- a script was played to its end: what was written is the transcript of a schedule, and behind it the journal of this schedule, where it is
--- kept. The schedule begins with each backend attached and no rows, and is of one store
-pub record IsReplied (config : Config) (tables : List TableDef) (script : List Line) (journal : Bool) (old new : Option (List ℕ)) : Type 0 where
+-- kept. The schedule begins with each backend attached and no rows, and is of one store. The shelf then has the stores to which it leads, and
+-- the status is 6 where it leaves no backend attached, and 0 else
+pub record IsReplied (config : Config) (tables : List TableDef) (script : List Line) (journal : Bool) (number : ℕ) (shelf : List Store) (old new : Option (List ℕ)) : Type 0 where
   pub layout : Layout
   pub of_layout : IsLayout config tables layout
   pub attached : BackendSet
   pub are_first : AreFirst attached.bits (length config.nodes)
   pub last : Shared
   pub transcript : IsTranscript config tables layout (length config.nodes) script (pos 0) (kept_at journal) (first_shared tables attached) last old new
-  pub one_run : IsOneRun config tables layout attached (entries_of (transcript.happenings ++ transcript.at_end))
+  pub one_run : IsOneRun config tables layout attached (entries_of (transcript.happenings ++ transcript.at_end)) transcript.board.state
+  pub bounded : journal ≡ true → IsBounded tables (entries_of (transcript.happenings ++ transcript.at_end))
+  pub stores : HaveStores (length config.nodes) last.stores shelf
+  pub none_left : (number ≡ 6) ↔ IsEmptySet last.gate.attached.bits
+
+-- a play of a script was broken off: what was written is a front of such a transcript, and what it tells is of one store
+pub record IsRepliedInPart (config : Config) (tables : List TableDef) (script : List Line) (journal : Bool) (old new : Option (List ℕ)) : Type 0 where
+  pub layout : Layout
+  pub of_layout : IsLayout config tables layout
+  pub attached : BackendSet
+  pub are_first : AreFirst attached.bits (length config.nodes)
+  pub front : IsBrokenOff config tables layout (length config.nodes) script (pos 0) (kept_at journal) (first_shared tables attached) old new
+  pub one_run : IsOneRun config tables layout attached (entries_of front.happenings) front.board.state
 
 -- one client's single statements, which take no serial number, and no journal: what is written is that of one database
 pub record IsOfOneClient (tables : List TableDef) (script : List Line) (journal : Bool) : Type 0 where
@@ -52,7 +74,7 @@ pub record IsOfOneClient (tables : List TableDef) (script : List Line) (journal 
   pub takes_none : TakesNone tables script
 
 -- and the configuration, the tables and the script are those of their files
-pub record RepliesAsOneStore (config_told schema_told script_told : Told) (journal : Bool) (old new : Option (List ℕ)) : Type 0 where
+pub record RepliesAsOneStore (config_told schema_told script_told : Told) (journal : Bool) (number : ℕ) (shelf : List Store) (old new : Option (List ℕ)) : Type 0 where
   pub config_text : List ℕ
   pub tells : IsTold config_told config_text
   pub config : Config
@@ -65,4 +87,4 @@ pub record RepliesAsOneStore (config_told schema_told script_told : Told) (journ
   pub tells_script : IsTold script_told script_text
   pub script : List Line
   pub says : IsScript script_text script
-  pub has : IsReplied config tables script journal old new ⊎ IsOfOneClient tables script journal
+  pub has : IsReplied config tables script journal number shelf old new ⊎ IsOfOneClient tables script journal

@@ -29,6 +29,10 @@ pub record AreBackends {X : Type 0} (meaning : X → Store) (is_honest is_prompt
   pub prompt : All (λ b. is_prompt b ≡ true) backends
   pub steady : All (λ b. is_steady b ≡ true) backends
 
+-- each of the first, so many, is there and has the store of its number
+abbrev pub HaveStores : ℕ → (ℕ → Store) → List Store → Type 0
+HaveStores count stores shelf = (b : ℕ) → b < count → slice_get shelf b ≡ Some (stores b)
+
 -- each of the first, so many, is there and at rest with these rows
 abbrev pub HaveRows : ℕ → List TableDef → Rows → List Store → Type 0
 HaveRows count tables rows stores = (b : ℕ) → b < count → (st : Store) × (slice_get stores b ≡ Some st) × IsReady tables rows st

@@ -1,5 +1,6 @@
 //! A script of sessions is played over the first boxes of a shelf.
 ghost use Rattle.std.specs.Prelude.{◌≡◌, ◌≤◌, ◌⊎◌, List as Sequence, [], true, drop, length, map, take};
+ghost use Rattle.pool_base.specs.Sets.{IsEmptySet};
 ghost use Rattle.backend_trait.specs.Store.{Store};
 ghost use Rattle.pool_run.specs.declared.status.Status.TheVariants.{Done, NoneLeft};
 ghost use Rattle.pool_run.specs.Ends.{outside};
@@ -25,7 +26,7 @@ use std::alloc::Global;
 use std::mem;
 
 /// Plays the script of a plan as sessions, over as many boxes as the configuration has backends.
-#[tactic(auto, using(crate::proofs::Ending::grows_none))]
+#[tactic(auto, using(crate::proofs::Ending::unwritten))]
 pub(crate) fn run_sessions<O: Sink, B: Backend>(
     alloc: Global,
     plan: &Plan,
@@ -89,10 +90,13 @@ fn play_sessions<O: Sink, B: Backend>(
         return Status::NoMemory;
     }
     let status = play_in(alloc, plan, journal, out, &mut worlds[0]);
-    if let Some(world) = worlds.pop() {
-        *shelf = world.into_shelf();
+    match worlds.pop() {
+        Some(world) => {
+            *shelf = world.into_shelf();
+            status
+        }
+        None => status,
     }
-    status
 }
 
 /// Plays the script of a plan in a world.
@@ -108,9 +112,9 @@ fn play_in<O: Sink, B: Backend>(
     requires count { world.old.count ≡ length plan.now.config.nodes }
     requires first { IsFirst plan.now.catalogue (length plan.now.config.nodes) (shared_of B.meaning
         world.old.gate.state world.old.tables world.old.count world.old.shelf.items) }
-    ensures { (before after : Sequence Store) → SessionsEnd journal plan.now result
+    ensures { (before : Sequence Store) → SessionsEnd journal plan.now result
         (outside (O.fault_count out.old) (O.fault_count out.new) (O.taken out.old)
-        (O.taken out.new) before after) }
+        (O.taken out.new) before (map B.meaning world.new.shelf.items)) }
 {
     let setting = Setting {
         alloc,
@@ -133,7 +137,9 @@ fn play_in<O: Sink, B: Backend>(
 
 /// How a script ends that was played to its end, by the backends that are attached then.
 fn ended(attached: BackendSet) -> Status
-    ensures { (result ≡ Done) ⊎ (result ≡ NoneLeft) }
+    ensures is { (result ≡ Done) ⊎ (result ≡ NoneLeft) }
+    ensures done { result ≡ Done → IsEmptySet attached.bits → ⊥ }
+    ensures none { result ≡ NoneLeft → IsEmptySet attached.bits }
 {
     if attached.is_empty() {
         Status::NoneLeft

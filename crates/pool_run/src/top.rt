@@ -59,14 +59,16 @@ pub fn pool_run<F: Files, O: Sink>(
         (F.contents files.old script) (O.taken out.old) (O.taken out.new) }
     // Status 0 or 6, with its journal or without: what was written of the script that the file
     // contains is the transcript of such a schedule. Behind the echo of each line stands what each
-    // client is told: what its wire puts out, which what the lines have sent and the replies of the
-    // schedule lead, and the lines of detachments, attachments and closings. With its journal it is
-    // this very schedule. Where it is one client's single statements `played` says it.
+    // client is told: what its wire puts out, led by what the lines have sent and by the replies of
+    // the schedule; and the lines of detachments, attachments and closings. A journal tells this
+    // very schedule. The first boxes have the stores to which it leads, and the status is 6 exactly
+    // where it leaves no backend attached. Of one client's single statements `played` says it.
     ensures replies { (result ≡ 0) ⊎ (result ≡ 6) → (config schema script : Sequence ℕ)
         (journal : Bool)
         → command_of (map (λ w. w.now) words.now) ≡ Some (Play config schema script journal)
         → RepliesAsOneStore (F.contents files.old config) (F.contents files.old schema)
-        (F.contents files.old script) journal (O.taken out.old) (O.taken out.new) }
+        (F.contents files.old script) journal result (map (λ x. meaning x) shelf.new.items)
+        (O.taken out.old) (O.taken out.new) }
     // Status 1: exactly where the words are no command, unless its line could not be written or
     // memory was refused while they were read.
     ensures no_command { result ≡ 1 → command_of (map (λ w. w.now) words.now) ≡ None }
