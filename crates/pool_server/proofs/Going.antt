@@ -6,6 +6,7 @@ use Rattle.pool_base.specs.Outside.{Appends, Gives}
 use Rattle.pool_base.proofs.Sinking.{appends_nothing, appends_on}
 use Rattle.pool_server.specs.Deeds.{Call, Deed}
 use Rattle.pool_server.specs.Places.{Setting, Place, Comes, Runs}
+use Rattle.pool_server.specs.Reaches.{DeedAt, Reach, Reaches}
 use Rattle.pool_server.specs.Sights.{Seen, Shows, Went, calls_by, ended_behind, ends_by, moments_by, parts, read_by, written_by}
 
 pub gives_nothing : (left : Option (List ℕ)) → Gives left left []
@@ -31,6 +32,10 @@ runs_on : (w : Setting) (a b c : Place) (xs ys : List Deed) → Runs w a xs b �
 runs_on w a b c [] ys is more = let family : Place → Type 0 = λ p. Runs w p ys c in subst family is more
 runs_on w a b c (x ∷ xs) ys (mid, comes, is) more = (mid, comes, runs_on w mid b c xs ys is more)
 
+reaches_on : (a b c : Reach) (xs ys : List Deed) → Reaches xs a b → Reaches ys b c → Reaches (xs ++ ys) a c
+reaches_on a b c [] ys is more = let family : Reach → Type 0 = λ r. Reaches ys r c in subst family is more
+reaches_on a b c (x ∷ xs) ys (mid, does, is) more = (mid, does, reaches_on mid b c xs ys is more)
+
 shows_on : (xs ys : List Deed) (a b c : Seen) → Shows xs a b → Shows ys b c → Shows (xs ++ ys) a c
 shows_on xs ys a b c one two = record {
   read = subst (λ (z : List ℕ). Gives a.left c.left z) (sym (parts_on read_by xs ys)) (gives_on a.left b.left c.left (parts read_by xs) (parts read_by ys) one.read two.read);
@@ -38,6 +43,7 @@ shows_on xs ys a b c one two = record {
   written = subst (λ (z : List ℕ). Appends a.taken c.taken z) (sym (parts_on written_by xs ys)) (appends_on a.taken b.taken c.taken (parts written_by xs) (parts written_by ys) one.written two.written);
   moments = subst (λ (z : List ℤ). Appends a.given c.given z) (sym (parts_on moments_by xs ys)) (appends_on a.given b.given c.given (parts moments_by xs) (parts moments_by ys) one.moments two.moments);
   calls = two.calls ∙ (ap (λ (z : List Call). z ++ parts calls_by ys) one.calls ∙ (append_assoc a.calls (parts calls_by xs) (parts calls_by ys) ∙ ap (λ (z : List Call). a.calls ++ z) (sym (parts_on calls_by xs ys))));
+  reaches = reaches_on a.reach b.reach c.reach xs ys one.reaches two.reaches;
 }
 
 -- what went, and then went on
@@ -49,7 +55,7 @@ went_on w a b c s t u one two = record {
 }
 
 pub shows_none : (s : Seen) → Shows [] s s
-shows_none s = record { read = gives_nothing s.left; ended = refl; written = appends_nothing s.taken; moments = appends_nothing s.given; calls = sym (append-nil s.calls) }
+shows_none s = record { read = gives_nothing s.left; ended = refl; written = appends_nothing s.taken; moments = appends_nothing s.given; calls = sym (append-nil s.calls); reaches = refl }
 
 -- nothing went
 pub went_none : (w : Setting) (p : Place) (s : Seen) → Went w p s p s

@@ -3,6 +3,7 @@ pub mod Begun
 pub mod Counts
 pub mod SeatLaws
 pub mod Going
+pub mod Linking
 pub mod Working
 pub mod Talking
 pub mod Stepping

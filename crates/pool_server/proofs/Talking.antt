@@ -32,9 +32,9 @@ use Rattle.pool_server.specs.declared.end.EndCause.TheVariants as causes
 use Rattle.pool_server.specs.declared.parting.Step.{Step}
 use Rattle.pool_server.specs.declared.parting.Step.TheVariants as steps
 use Rattle.pool_server.specs.Deeds.{Deed, Reads, ReadsEnd, Turns, Writes, Does, Loses, Miss, Plainly, Behind, Unfed, Unturned, Untaken, Untold}
-use Rattle.pool_server.specs.Places.{Setting, Place, AsServed, CausesMiss, Moves, Takes, Tells, TellsOf, Turned, at_moment, led}
+use Rattle.pool_server.specs.Places.{Setting, Place, AsServed, CausesMiss, Moves, Takes, Tells, TellsOf, Turned, at_moment, leaves_by, led, tells_leave}
 use Rattle.pool_server.specs.Sights.{Seen, Shows, Went, with_given, with_reads, with_taken}
-use Rattle.pool_server.specs.Servings.{EndsIn, IsFed, IsGiven, IsHad, IsMissed, IsPassing, IsTaken, closed_by, lost_with, talked, talking}
+use Rattle.pool_server.specs.Servings.{EndsIn, IsFed, IsGiven, IsHad, IsOrdered, closed_by, leaves_with, lost_with, passing_by, talked, talking}
 use Rattle.pool_server.proofs.Going.{gives_nothing, went_none, went_on, went_one, went_same}
 
 or_false : (b : Bool) → (b || false) ≡ b
@@ -45,6 +45,51 @@ or_true : (b : Bool) → (b || true) ≡ true
 or_true true = refl
 or_true false = refl
 
+-- what an order that was taken comes to
+passing_lost : (body : OrderBody) → lost_with None (passing_by body) ≡ None
+passing_lost (orders.Statement checked) = refl
+passing_lost orders.Begin = refl
+passing_lost orders.Commit = refl
+passing_lost orders.Rollback = refl
+passing_lost orders.Settle = refl
+passing_lost orders.ShowNodes = refl
+passing_lost (orders.Recover number) = refl
+passing_lost (orders.Refuse code name) = refl
+passing_lost orders.Leave = refl
+
+passing_leaves : (body : OrderBody) (leaving : Bool) → leaves_with (passing_by body) leaving ≡ tells_leave body leaving
+passing_leaves (orders.Statement checked) leaving = refl
+passing_leaves orders.Begin leaving = refl
+passing_leaves orders.Commit leaving = refl
+passing_leaves orders.Rollback leaving = refl
+passing_leaves orders.Settle leaving = refl
+passing_leaves orders.ShowNodes leaving = refl
+passing_leaves (orders.Recover number) leaving = refl
+passing_leaves (orders.Refuse code name) leaving = refl
+passing_leaves orders.Leave leaving = refl
+
+pub goes_by : (body : OrderBody) → (body ≡ orders.Leave → ⊥) → steps.Goes ≡ passing_by body
+goes_by (orders.Statement checked) other = refl
+goes_by orders.Begin other = refl
+goes_by orders.Commit other = refl
+goes_by orders.Rollback other = refl
+goes_by orders.Settle other = refl
+goes_by orders.ShowNodes other = refl
+goes_by (orders.Recover number) other = refl
+goes_by (orders.Refuse code name) other = refl
+goes_by orders.Leave other = absurd (other refl)
+
+pub ends_passing : (body : OrderBody) (last : Place) → EndsIn (passing_by body) last
+ends_passing (orders.Statement checked) last = tt
+ends_passing orders.Begin last = tt
+ends_passing orders.Commit last = tt
+ends_passing orders.Rollback last = tt
+ends_passing orders.Settle last = tt
+ends_passing orders.ShowNodes last = tt
+ends_passing (orders.Recover number) last = tt
+ends_passing (orders.Refuse code name) last = tt
+ends_passing orders.Leave last = tt
+
 module _ (w : Setting) (p : Place) (s : Seen) where
   -- Writes.
 
@@ -52,13 +97,13 @@ module _ (w : Setting) (p : Place) (s : Seen) where
       → Went w (talking p m v) (with_taken s taken) (talking p m v') (with_taken s taken')
   wrote m v v' taken taken' takes leads = went_one w (talking p m v) (talking p m v') (Writes v.output) (with_taken s taken) (with_taken s taken')
       (refl, (refl, ap (talking p m) leads))
-      (record { read = gives_nothing s.left; ended = refl; written = subst (λ (z : List ℕ). Appends taken taken' z) (sym (append-nil v.output)) takes; moments = appends_nothing s.given; calls = sym (append-nil s.calls) })
+      (record { read = gives_nothing s.left; ended = refl; written = subst (λ (z : List ℕ). Appends taken taken' z) (sym (append-nil v.output)) takes; moments = appends_nothing s.given; calls = sym (append-nil s.calls); reaches = (s.reach, refl, refl) })
 
-  pub wrote_front : (m : Machine) (v v' : View) (taken taken' : Option (List ℕ)) (step : Step) → AppendsFront taken taken' v.output → v' ≡ v → lost_with None step ≡ Some causes.WriteFault
+  pub wrote_front : (m : Machine) (v v' : View) (taken taken' : Option (List ℕ)) (step : Step) → AppendsFront taken taken' v.output → v' ≡ v → lost_with None step ≡ Some causes.WriteFault → leaves_with step p.leaving ≡ p.leaving
       → Went w (talking p m v) (with_taken s taken) (talked p m v' step) (with_taken s taken')
-  wrote_front m v v' taken taken' step takes same lost = went_one w (talking p m v) (talked p m v' step) (Loses causes.WriteFault (Behind takes.front)) (with_taken s taken) (with_taken s taken')
-      (lost, (tt, (refl, (same, (takes.rest, takes.parts)))))
-      (record { read = gives_nothing s.left; ended = refl; written = subst (λ (z : List ℕ). Appends taken taken' z) (sym (append-nil takes.front)) takes.has; moments = appends_nothing s.given; calls = sym (append-nil s.calls) })
+  wrote_front m v v' taken taken' step takes same lost leaving = went_one w (talking p m v) (talked p m v' step) (Loses causes.WriteFault (Behind takes.front)) (with_taken s taken) (with_taken s taken')
+      (lost, (leaving, (tt, (refl, (same, (takes.rest, takes.parts))))))
+      (record { read = gives_nothing s.left; ended = refl; written = subst (λ (z : List ℕ). Appends taken taken' z) (sym (append-nil takes.front)) takes.has; moments = appends_nothing s.given; calls = sym (append-nil s.calls); reaches = (s.reach, refl, refl) })
 
   -- Reads.
 
@@ -68,12 +113,12 @@ module _ (w : Setting) (p : Place) (s : Seen) where
       subst (λ (st : Step). Went w (talking p m v) (with_reads s left ended) (talked p m v' st) (with_reads s left' ended')) (sym goes)
       (went_one w (talking p m v) (talking p m v') (Reads bytes) (with_reads s left ended) (with_reads s left' ended')
       (refl, ap (talking p m) leads)
-      (record { read = subst (λ (z : List ℕ). Gives left left' z) (sym (append-nil bytes)) gives; ended = same; written = appends_nothing s.taken; moments = appends_nothing s.given; calls = sym (append-nil s.calls) }))
+      (record { read = subst (λ (z : List ℕ). Gives left left' z) (sym (append-nil bytes)) gives; ended = same; written = appends_nothing s.taken; moments = appends_nothing s.given; calls = sym (append-nil s.calls); reaches = (s.reach, refl, refl) }))
   fed m v v' bytes step left left' ended ended' (inr (lost, leads)) gives same =
       subst (λ (st : Step). Went w (talking p m v) (with_reads s left ended) (talked p m v' st) (with_reads s left' ended')) (sym lost)
       (went_one w (talking p m v) (talked p m v' (steps.Lost causes.NoMemory)) (Loses causes.NoMemory (Unfed bytes)) (with_reads s left ended) (with_reads s left' ended')
-      (refl, (tt, (refl, leads)))
-      (record { read = subst (λ (z : List ℕ). Gives left left' z) (sym (append-nil bytes)) gives; ended = same; written = appends_nothing s.taken; moments = appends_nothing s.given; calls = sym (append-nil s.calls) }))
+      (refl, (refl, (tt, (refl, leads))))
+      (record { read = subst (λ (z : List ℕ). Gives left left' z) (sym (append-nil bytes)) gives; ended = same; written = appends_nothing s.taken; moments = appends_nothing s.given; calls = sym (append-nil s.calls); reaches = (s.reach, refl, refl) }))
 
   pub had : (m : Machine) (v v' : View) (given : Got) (piece : List ℕ) (step : Step) (left left' : Option (List ℕ)) (ended ended' : Bool) → IsHad given piece v step v' → Gave given piece left left' → ended' ≡ (ended || is_end given)
       → Went w (talking p m v) (with_reads s left ended) (talked p m v' step) (with_reads s left' ended')
@@ -82,12 +127,12 @@ module _ (w : Setting) (p : Place) (s : Seen) where
       subst (λ (st : Step). Went w (talking p m v) (with_reads s left ended) (talked p m v' st) (with_reads s left' ended')) (sym goes)
       (went_one w (talking p m v) (talking p m v') ReadsEnd (with_reads s left ended) (with_reads s left' ended')
       (refl, ap (talking p m) leads)
-      (record { read = subst (λ (z : Option (List ℕ)). Gives left z []) (sym gave.1) (gives_nothing left); ended = same ∙ or_true ended; written = appends_nothing s.taken; moments = appends_nothing s.given; calls = sym (append-nil s.calls) }))
+      (record { read = subst (λ (z : Option (List ℕ)). Gives left z []) (sym gave.1) (gives_nothing left); ended = same ∙ or_true ended; written = appends_nothing s.taken; moments = appends_nothing s.given; calls = sym (append-nil s.calls); reaches = (s.reach, refl, refl) }))
   had m v v' got.Failed piece step left left' ended ended' (lost, leads) gave same =
       subst (λ (st : Step). Went w (talking p m v) (with_reads s left ended) (talked p m v' st) (with_reads s left' ended')) (sym lost)
       (went_one w (talking p m v) (talked p m v' (steps.Lost causes.ReadFault)) (Loses causes.ReadFault Plainly) (with_reads s left ended) (with_reads s left' ended')
-      (refl, (tt, (refl, leads)))
-      (record { read = subst (λ (z : Option (List ℕ)). Gives left z []) (sym gave) (gives_nothing left); ended = same ∙ or_false ended; written = appends_nothing s.taken; moments = appends_nothing s.given; calls = sym (append-nil s.calls) }))
+      (refl, (refl, (tt, (refl, leads))))
+      (record { read = subst (λ (z : Option (List ℕ)). Gives left z []) (sym gave) (gives_nothing left); ended = same ∙ or_false ended; written = appends_nothing s.taken; moments = appends_nothing s.given; calls = sym (append-nil s.calls); reaches = (s.reach, refl, refl) }))
 
   -- nothing has come
   pub silent : (m : Machine) (v : View) (left left' : Option (List ℕ)) (ended ended' : Bool) → left' ≡ left → ended' ≡ ended
@@ -97,37 +142,37 @@ module _ (w : Setting) (p : Place) (s : Seen) where
 
   -- What comes next of the client.
 
-  pub turned : (m n : Machine) (v v' : View) (moment : ℤ) (next : WireStep) (given given' : Option (List ℤ)) → IsNext w.tables moment v next v' → Turned next m n → Appends given given' (moment ∷ [])
+  turned_by : (m n : Machine) (v v' : View) (moment : ℤ) (next : WireStep) (step : Step) (given given' : Option (List ℤ)) → lost_with None step ≡ None → leaves_with step p.leaving ≡ leaves_by next p.leaving → IsNext w.tables moment v next v' → Turned next m n → Appends given given' (moment ∷ [])
+      → Went w (talking p m v) (with_given s given) (talked p n v' step) (with_given s given')
+  turned_by m n v v' moment next step given given' lost leaving is leads reads = went_one w (talking p m v) (talked p n v' step) (Turns moment next) (with_given s given) (with_given s given')
+      (refl, (lost, (leaving, (is, leads))))
+      (record { read = gives_nothing s.left; ended = refl; written = appends_nothing s.taken; moments = reads; calls = sym (append-nil s.calls); reaches = (s.reach, refl, refl) })
+
+  pub turned : (m n : Machine) (v v' : View) (moment : ℤ) (next : WireStep) (given given' : Option (List ℤ)) → p.leaving ≡ leaves_by next p.leaving → IsNext w.tables moment v next v' → Turned next m n → Appends given given' (moment ∷ [])
       → Went w (talking p m v) (with_given s given) (talking p n v') (with_given s given')
-  turned m n v v' moment next given given' is leads reads = went_one w (talking p m v) (talking p n v') (Turns moment next) (with_given s given) (with_given s given')
-      (refl, (refl, (is, leads)))
-      (record { read = gives_nothing s.left; ended = refl; written = appends_nothing s.taken; moments = reads; calls = sym (append-nil s.calls) })
+  turned m n v v' moment next given given' leaving is leads reads = turned_by m n v v' moment next steps.Goes given given' refl leaving is leads reads
 
-  pub not_turned : (cause : EndCause) (m n : Machine) (v v' : View) (moment : ℤ) (step : Step) (given given' : Option (List ℤ)) → CausesMiss cause (Unturned moment) → lost_with None step ≡ Some cause → n ≡ m
+  pub not_turned : (cause : EndCause) (m n : Machine) (v v' : View) (moment : ℤ) (step : Step) (given given' : Option (List ℤ)) → CausesMiss w cause (Unturned moment) (talking p m v) (talked p n v' step) → lost_with None step ≡ Some cause → leaves_with step p.leaving ≡ p.leaving → n ≡ m
       → Appends given given' (moment ∷ []) → Went w (talking p m v) (with_given s given) (talked p n v' step) (with_given s given')
-  not_turned cause m n v v' moment step given given' may lost same reads = went_one w (talking p m v) (talked p n v' step) (Loses cause (Unturned moment)) (with_given s given) (with_given s given')
-      (lost, (may, same))
-      (record { read = gives_nothing s.left; ended = refl; written = appends_nothing s.taken; moments = reads; calls = sym (append-nil s.calls) })
+  not_turned cause m n v v' moment step given given' may lost leaving same reads = went_one w (talking p m v) (talked p n v' step) (Loses cause (Unturned moment)) (with_given s given) (with_given s given')
+      (lost, (leaving, (may, same)))
+      (record { read = gives_nothing s.left; ended = refl; written = appends_nothing s.taken; moments = reads; calls = sym (append-nil s.calls); reaches = (s.reach, refl, refl) })
 
-  not_taken : (cause : EndCause) (m n : Machine) (v v' : View) (moment : ℤ) (order : Order) (given given' : Option (List ℤ)) → CausesMiss cause (Untaken moment order) → IsNext w.tables moment v (wires.Order order) v' → n ≡ m
+  not_taken : (cause : EndCause) (m n : Machine) (v v' : View) (moment : ℤ) (order : Order) (given given' : Option (List ℤ)) → CausesMiss w cause (Untaken moment order) (talking p m v) (record p { machine = n; view = v'; lost = Some cause }) → IsNext w.tables moment v (wires.Order order) v' → n ≡ m
       → Appends given given' (moment ∷ []) → Went w (talking p m v) (with_given s given) (record p { machine = n; view = v'; lost = Some cause }) (with_given s given')
   not_taken cause m n v v' moment order given given' may is same reads = went_one w (talking p m v) (record p { machine = n; view = v'; lost = Some cause }) (Loses cause (Untaken moment order)) (with_given s given) (with_given s given')
-      (refl, (may, (same, is)))
-      (record { read = gives_nothing s.left; ended = refl; written = appends_nothing s.taken; moments = reads; calls = sym (append-nil s.calls) })
+      (refl, (refl, (may, (same, is))))
+      (record { read = gives_nothing s.left; ended = refl; written = appends_nothing s.taken; moments = reads; calls = sym (append-nil s.calls); reaches = (s.reach, refl, refl) })
 
-  passes : (step : Step) → IsPassing step → lost_with None step ≡ None
-  passes step (inl goes) = ap (lost_with None) goes
-  passes step (inr leaves) = ap (lost_with None) leaves
-
-  pub ordered : (m n : Machine) (v v' : View) (moment : ℤ) (order : Order) (step : Step) (given given' : Option (List ℤ)) → IsNext w.tables moment v (wires.Order order) v' → IsTaken order m step n → Appends given given' (moment ∷ [])
+  pub ordered : (m n : Machine) (v v' : View) (moment : ℤ) (order : Order) (step : Step) (given given' : Option (List ℤ)) → next_action m ≡ actions.Rest → IsNext w.tables moment v (wires.Order order) v' → IsOrdered order m step n → Appends given given' (moment ∷ [])
       → Went w (talking p m v) (with_given s given) (talked p n v' step) (with_given s given')
-  ordered m n v v' moment order step given given' is (inl (passing, takes)) reads =
-      subst (λ (l : Option EndCause). Went w (talking p m v) (with_given s given) (record p { machine = n; view = v'; lost = l }) (with_given s given')) (sym (passes step passing))
-      (turned m n v v' moment (wires.Order order) given given' is takes reads)
-  ordered m n v v' moment order step given given' is (inr (inl stops, same)) reads =
+  ordered m n v v' moment order step given given' rests is (inl (passing, takes)) reads =
+      subst (λ (st : Step). Went w (talking p m v) (with_given s given) (talked p n v' st) (with_given s given')) (sym passing)
+      (turned_by m n v v' moment (wires.Order order) (passing_by order.body) given given' (passing_lost order.body) (passing_leaves order.body p.leaving) is takes reads)
+  ordered m n v v' moment order step given given' rests is (inr (inl (stops, (body, served, not, same)))) reads =
       subst (λ (st : Step). Went w (talking p m v) (with_given s given) (talked p n v' st) (with_given s given')) (sym stops)
-      (not_taken causes.Stopped m n v v' moment order given given' tt is same reads)
-  ordered m n v v' moment order step given given' is (inr (inr lost, same)) reads =
+      (not_taken causes.Stopped m n v v' moment order given given' ((rests, refl), (body, served, not)) is same reads)
+  ordered m n v v' moment order step given given' rests is (inr (inr (lost, same))) reads =
       subst (λ (st : Step). Went w (talking p m v) (with_given s given) (talked p n v' st) (with_given s given')) (sym lost)
       (not_taken causes.NoMemory m n v v' moment order given given' tt is same reads)
 
@@ -145,14 +190,14 @@ module _ (w : Setting) (p : Place) (s : Seen) where
   pub told : (m n : Machine) (v v' : View) (outcome : Outcome) (status : Status) → actions.Reply outcome status ≡ next_action m → n ≡ led m (events.Replied outcome status)
       → TellsOf w.nodes v.due outcome (status_byte status) v v' → Went w (talking p m v) s (talking p n v') s
   told m n v v' outcome status due leads tells = went_one w (talking p m v) (talking p n v') (Does (events.Replied outcome status)) s s
-      (refl, (record { may = sym due; leads = leads }, (refl, tells)))
-      (record { read = gives_nothing s.left; ended = refl; written = appends_nothing s.taken; moments = appends_nothing s.given; calls = sym (append-nil s.calls) })
+      (refl, (refl, (record { may = sym due; leads = leads }, (refl, tells))))
+      (record { read = gives_nothing s.left; ended = refl; written = appends_nothing s.taken; moments = appends_nothing s.given; calls = sym (append-nil s.calls); reaches = (s.reach, refl, refl) })
 
-  pub not_told : (cause : EndCause) (m n : Machine) (v v' : View) (outcome : Outcome) (status : Status) (step : Step) → CausesMiss cause (Untold outcome status) → lost_with None step ≡ Some cause → actions.Reply outcome status ≡ next_action m
+  pub not_told : (cause : EndCause) (m n : Machine) (v v' : View) (outcome : Outcome) (status : Status) (step : Step) → CausesMiss w cause (Untold outcome status) (talking p m v) (talked p n v' step) → lost_with None step ≡ Some cause → leaves_with step p.leaving ≡ p.leaving → actions.Reply outcome status ≡ next_action m
       → n ≡ led m (events.Replied outcome status) → Went w (talking p m v) s (talked p n v' step) s
-  not_told cause m n v v' outcome status step may lost due leads = went_one w (talking p m v) (talked p n v' step) (Loses cause (Untold outcome status)) s s
-      (lost, (may, record { may = sym due; leads = leads }))
-      (record { read = gives_nothing s.left; ended = refl; written = appends_nothing s.taken; moments = appends_nothing s.given; calls = sym (append-nil s.calls) })
+  not_told cause m n v v' outcome status step may lost leaving due leads = went_one w (talking p m v) (talked p n v' step) (Loses cause (Untold outcome status)) s s
+      (lost, (leaving, (may, record { may = sym due; leads = leads })))
+      (record { read = gives_nothing s.left; ended = refl; written = appends_nothing s.taken; moments = appends_nothing s.given; calls = sym (append-nil s.calls); reaches = (s.reach, refl, refl) })
 
 -- a reading of the clock, as it is passed on
 pub next_at : (tables : List TableDef) (moment passed : ℤ) (v v' : View) (step other : WireStep) → passed ≡ moment → other ≡ step → IsNext tables passed v other v' → IsNext tables moment v step v'
@@ -179,9 +224,10 @@ as_other (orders.Recover number) other = absurd (other number refl)
 as_other (orders.Refuse code name) other = refl
 as_other orders.Leave other = refl
 
-pub taken_by : (order : Order) (body : OrderBody) (passing step : Step) (m n : Machine) → AsServed order.body body → IsPassing passing → IsGiven (at_moment order.moment body) m passing step n → IsTaken order m step n
-taken_by order body passing step m n served is (inl (same, moves)) = inl (subst IsPassing (sym same) is, record { body = body; served = served; moves = moves })
-taken_by order body passing step m n served is (inr missed) = inr missed
+pub taken_by : (order : Order) (body : OrderBody) (passing step : Step) (m n : Machine) → AsServed order.body body → passing ≡ passing_by order.body → IsGiven (at_moment order.moment body) m passing step n → IsOrdered order m step n
+taken_by order body passing step m n served is (inl (same, moves)) = inl (same ∙ is, record { body = body; served = served; moves = moves })
+taken_by order body passing step m n served is (inr (inl (stops, (not, same)))) = inr (inl (stops, (body, served, not, same)))
+taken_by order body passing step m n served is (inr (inr lost)) = inr (inr lost)
 
 -- The reply of an outcome.
 

@@ -1,7 +1,9 @@
 -- What takes place in a session that is served: its deeds, one after another.
 use Rattle.std.specs.Prelude.{ℕ, ℤ, List}
+use Rattle.pool_base.specs.declared.backend_id.BackendId.{BackendId}
 use Rattle.pool_base.specs.declared.gate_call.GateCall.{GateCall}
 use Rattle.pool_base.specs.declared.gate_call.GateAnswer.{GateAnswer}
+use Rattle.backend_trait.specs.declared.answer.Answer.{Answer}
 use Rattle.session_orders.specs.declared.order.Order.{Order}
 use Rattle.session_orders.specs.declared.outcome.Outcome.{Outcome}
 use Rattle.session_machine.specs.declared.status.Status.{Status}
@@ -19,13 +21,18 @@ made call answer = record { call = call; answer = answer }
 
 -- what was under way where a session lost its client, or was stopped
 pub data Miss : Type 0 where
-  Plainly : Miss  -- nothing of its client
+  Plainly : Miss  -- nothing of its client: a read has failed, or memory was refused
+  Unbidden : Miss  -- its machine has come to its end, and was not told to leave
   Behind : List ℕ → Miss  -- a write, of which these bytes were taken
   Unfed : List ℕ → Miss  -- bytes were read, and came no further
   Unturned : ℤ → Miss  -- by this reading of the clock it was to be said what comes next
   Untaken : ℤ → Order → Miss  -- by this reading of the clock that order was to come next
   Untold : Outcome → Status → Miss  -- a reply came no further
   Unheard : GateCall → GateAnswer → Miss  -- the gate has answered so, and this is no answer
+  Unmade : GateCall → Miss  -- a call of the gate that the pass may not make where it stands
+  Unasked : BackendId → Miss  -- a request was due for a backend of which an answer is awaited already
+  Unawaited : BackendId → Miss  -- an answer was due of a backend of which none is awaited
+  Unused : BackendId → Answer → Miss  -- a backend has answered so, and this is no answer
 
 pub data Deed : Type 0 where
   -- of its client: bytes are read, and taken in; their end is; by a reading of the clock it is said what comes next; bytes are written
@@ -34,9 +41,12 @@ pub data Deed : Type 0 where
   Turns : ℤ → WireStep → Deed
   Writes : List ℕ → Deed
   -- of its machine: an event takes place. A call of the gate that is held is none, and is made again; a look at the gate while an
-  -- answer is awaited is none
+  -- answer of a backend is awaited is none
   Does : SessionEvent → Deed
   Holds : GateCall → ℕ → Deed
-  Peeks : GateAnswer → Deed
+  Peeks : BackendId → GateAnswer → Deed
+  -- of its links: one to a backend is made, or is waited for no longer
+  Connects : BackendId → Deed
+  GivesUp : BackendId → Deed
   -- the client is lost, or the session is stopped, by this cause
   Loses : EndCause → Miss → Deed

@@ -5,5 +5,6 @@ pub mod Seats
 pub mod Policies
 pub mod Deeds
 pub mod Places
+pub mod Reaches
 pub mod Sights
 pub mod Servings

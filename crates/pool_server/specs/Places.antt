@@ -1,29 +1,33 @@
--- Where a session stands that is served, and which deed may come there: the machine of the session allows it, and the dialogue with
--- its client does.
+-- Where a served session stands, and which deed may come there: the session's machine and the dialogue with its client allow it.
 use Rattle.std.specs.Prelude.{◌≡◌, ℕ, ℤ, Bool, true, false, List, [], ◌∷◌, ◌++◌, Option, Some, None, is_some, codes, length}
 use Rattle.pool_base.specs.declared.backend_id.BackendId.{BackendId}
+use Rattle.pool_base.specs.declared.gate_call.GateCall.{GateCall}
+use Rattle.pool_base.specs.declared.gate_call.GateCall.TheVariants as gatecalls
 use Rattle.pool_config.specs.declared.config.Node.{Node}
 use Rattle.schema.specs.declared.catalogue.TableDef.{TableDef}
+use Rattle.backend_trait.specs.declared.request.Request.{Request}
 use Rattle.session_orders.specs.declared.order.Order.{Order}
 use Rattle.session_orders.specs.declared.order.OrderBody.{OrderBody}
 use Rattle.session_orders.specs.declared.order.OrderBody.TheVariants as orders
 use Rattle.session_orders.specs.declared.outcome.Outcome.{Outcome}
+use Rattle.session_machine.specs.declared.action.Action.{Action}
 use Rattle.session_machine.specs.declared.action.Action.TheVariants as actions
 use Rattle.session_machine.specs.declared.action.SessionEvent.{SessionEvent}
 use Rattle.session_machine.specs.declared.action.SessionEvent.TheVariants as events
 use Rattle.session_machine.specs.declared.machine.Machine.{Machine}
-use Rattle.session_machine.specs.Allowed.{MayHappen}
+use Rattle.session_machine.specs.Allowed.{MayHappen, TakesOrder}
 use Rattle.session_machine.specs.Rules.{after, next_action, status_byte}
+use Rattle.session_engine.specs.Handing.{gate_event}
 use Rattle.session_engine.specs.Tidying.{tidied}
 use Rattle.session_wire.specs.declared.due.Due.{Due}
 use Rattle.session_wire.specs.declared.wire.WireStep.{WireStep}
 use Rattle.session_wire.specs.declared.wire.WireStep.TheVariants as wires
-use Rattle.session_wire.specs.Answers.{Says, implicit_after, keeps_portals, left_after, skips}
+use Rattle.session_wire.specs.Answers.{MayAnswer, Says, implicit_after, keeps_portals, left_after, skips}
 use Rattle.session_wire.specs.Shown.{View, frame_of, with_end, with_piece, with_written}
 use Rattle.session_wire.specs.Steps.{IsNext}
 use Rattle.pool_server.specs.declared.end.EndCause.{EndCause}
 use Rattle.pool_server.specs.declared.end.EndCause.TheVariants as causes
-use Rattle.pool_server.specs.Deeds.{Deed, Reads, ReadsEnd, Turns, Writes, Does, Holds, Peeks, Loses, Miss, Plainly, Behind, Unfed, Unturned, Untaken, Untold, Unheard}
+use Rattle.pool_server.specs.Deeds.{Deed, Reads, ReadsEnd, Turns, Writes, Does, Holds, Peeks, Connects, GivesUp, Loses, Miss, Plainly, Unbidden, Behind, Unfed, Unturned, Untaken, Untold, Unheard, Unmade, Unasked, Unawaited, Unused}
 
 -- the tables that are served, and the nodes that are configured
 pub record Setting : Type 0 where
@@ -33,21 +37,23 @@ pub record Setting : Type 0 where
 abbrev pub setting : List TableDef → List Node → Setting
 setting tables nodes = record { tables = tables; nodes = nodes }
 
--- the machine of the session, its client's wire, and by which cause its client was lost, or the session stopped
+-- the machine of the session, its client's wire, by which cause its client was lost, or the session stopped, and whether the machine was
+-- told to leave
 pub record Place : Type 0 where
   pub machine : Machine
   pub view : View
   pub lost : Option EndCause
+  pub leaving : Bool
 
-abbrev pub place : Machine → View → Option EndCause → Place
-place machine view lost = record { machine = machine; view = view; lost = lost }
+abbrev pub place : Machine → View → Option EndCause → Bool → Place
+place machine view lost leaving = record { machine = machine; view = view; lost = lost; leaving = leaving }
 
 abbrev pub with_machine : Place → Machine → Place
 with_machine p machine = record p { machine = machine }
 
 -- The machine.
 
--- where an event leads; behind a reply the answers are dropped, which nothing reads any more
+-- where an event leads. After a reply the answers are dropped: nothing reads them any more
 abbrev pub led : Machine → SessionEvent → Machine
 led m (events.Replied outcome status) = tidied (after m (events.Replied outcome status))
 led m event = after m event
@@ -71,6 +77,28 @@ pub record Takes (moment : ℤ) (asked : OrderBody) (old new : Machine) : Type 0
   pub body : OrderBody
   pub served : AsServed asked body
   pub moves : Moves old (events.Ordered (at_moment moment body)) new
+
+-- a Leave that is ordered tells the machine to leave
+abbrev pub tells_leave : OrderBody → Bool → Bool
+tells_leave (orders.Statement checked) leaving = leaving
+tells_leave orders.Begin leaving = leaving
+tells_leave orders.Commit leaving = leaving
+tells_leave orders.Rollback leaving = leaving
+tells_leave orders.Settle leaving = leaving
+tells_leave orders.ShowNodes leaving = leaving
+tells_leave (orders.Recover number) leaving = leaving
+tells_leave (orders.Refuse code name) leaving = leaving
+tells_leave orders.Leave leaving = true
+
+abbrev pub leaves_by : WireStep → Bool → Bool
+leaves_by (wires.Order order) leaving = tells_leave order.body leaving
+leaves_by wires.NeedInput leaving = leaving
+leaves_by wires.NeedOutcome leaving = leaving
+leaves_by (wires.Close refused) leaving = leaving
+
+abbrev pub leaves_at : SessionEvent → Bool → Bool
+leaves_at (events.Ordered order) leaving = tells_leave order.body leaving
+leaves_at event leaving = leaving
 
 -- what comes next of the client moves the machine where it is an order
 abbrev pub Turned : WireStep → Machine → Machine → Type 0
@@ -96,7 +124,7 @@ abbrev pub TellsOf : List Node → Option Due → Outcome → ℕ → View → V
 TellsOf nodes None outcome status old new = new ≡ old
 TellsOf nodes (Some due) outcome status old new = Tells nodes due outcome status old new
 
--- what an event of the machine is to the wire. A reply is told. Orders come of the wire alone, but for a Leave behind the loss of the client
+-- what an event of the machine is to the wire. A reply is told. Orders come from the wire alone, but for a Leave after the loss of the client
 abbrev pub IsHeard : Setting → SessionEvent → Place → View → Type 0
 IsHeard w (events.Ordered order) old view = (order.body ≡ orders.Leave) × ((is_some old.lost ≡ true) × (view ≡ old.view))
 IsHeard w (events.Replied outcome status) old view = (old.lost ≡ None) × TellsOf w.nodes old.view.due outcome (status_byte status) old.view view
@@ -109,30 +137,80 @@ abbrev pub first_loss : Option EndCause → EndCause → Option EndCause
 first_loss None cause = Some cause
 first_loss (Some first) cause = Some first
 
--- a read that failed; a write that did; memory that was refused. Where the session is stopped, anything
-abbrev pub CausesMiss : EndCause → Miss → Type 0
-CausesMiss causes.Left miss = ⊥
-CausesMiss causes.Refused miss = ⊥
-CausesMiss causes.ReadFault Plainly = Unit {0}
-CausesMiss causes.ReadFault miss = ⊥
-CausesMiss causes.WriteFault (Behind front) = Unit {0}
-CausesMiss causes.WriteFault miss = ⊥
-CausesMiss causes.CutOff miss = ⊥
-CausesMiss causes.NoMemory (Behind front) = ⊥
-CausesMiss causes.NoMemory (Unheard call answer) = ⊥
-CausesMiss causes.NoMemory miss = Unit {0}
-CausesMiss causes.Stopped miss = Unit {0}
+-- the call of the gate that is due
+abbrev pub call_due : Action → Option GateCall
+call_due actions.Rest = None
+call_due (actions.Gate call) = Some call
+call_due (actions.Detach b cause) = Some (gatecalls.Detach b)
+call_due (actions.Post b request) = None
+call_due (actions.WaitFor b) = None
+call_due (actions.Reply outcome status) = None
+call_due actions.End = None
+
+-- the machine rests, and its client is there: the wire is asked what comes next
+abbrev pub IsTurn : Place → Type 0
+IsTurn old = (next_action old.machine ≡ actions.Rest) × (old.lost ≡ None)
+
+-- the machine has come to its end, and was not told to leave
+abbrev pub IsUnbidden : Place → Type 0
+IsUnbidden old = (next_action old.machine ≡ actions.End) × ((old.lost ≡ None) × (old.leaving ≡ false))
+
+-- the test that has failed where the session is stopped: what was done is not what the machine, the wire, the pass or the links wait for
+abbrev pub Fails : Setting → Miss → Place → Place → Type 0
+Fails w Plainly old new = ⊥
+Fails w Unbidden old new = IsUnbidden old
+Fails w (Behind front) old new = ⊥
+Fails w (Unfed bytes) old new = ⊥
+Fails w (Unturned moment) old new = IsTurn old × IsNext w.tables moment old.view wires.NeedOutcome new.view
+Fails w (Untaken moment order) old new = IsTurn old × ((body : OrderBody) × AsServed order.body body × (TakesOrder old.machine body → ⊥))
+Fails w (Untold outcome status) old new = MayAnswer outcome → ⊥
+Fails w (Unheard call answer) old new =
+    (call_due (next_action old.machine) ≡ Some call) × (MayHappen old.machine (gate_event (next_action old.machine) answer) → ⊥)
+Fails w (Unmade call) old new = call_due (next_action old.machine) ≡ Some call
+Fails w (Unasked b) old new = (request : Request) × (next_action old.machine ≡ actions.Post b request)
+Fails w (Unawaited b) old new = next_action old.machine ≡ actions.WaitFor b
+Fails w (Unused b answer) old new = (next_action old.machine ≡ actions.WaitFor b) × (MayHappen old.machine (events.Taken b answer) → ⊥)
+
+-- where memory was refused a step was under way, but for a write and a call of the gate
+abbrev pub LacksMemory : Miss → Type 0
+LacksMemory Plainly = Unit {0}
+LacksMemory (Unfed bytes) = Unit {0}
+LacksMemory (Unturned moment) = Unit {0}
+LacksMemory (Untaken moment order) = Unit {0}
+LacksMemory (Untold outcome status) = Unit {0}
+LacksMemory miss = ⊥
+
+abbrev pub IsPlain : Miss → Type 0
+IsPlain Plainly = Unit {0}
+IsPlain miss = ⊥
+
+abbrev pub IsBehind : Miss → Type 0
+IsBehind (Behind front) = Unit {0}
+IsBehind miss = ⊥
+
+-- a commit that is cut off brings the machine to its end
+abbrev pub CutsOff : Miss → Place → Type 0
+CutsOff Unbidden old = IsUnbidden old
+CutsOff miss old = ⊥
+
+-- a read that failed; a write that did; a commit that was cut off; memory that was refused; a test that has failed
+abbrev pub CausesMiss : Setting → EndCause → Miss → Place → Place → Type 0
+CausesMiss w causes.Left miss old new = ⊥
+CausesMiss w causes.Refused miss old new = ⊥
+CausesMiss w causes.ReadFault miss old new = IsPlain miss
+CausesMiss w causes.WriteFault miss old new = IsBehind miss
+CausesMiss w causes.CutOff miss old new = CutsOff miss old
+CausesMiss w causes.NoMemory miss old new = LacksMemory miss
+CausesMiss w causes.Stopped miss old new = Fails w miss old new
 
 -- what was under way, and is done in part
 abbrev pub Misses : Setting → Miss → Place → Place → Type 0
-Misses w Plainly old new = (new.machine ≡ old.machine) × (new.view ≡ old.view)
 Misses w (Behind front) old new = (new.machine ≡ old.machine) × ((new.view ≡ old.view) × ((rest : List ℕ) × (old.view.output ≡ front ++ rest)))
-Misses w (Unfed bytes) old new = (new.machine ≡ old.machine) × (new.view ≡ old.view)
 -- where memory was refused, the wire stands anywhere: nothing comes of it any more
 Misses w (Unturned moment) old new = new.machine ≡ old.machine
 Misses w (Untaken moment order) old new = (new.machine ≡ old.machine) × IsNext w.tables moment old.view (wires.Order order) new.view
 Misses w (Untold outcome status) old new = Moves old.machine (events.Replied outcome status) new.machine
-Misses w (Unheard call answer) old new = (new.machine ≡ old.machine) × (new.view ≡ old.view)
+Misses w miss old new = (new.machine ≡ old.machine) × (new.view ≡ old.view)
 
 -- All of it.
 
@@ -141,13 +219,17 @@ abbrev pub Comes : Setting → Place → Deed → Place → Type 0
 Comes w old (Reads bytes) new = (old.lost ≡ None) × (new ≡ record old { view = with_piece old.view bytes })
 Comes w old ReadsEnd new = (old.lost ≡ None) × (new ≡ record old { view = with_end old.view })
 Comes w old (Turns moment next) new =
-    (old.lost ≡ None) × ((new.lost ≡ None) × (IsNext w.tables moment old.view next new.view × Turned next old.machine new.machine))
+    (old.lost ≡ None) × ((new.lost ≡ None) × ((new.leaving ≡ leaves_by next old.leaving) × (IsNext w.tables moment old.view next new.view × Turned next old.machine new.machine)))
 Comes w old (Writes bytes) new =
     (old.lost ≡ None) × ((old.view.output ≡ bytes) × (new ≡ record old { view = with_written old.view (length bytes) }))
-Comes w old (Does event) new = (new.lost ≡ old.lost) × (Moves old.machine event new.machine × IsHeard w event old new.view)
+Comes w old (Does event) new =
+    (new.lost ≡ old.lost) × ((new.leaving ≡ leaves_at event old.leaving) × (Moves old.machine event new.machine × IsHeard w event old new.view))
 Comes w old (Holds call count) new = (next_action old.machine ≡ actions.Gate call) × (new ≡ old)
-Comes w old (Peeks answer) new = ((b : BackendId) × (next_action old.machine ≡ actions.WaitFor b)) × (new ≡ old)
-Comes w old (Loses cause miss) new = (new.lost ≡ first_loss old.lost cause) × (CausesMiss cause miss × Misses w miss old new)
+Comes w old (Peeks b answer) new = (next_action old.machine ≡ actions.WaitFor b) × (new ≡ old)
+Comes w old (Connects b) new = ((request : Request) × (next_action old.machine ≡ actions.Post b request)) × (new ≡ old)
+Comes w old (GivesUp b) new = (next_action old.machine ≡ actions.WaitFor b) × (new ≡ old)
+Comes w old (Loses cause miss) new =
+    (new.lost ≡ first_loss old.lost cause) × ((new.leaving ≡ old.leaving) × (CausesMiss w cause miss old new × Misses w miss old new))
 
 -- one deed after another
 abbrev pub Runs : Setting → Place → List Deed → Place → Type 0

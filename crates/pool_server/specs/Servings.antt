@@ -1,17 +1,23 @@
 -- How the deeds of a session end, and what a step of it comes to.
 use Rattle.std.specs.Prelude.{◌≡◌, ◌≤◌, ◌⊎◌, ℕ, Bool, true, false, List, [], ◌∷◌, ◌++◌, length, take, Option, Some, None}
+use Rattle.pool_base.specs.declared.backend_id.BackendId.{BackendId}
 use Rattle.pool_base.specs.declared.gate_call.GateAnswer.{GateAnswer}
 use Rattle.pool_base.specs.declared.gate_call.GateCall.TheVariants as gatecalls
 use Rattle.pool_base.specs.declared.outside.Got.{Got}
 use Rattle.pool_base.specs.declared.outside.Got.TheVariants as got
 use Rattle.pool_base.specs.declared.session_id.SessionId.{SessionId}
+use Rattle.session_links.specs.Plans.{Told}
 use Rattle.session_orders.specs.declared.order.Order.{Order}
+use Rattle.session_orders.specs.declared.order.OrderBody.{OrderBody}
+use Rattle.session_orders.specs.declared.order.OrderBody.TheVariants as orders
+use Rattle.shared_gate.specs.History.{Stand}
+use Rattle.session_machine.specs.declared.action.SessionEvent.{SessionEvent}
 use Rattle.session_machine.specs.declared.action.SessionEvent.TheVariants as events
 use Rattle.session_machine.specs.declared.machine.Machine.{Machine}
 use Rattle.session_machine.specs.declared.machine.ReadPolicy.{ReadPolicy}
-use Rattle.session_machine.specs.Allowed.{MayHappen}
+use Rattle.session_machine.specs.Allowed.{MayHappen, TakesOrder}
+use Rattle.session_machine.specs.declared.action.Action.TheVariants as actions
 use Rattle.session_machine.specs.Rules.{after, new_machine, next_action}
-use Rattle.session_engine.specs.Handing.{gate_event}
 use Rattle.session_wire.specs.declared.wire.Stage.TheVariants.{Closed}
 use Rattle.session_wire.specs.Shown.{View, IsFresh, with_piece, with_end}
 use Rattle.pool_server.specs.declared.end.EndCause.{EndCause}
@@ -22,8 +28,9 @@ use Rattle.pool_server.specs.declared.parting.Parting.{Parting}
 use Rattle.pool_server.specs.declared.parting.Parting.TheVariants as partings
 use Rattle.pool_server.specs.Passes.{is_leave}
 use Rattle.pool_server.specs.Deeds.{Call, made}
-use Rattle.pool_server.specs.Places.{Setting, Place, place, first_loss, Moves, Takes}
-use Rattle.pool_server.specs.Sights.{Seen, with_calls, Went}
+use Rattle.pool_server.specs.Places.{AsServed, Setting, Place, place, first_loss, Moves, Takes}
+use Rattle.pool_server.specs.Reaches.{Reach, IsGivenUp, PeeksBy, is_away}
+use Rattle.pool_server.specs.Sights.{Seen, with_links, with_pass, Went}
 
 -- A step.
 
@@ -32,6 +39,12 @@ abbrev pub lost_by : Parting → Option EndCause
 lost_by partings.No = None
 lost_by partings.Closing = None
 lost_by (partings.Gone cause) = Some cause
+
+-- .. and whether the machine was told to leave
+abbrev pub is_leaving : Parting → Bool
+is_leaving partings.No = false
+is_leaving partings.Closing = true
+is_leaving (partings.Gone cause) = true
 
 abbrev pub lost_over : Option EndCause → EndCause → Option EndCause
 lost_over lost causes.Left = lost
@@ -42,7 +55,7 @@ lost_over lost causes.CutOff = first_loss lost causes.CutOff
 lost_over lost causes.NoMemory = first_loss lost causes.NoMemory
 lost_over lost causes.Stopped = first_loss lost causes.Stopped
 
--- and behind a step
+-- .. and after a step
 abbrev pub lost_with : Option EndCause → Step → Option EndCause
 lost_with lost steps.Goes = lost
 lost_with lost steps.Silent = lost
@@ -51,42 +64,68 @@ lost_with lost (steps.Lost cause) = first_loss lost cause
 lost_with lost steps.Ended = lost
 lost_with lost (steps.Over cause) = lost_over lost cause
 
--- the place behind a step; a place with a client that is there, and behind a step of it
+abbrev pub leaves_with : Step → Bool → Bool
+leaves_with steps.Goes leaving = leaving
+leaves_with steps.Silent leaving = leaving
+leaves_with steps.Leaves leaving = true
+leaves_with (steps.Lost cause) leaving = leaving
+leaves_with steps.Ended leaving = leaving
+leaves_with (steps.Over cause) leaving = leaving
+
+-- the place of a session that parts so, and after a step of it
+abbrev pub standing : Machine → View → Parting → Place
+standing machine view parting = place machine view (lost_by parting) (is_leaving parting)
+
+abbrev pub standing_by : Machine → View → Parting → Step → Place
+standing_by machine view parting step = place machine view (lost_with (lost_by parting) step) (leaves_with step (is_leaving parting))
+
+-- the place after a step; a place with a client that is not lost, and the place after a step of it
 abbrev pub stepped : Place → Machine → Step → Place
-stepped p machine step = record p { machine = machine; lost = lost_with p.lost step }
+stepped p machine step = record p { machine = machine; lost = lost_with p.lost step; leaving = leaves_with step p.leaving }
 
 abbrev pub talking : Place → Machine → View → Place
 talking p machine view = record p { machine = machine; view = view; lost = None }
 
 abbrev pub talked : Place → Machine → View → Step → Place
-talked p machine view step = record p { machine = machine; view = view; lost = lost_with None step }
+talked p machine view step = record p { machine = machine; view = view; lost = lost_with None step; leaving = leaves_with step p.leaving }
 
 -- Parts of a step.
 
--- the gate has answered what was due; or this is no answer
-abbrev pub IsAnswered : Machine → GateAnswer → Step → Machine → Type 0
-IsAnswered old answer step new =
-    ((step ≡ steps.Goes) × (MayHappen old (gate_event (next_action old) answer) × (new ≡ after old (gate_event (next_action old) answer))))
-    ⊎ ((step ≡ steps.Over causes.Stopped) × (new ≡ old))
+-- the event has taken place; or it may not come there, and the session is stopped
+abbrev pub Happens : SessionEvent → Machine → Step → Machine → Type 0
+Happens event old step new =
+    ((step ≡ steps.Goes) × (MayHappen old event × (new ≡ after old event)))
+    ⊎ ((step ≡ steps.Over causes.Stopped) × ((MayHappen old event → ⊥) × (new ≡ old)))
 
--- the gate was not called, or looked at once
-abbrev pub IsPeeked : List Call → List Call → Type 0
-IsPeeked old new = (new ≡ old) ⊎ ((answer : GateAnswer) × (new ≡ old ++ made gatecalls.Look answer ∷ []))
+-- the backend is waited for no longer; or the gate was looked at once, and that is so where the backend is away
+abbrev pub IsPeeked : BackendId → List Call → List Call → Reach → Reach → Type 0
+IsPeeked b old new before later =
+    ((new ≡ old) × IsGivenUp b before later)
+    ⊎ ((answer : GateAnswer) × ((new ≡ old ++ made gatecalls.Look answer ∷ []) × PeeksBy (is_away b answer) b before later))
 
--- it goes on with its client or is to be closed, and: it is stopped, or memory was refused
-abbrev pub IsPassing : Step → Type 0
-IsPassing step = (step ≡ steps.Goes) ⊎ (step ≡ steps.Leaves)
+-- it goes on with its client; after a Leave it is to be closed
+abbrev pub passing_by : OrderBody → Step
+passing_by (orders.Statement checked) = steps.Goes
+passing_by orders.Begin = steps.Goes
+passing_by orders.Commit = steps.Goes
+passing_by orders.Rollback = steps.Goes
+passing_by orders.Settle = steps.Goes
+passing_by orders.ShowNodes = steps.Goes
+passing_by (orders.Recover number) = steps.Goes
+passing_by (orders.Refuse code name) = steps.Goes
+passing_by orders.Leave = steps.Leaves
 
-abbrev pub IsMissed : Step → Type 0
-IsMissed step = (step ≡ steps.Over causes.Stopped) ⊎ (step ≡ steps.Lost causes.NoMemory)
-
--- an order was given to the machine, or was not
+-- an order was given to the machine; or it does not take it, and is stopped; or memory was refused
 abbrev pub IsGiven : Order → Machine → Step → Step → Machine → Type 0
-IsGiven order old passing step new = ((step ≡ passing) × Moves old (events.Ordered order) new) ⊎ (IsMissed step × (new ≡ old))
+IsGiven order old passing step new =
+    ((step ≡ passing) × Moves old (events.Ordered order) new)
+    ⊎ (((step ≡ steps.Over causes.Stopped) × ((TakesOrder old order.body → ⊥) × (new ≡ old))) ⊎ ((step ≡ steps.Lost causes.NoMemory) × (new ≡ old)))
 
 -- the wire's order was
-abbrev pub IsTaken : Order → Machine → Step → Machine → Type 0
-IsTaken order old step new = (IsPassing step × Takes order.moment order.body old new) ⊎ (IsMissed step × (new ≡ old))
+abbrev pub IsOrdered : Order → Machine → Step → Machine → Type 0
+IsOrdered order old step new =
+    ((step ≡ passing_by order.body) × Takes order.moment order.body old new)
+    ⊎ (((step ≡ steps.Over causes.Stopped) × ((body : OrderBody) × AsServed order.body body × (TakesOrder old body → ⊥) × (new ≡ old))) ⊎ ((step ≡ steps.Lost causes.NoMemory) × (new ≡ old)))
 
 -- bytes were fed to the wire, or memory was refused
 abbrev pub IsFed : List ℕ → View → Step → View → Type 0
@@ -112,40 +151,62 @@ abbrev pub closed_by : Bool → EndCause
 closed_by true = causes.Refused
 closed_by false = causes.Left
 
--- the client has left, or was told a FATAL error, and all that waited was written; a commit was cut off
+-- the client has left, or was told a FATAL error, and all that waited was written
 abbrev pub Closes : EndCause → Place → Type 0
 Closes causes.Left last = (last.lost ≡ None) × ((last.view.stage ≡ Closed false) × (last.view.output ≡ []))
 Closes causes.Refused last = (last.lost ≡ None) × ((last.view.stage ≡ Closed true) × (last.view.output ≡ []))
 Closes causes.ReadFault last = ⊥
 Closes causes.WriteFault last = ⊥
-Closes causes.CutOff last = last.lost ≡ None
+Closes causes.CutOff last = ⊥
 Closes causes.NoMemory last = ⊥
 Closes causes.Stopped last = ⊥
 
--- .. or the client was lost by that cause. Where a test has failed nothing is said
+-- .. or the client was lost by that cause, or the session stopped
 abbrev pub Ends : EndCause → Place → Type 0
-Ends causes.Stopped last = Unit {0}
 Ends cause last = (last.lost ≡ Some cause) ⊎ Closes cause last
 
+-- .. by a step that says so. A session that is stopped is so by this step, if its client was not lost before
+abbrev pub EndsBy : EndCause → Place → Type 0
+EndsBy causes.Stopped last = Unit {0}
+EndsBy cause last = Ends cause last
+
+-- by which cause a session is over: the first counts by which its client was lost
+abbrev pub first_of : Option EndCause → EndCause → EndCause
+first_of None cause = cause
+first_of (Some first) cause = first
+
+-- of a machine that has come to its end, and was not told to leave
+abbrev pub unbidden_by : Bool → EndCause
+unbidden_by true = causes.CutOff
+unbidden_by false = causes.Stopped
+
+-- the session ends so where a step is its last. The machine is at its end where the step says so
 abbrev pub EndsIn : Step → Place → Type 0
 EndsIn steps.Goes last = Unit {0}
 EndsIn steps.Silent last = Unit {0}
 EndsIn steps.Leaves last = Unit {0}
 EndsIn (steps.Lost cause) last = Unit {0}
-EndsIn steps.Ended last = Unit {0}
-EndsIn (steps.Over cause) last = Ends cause last
+EndsIn steps.Ended last = next_action last.machine ≡ actions.End
+EndsIn (steps.Over cause) last = EndsBy cause last
 
 -- there are deeds by which the session ends so
-pub record Finishes (w : Setting) (old : Place) (before : Seen) (cause : EndCause) (later : Seen) : Type 0 where
+pub record Leads (w : Setting) (old : Place) (before : Seen) (cause : EndCause) (later : Seen) : Type 0 where
   pub last : Place
   pub went : Went w old before last later
+  pub ends : Ends cause last
+
+-- .. and then its links are dropped
+pub record Finishes (w : Setting) (old : Place) (before : Seen) (cause : EndCause) (later : Seen) : Type 0 where
+  pub last : Place
+  pub at : ℕ → Told
+  pub went : Went w old before last (with_links later at)
   pub ends : Ends cause last
 
 -- from a machine at its start, and a client of whom nothing has come yet
 pub record Opens (w : Setting) (s : SessionId) (policy : ReadPolicy) (before : Seen) (cause : EndCause) (later : Seen) : Type 0 where
   pub first : View
   pub fresh : IsFresh s.number first
-  pub finishes : Finishes w (place (new_machine s policy) first None) before cause later
+  pub finishes : Finishes w (place (new_machine s policy) first None false) before cause later
 
 -- .. or memory was refused before anything took place
 abbrev pub Serves : Setting → SessionId → ReadPolicy → Seen → EndCause → Seen → Type 0
@@ -161,8 +222,9 @@ pub record ComesOut (old new : List Call) : Type 0 where
   pub leave : AllLeave way
   pub has : new ≡ old ++ way
 
--- a session was served: there are deeds of it by which it has ended so, and behind them its pass comes out
+-- a session was served: there are deeds of it by which it has ended so, and then its pass comes out
 pub record IsServed (w : Setting) (s : SessionId) (policy : ReadPolicy) (before : Seen) (cause : EndCause) (later : Seen) : Type 0 where
   pub calls : List Call
-  pub serves : Serves w s policy before cause (with_calls later calls)
+  pub stand : Stand
+  pub serves : Serves w s policy before cause (with_pass later calls stand)
   pub out : ComesOut calls later.calls

@@ -1,4 +1,4 @@
--- What those outside see of the deeds of a session: its source and its sink, the clock, and the gate.
+-- What those outside see of the deeds of a session: its source and its sink, the clock, the gate, and its links.
 use Rattle.std.specs.Prelude.{◌≡◌, ℕ, ℤ, Bool, true, List, [], ◌∷◌, ◌++◌, map, Option}
 use Rattle.pool_base.specs.Outside.{Appends, Gives}
 use Rattle.pool_base.specs.declared.gate_call.GateCall.{GateCall}
@@ -7,23 +7,34 @@ use Rattle.pool_base.specs.declared.gate_call.GateAnswer.TheVariants as answers
 use Rattle.shared_gate.specs.declared.history.Entry.{Entry}
 use Rattle.session_machine.specs.declared.action.SessionEvent.{SessionEvent}
 use Rattle.session_machine.specs.declared.action.SessionEvent.TheVariants as events
-use Rattle.pool_server.specs.Deeds.{Call, made, Deed, Reads, ReadsEnd, Turns, Writes, Does, Holds, Peeks, Loses, Miss, Plainly, Behind, Unfed, Unturned, Untaken, Untold, Unheard}
+use Rattle.pool_server.specs.Deeds.{Call, made, Deed, Reads, ReadsEnd, Turns, Writes, Does, Holds, Peeks, Connects, GivesUp, Loses, Miss, Plainly, Unbidden, Behind, Unfed, Unturned, Untaken, Untold, Unheard}
 use Rattle.pool_server.specs.Places.{Setting, Place, Runs}
+use Rattle.pool_server.specs.Reaches.{Reach, Reaches}
+use Rattle.session_links.specs.Plans.{Told}
+use Rattle.shared_gate.specs.History.{Stand}
 
 -- the bytes that are left, where the source tells them, and whether it has ended; what the sink has taken, where it tells; the moments that
--- the clock has given, where it tells; the calls of the pass
+-- the clock has given, where it tells; the calls of the pass; and what the session reaches
 pub record Seen : Type 0 where
   pub left : Option (List ℕ)
   pub ended : Bool
   pub taken : Option (List ℕ)
   pub given : Option (List ℤ)
   pub calls : List Call
+  pub reach : Reach
 
-abbrev pub seen : Option (List ℕ) → Bool → Option (List ℕ) → Option (List ℤ) → List Call → Seen
-seen left ended taken given calls = record { left = left; ended = ended; taken = taken; given = given; calls = calls }
+abbrev pub seen : Option (List ℕ) → Bool → Option (List ℕ) → Option (List ℤ) → List Call → Reach → Seen
+seen left ended taken given calls reach = record { left = left; ended = ended; taken = taken; given = given; calls = calls; reach = reach }
 
-abbrev pub with_calls : Seen → List Call → Seen
-with_calls s calls = record s { calls = calls }
+abbrev pub with_work : Seen → List Call → Reach → Seen
+with_work s calls reach = record s { calls = calls; reach = reach }
+
+-- with these links; with these calls, and a pass that stands there
+abbrev pub with_links : Seen → (ℕ → Told) → Seen
+with_links s at = record s { reach = record s.reach { at = at } }
+
+abbrev pub with_pass : Seen → List Call → Stand → Seen
+with_pass s calls stand = record s { calls = calls; reach = record s.reach { stand = stand } }
 
 abbrev pub with_reads : Seen → Option (List ℕ) → Bool → Seen
 with_reads s left ended = record s { left = left; ended = ended }
@@ -67,7 +78,7 @@ calls_at _ = []
 abbrev pub calls_by : Deed → List Call
 calls_by (Does event) = calls_at event
 calls_by (Holds call count) = made call (answers.Held count) ∷ []
-calls_by (Peeks answer) = made gatecalls.Look answer ∷ []
+calls_by (Peeks b answer) = made gatecalls.Look answer ∷ []
 calls_by (Loses cause (Unheard call answer)) = made call answer ∷ []
 calls_by _ = []
 
@@ -95,6 +106,7 @@ pub record Shows (deeds : List Deed) (old new : Seen) : Type 0 where
   pub written : Appends old.taken new.taken (parts written_by deeds)
   pub moments : Appends old.given new.given (parts moments_by deeds)
   pub calls : new.calls ≡ old.calls ++ parts calls_by deeds
+  pub reaches : Reaches deeds old.reach new.reach
 
 -- there are deeds that lead from one place to another, each where it may come, and those outside have seen just them
 pub record Went (w : Setting) (old : Place) (before : Seen) (new : Place) (later : Seen) : Type 0 where

@@ -40,7 +40,7 @@ impl Phase {
         }
     }
 
-    /// Where the pass stands behind a call with its answer.
+    /// Where the pass stands after a call with its answer.
     fn after(self, call: GateCall, answer: GateAnswer) -> Phase
         ensures { stand_in result ≡ stand_next (stand_in self) call answer }
     {

@@ -1,4 +1,4 @@
-//! What a step of a session comes to, and whether the session goes on behind its order.
+//! What a step of a session comes to, and whether the session goes on after its order.
 
 use crate::end::EndCause;
 
@@ -19,7 +19,7 @@ pub(crate) enum Step {
     Over(EndCause),
 }
 
-/// Whether the session goes on behind its order.
+/// Whether the session goes on after its order.
 #[derive(Clone, Copy, PartialEq, Eq)]
 pub(crate) enum Parting {
     No,

@@ -1,19 +1,24 @@
 //! A whole session.
-ghost use Rattle.std.specs.Prelude.{◌≡◌, ◌≤◌, true};
+ghost use Rattle.std.specs.Prelude.{◌≡◌, ◌≤◌, true, false, None};
 ghost use Rattle.pool_base.specs.Outside.{Rose};
 ghost use Rattle.schema.specs.Grammar.{IsWithin};
 ghost use Rattle.shared_gate.specs.History.{Out};
 ghost use Rattle.pool_server.specs.Causes.{is_cut_off, is_read_fault, is_write_fault};
 ghost use Rattle.pool_server.specs.Policies.{policy_of};
-ghost use Rattle.pool_server.specs.Places.{setting};
+ghost use Rattle.session_engine.specs.Cores.{machine_in};
+ghost use Rattle.session_wire.specs.Shown.{shown};
+ghost use Rattle.pool_server.specs.Places.{place, setting};
+ghost use Rattle.pool_server.specs.Reaches.{alone, reach};
 ghost use Rattle.pool_server.specs.Sights.{seen};
-ghost use Rattle.pool_server.specs.Servings.{IsServed, Serves};
+ghost use Rattle.pool_server.specs.Servings.{Finishes, IsServed, Serves};
 ghost use Rattle.pool_server.specs.Told.{Begins};
 
 use crate::end::EndCause;
 use crate::outside::{ClientSource, GatePass, Notices};
+use crate::parting::Parting;
 use crate::session::Session;
 use crate::way_out::come_out;
+use backend_trait::Link;
 use catalogue::Catalogue;
 use pool_base::{Clock, NoMemory, SessionId, Sink};
 use pool_config::Config;
@@ -63,9 +68,11 @@ where
     // session and the dialogue with its client stand, and those outside have seen just them.
     ensures served { IsServed (setting tables.now config.now.nodes) s (policy_of config.now)
         (seen (I.left around.old.source) (I.ended around.old.source)
-        (O.taken around.old.sink) (C.given around.old.clock) (G.calls around.old.gate)) result
+        (O.taken around.old.sink) (C.given around.old.clock) (G.calls around.old.gate)
+        (alone (M.plans around.old.maker) (G.stand around.old.gate))) result
         (seen (I.left around.new.source) (I.ended around.new.source)
-        (O.taken around.new.sink) (C.given around.new.clock) (G.calls around.new.gate)) }
+        (O.taken around.new.sink) (C.given around.new.clock) (G.calls around.new.gate)
+        (alone (M.plans around.new.maker) (G.stand around.new.gate))) }
     // However it ends, its pass is out.
     ensures out { G.stand around.new.gate ≡ Out }
 {
@@ -74,9 +81,8 @@ where
     cause
 }
 
-/// The steps of a session, to its end.
-#[tactic(auto, using(crate::proofs::Begun::begins_same))]
-fn run<I, O, M, C, G, N>(
+/// A session that begins, and its steps, to its end.
+fn run<L, I, O, M, C, G, N>(
     alloc: Global,
     around: &mut Around<I, O, M, C, G, N>,
     config: &Config,
@@ -84,9 +90,10 @@ fn run<I, O, M, C, G, N>(
     s: SessionId,
 ) -> EndCause
 where
+    L: Link,
     I: ClientSource,
     O: Sink,
-    M: LinkMaker,
+    M: LinkMaker<L = L>,
     C: Clock,
     G: GatePass,
     N: Notices,
@@ -99,19 +106,59 @@ where
     ensures taken { Begins (O.taken around.old.sink) (O.taken around.new.sink) }
     ensures serves { Serves (setting tables.now config.now.nodes) s (policy_of config.now)
         (seen (I.left around.old.source) (I.ended around.old.source)
-        (O.taken around.old.sink) (C.given around.old.clock) (G.calls around.old.gate)) result
+        (O.taken around.old.sink) (C.given around.old.clock) (G.calls around.old.gate)
+        (alone (M.plans around.old.maker) (G.stand around.old.gate))) result
         (seen (I.left around.new.source) (I.ended around.new.source)
-        (O.taken around.new.sink) (C.given around.new.clock) (G.calls around.new.gate)) }
+        (O.taken around.new.sink) (C.given around.new.clock) (G.calls around.new.gate)
+        (alone (M.plans around.new.maker) (G.stand around.new.gate))) }
 {
-    let mut session: Session<M::L> = match Session::new(alloc, s, config) {
+    let mut session: Session<L> = match Session::new(alloc, s, config) {
         Ok(session) => session,
         Err(NoMemory) => return EndCause::NoMemory,
     };
+    let cause = steps(&mut session, around, config, tables);
+    session.settle();
+    cause
+}
+
+/// The steps of a session whose client is there, to its end.
+#[tactic(auto, using(crate::proofs::Begun::begins_same))]
+fn steps<L, I, O, M, C, G, N>(
+    session: &mut Session<L>,
+    around: &mut Around<I, O, M, C, G, N>,
+    config: &Config,
+    tables: &Catalogue,
+) -> EndCause
+where
+    L: Link,
+    I: ClientSource,
+    O: Sink,
+    M: LinkMaker<L = L>,
+    C: Clock,
+    G: GatePass,
+    N: Notices,
+    requires within { IsWithin tables.now }
+    requires there { session.old.parting ≡ Parting.No }
+    ensures read { is_read_fault result ≡ true
+        → Rose (I.fault_count around.old.source) (I.fault_count around.new.source) }
+    ensures write { is_write_fault result ≡ true
+        → Rose (O.fault_count around.old.sink) (O.fault_count around.new.sink) }
+    ensures cut_off { is_cut_off result ≡ true → G.cut around.new.gate ≡ true }
+    ensures taken { Begins (O.taken around.old.sink) (O.taken around.new.sink) }
+    ensures finishes { Finishes (setting tables.now config.now.nodes)
+        (place (machine_in session.old.work.core) (shown session.old.talk.wire) None false)
+        (seen (I.left around.old.source) (I.ended around.old.source)
+        (O.taken around.old.sink) (C.given around.old.clock) (G.calls around.old.gate)
+        (reach L.pending L.plan session.old.work.links.slots.items (M.plans around.old.maker)
+        (G.stand around.old.gate))) result
+        (seen (I.left around.new.source) (I.ended around.new.source)
+        (O.taken around.new.sink) (C.given around.new.clock) (G.calls around.new.gate)
+        (alone (M.plans around.new.maker) (G.stand around.new.gate))) }
+{
     'steps: for _ in 0..u64::MAX {
         if let Some(cause) = session.step(around, config, tables) {
-            session.settle();
             return cause;
         }
     }
-    EndCause::Stopped
+    session.give_out()
 }

@@ -9,18 +9,21 @@
 //!
 //! One thing is done a step: what is due of the core, and where nothing is, what is due of the
 //! wire.
-ghost use Rattle.std.specs.Prelude.{◌≡◌, ◌≤◌, ◌⊎◌, true, false, IfOk, IfNone, IfSome, is_some, List, None};
+ghost use Rattle.std.specs.Prelude.{◌≡◌, ◌≤◌, ◌⊎◌, ℕ, Bool, true, false, IfOk, IfNone, IfSome, is_some, List, None};
 ghost use Rattle.pool_base.specs.Outside.{Rose};
 ghost use Rattle.schema.specs.Grammar.{IsWithin};
 ghost use Rattle.pool_config.specs.declared.config.Node.{Node};
+ghost use Rattle.session_machine.specs.declared.action.Action.TheVariants as actions;
 ghost use Rattle.session_machine.specs.Rules.{new_machine, next_action};
 ghost use Rattle.session_engine.specs.Cores.{machine_in};
 ghost use Rattle.session_engine.specs.Handing.{IsReply};
+ghost use Rattle.session_links.specs.Plans.{NoLink, told_at};
 ghost use Rattle.session_wire.specs.Shown.{IsFresh, shown};
 ghost use Rattle.pool_server.specs.Policies.{policy_of};
-ghost use Rattle.pool_server.specs.Places.{Place, Setting, first_loss, place, setting};
+ghost use Rattle.pool_server.specs.Places.{Setting, first_loss, place, setting};
+ghost use Rattle.pool_server.specs.Reaches.{reach};
 ghost use Rattle.pool_server.specs.Sights.{Seen, Went, seen};
-ghost use Rattle.pool_server.specs.Servings.{Ends, EndsIn, Finishes, lost_by, lost_with};
+ghost use Rattle.pool_server.specs.Servings.{EndsIn, Finishes, Leads, first_of, is_leaving, leaves_with, lost_by, lost_with, standing, standing_by, unbidden_by};
 ghost use Rattle.pool_server.specs.Causes.{IsQuiet, in_answer, in_parting, in_step, is_cut_off, is_read_fault, is_write_fault};
 ghost use Rattle.pool_server.specs.Told.{Begins};
 
@@ -56,6 +59,8 @@ impl<L: Link> Session<L> {
         ensures machine { IfOk result (λ session. machine_in session.work.core
             ≡ new_machine s (policy_of config.now)) }
         ensures fresh { IfOk result (λ session. IsFresh s.number (shown session.talk.wire)) }
+        ensures links { IfOk result (λ session. (c : ℕ)
+            → told_at L.pending L.plan session.work.links.slots.items c ≡ NoLink) }
     {
         Ok(Session {
             talk: Talk::new(alloc, s)?,
@@ -83,9 +88,11 @@ impl<L: Link> Session<L> {
     where
         I: ClientSource,
         O: Sink,
+        M: LinkMaker<L = L>,
         C: Clock,
         G: GatePass,
         requires within { IsWithin tables.now }
+        requires rests { next_action (machine_in self.old.work.core) ≡ actions.Rest }
         ensures read { in_step is_read_fault result ≡ true
             → Rose (I.fault_count around.old.source) (I.fault_count around.new.source) }
         ensures write { in_step is_write_fault result ≡ true
@@ -97,16 +104,19 @@ impl<L: Link> Session<L> {
         ensures taken { Begins (O.taken around.old.sink) (O.taken around.new.sink) }
         ensures parting { self.new.parting ≡ self.old.parting }
         ensures went { (nodes : List Node) → Went (setting tables.now nodes)
-            (place (machine_in self.old.work.core) (shown self.old.talk.wire)
-            (lost_by self.old.parting))
+            (standing (machine_in self.old.work.core) (shown self.old.talk.wire) self.old.parting)
             (seen (I.left around.old.source) (I.ended around.old.source)
-            (O.taken around.old.sink) (C.given around.old.clock) (G.calls around.old.gate))
-            (place (machine_in self.new.work.core) (shown self.new.talk.wire)
-            (lost_with (lost_by self.old.parting) result))
+            (O.taken around.old.sink) (C.given around.old.clock) (G.calls around.old.gate)
+            (reach L.pending L.plan self.old.work.links.slots.items (M.plans around.old.maker)
+            (G.stand around.old.gate)))
+            (standing_by (machine_in self.new.work.core) (shown self.new.talk.wire)
+            self.old.parting result)
             (seen (I.left around.new.source) (I.ended around.new.source)
-            (O.taken around.new.sink) (C.given around.new.clock) (G.calls around.new.gate)) }
-        ensures ends { EndsIn result (place (machine_in self.new.work.core)
-            (shown self.new.talk.wire) (lost_with (lost_by self.old.parting) result)) }
+            (O.taken around.new.sink) (C.given around.new.clock) (G.calls around.new.gate)
+            (reach L.pending L.plan self.new.work.links.slots.items (M.plans around.new.maker)
+            (G.stand around.new.gate))) }
+        ensures ends { EndsIn result (standing_by (machine_in self.new.work.core)
+            (shown self.new.talk.wire) self.old.parting result) }
     {
         if self.is_gone() {
             return Step::Over(EndCause::Stopped);
@@ -127,9 +137,11 @@ impl<L: Link> Session<L> {
     where
         I: ClientSource,
         O: Sink,
+        M: LinkMaker<L = L>,
         C: Clock,
         G: GatePass,
         requires within { IsWithin tables.now }
+        requires rests { next_action (machine_in self.old.work.core) ≡ actions.Rest }
         ensures read { in_step is_read_fault result ≡ true
             → Rose (I.fault_count around.old.source) (I.fault_count around.new.source) }
         ensures write { in_step is_write_fault result ≡ true
@@ -140,16 +152,20 @@ impl<L: Link> Session<L> {
         ensures write_later { O.fault_count around.old.sink ≤ O.fault_count around.new.sink }
         ensures taken { Begins (O.taken around.old.sink) (O.taken around.new.sink) }
         ensures parting { self.new.parting ≡ self.old.parting }
-        ensures went { (nodes : List Node) → Went (setting tables.now nodes)
-            (place (machine_in self.old.work.core) (shown self.old.talk.wire) None)
+        ensures went { (nodes : List Node) → (leaving : Bool) → Went (setting tables.now nodes)
+            (place (machine_in self.old.work.core) (shown self.old.talk.wire) None leaving)
             (seen (I.left around.old.source) (I.ended around.old.source)
-            (O.taken around.old.sink) (C.given around.old.clock) (G.calls around.old.gate))
+            (O.taken around.old.sink) (C.given around.old.clock) (G.calls around.old.gate)
+            (reach L.pending L.plan self.old.work.links.slots.items (M.plans around.old.maker)
+            (G.stand around.old.gate)))
             (place (machine_in self.new.work.core) (shown self.new.talk.wire)
-            (lost_with None result))
+            (lost_with None result) (leaves_with result leaving))
             (seen (I.left around.new.source) (I.ended around.new.source)
-            (O.taken around.new.sink) (C.given around.new.clock) (G.calls around.new.gate)) }
-        ensures ends { EndsIn result (place (machine_in self.new.work.core)
-            (shown self.new.talk.wire) (lost_with None result)) }
+            (O.taken around.new.sink) (C.given around.new.clock) (G.calls around.new.gate)
+            (reach L.pending L.plan self.new.work.links.slots.items (M.plans around.new.maker)
+            (G.stand around.new.gate))) }
+        ensures ends { (leaving : Bool) → EndsIn result (place (machine_in self.new.work.core)
+            (shown self.new.talk.wire) (lost_with None result) (leaves_with result leaving)) }
     {
         self.work.rest();
         let step = self.talk.turn(
@@ -166,6 +182,8 @@ impl<L: Link> Session<L> {
     /// Where the client is silent the backends are told what was held back from them.
     fn hush(&mut self, step: Step)
         ensures machine { machine_in self.new.work.core ≡ machine_in self.old.work.core }
+        ensures links { told_at L.pending L.plan self.new.work.links.slots.items
+            ≡ told_at L.pending L.plan self.old.work.links.slots.items }
         ensures wire { shown self.new.talk.wire ≡ shown self.old.talk.wire }
         ensures parting { self.new.parting ≡ self.old.parting }
     {
@@ -177,6 +195,18 @@ impl<L: Link> Session<L> {
     /// The backends are told what was held back from them.
     pub fn settle(&mut self) {
         self.work.settle();
+    }
+
+    /// As many steps were taken as there are numbers for: the session is given up.
+    pub fn give_out(&self) -> EndCause
+        ensures read { is_read_fault result ≡ in_parting is_read_fault self.now.parting }
+        ensures write { is_write_fault result ≡ in_parting is_write_fault self.now.parting }
+        ensures cut { is_cut_off result ≡ in_parting is_cut_off self.now.parting }
+        ensures leads { (w : Setting) → (s : Seen) → Leads w
+            (standing (machine_in self.now.work.core) (shown self.now.talk.wire)
+            self.now.parting) s result s }
+    {
+        first_of(self.parting, EndCause::NoMemory)
     }
 
     /// What is due is done.
@@ -206,16 +236,19 @@ impl<L: Link> Session<L> {
         ensures taken { Begins (O.taken around.old.sink) (O.taken around.new.sink) }
         ensures parting { self.new.parting ≡ self.old.parting }
         ensures went { Went (setting tables.now config.now.nodes)
-            (place (machine_in self.old.work.core) (shown self.old.talk.wire)
-            (lost_by self.old.parting))
+            (standing (machine_in self.old.work.core) (shown self.old.talk.wire) self.old.parting)
             (seen (I.left around.old.source) (I.ended around.old.source)
-            (O.taken around.old.sink) (C.given around.old.clock) (G.calls around.old.gate))
-            (place (machine_in self.new.work.core) (shown self.new.talk.wire)
-            (lost_with (lost_by self.old.parting) result))
+            (O.taken around.old.sink) (C.given around.old.clock) (G.calls around.old.gate)
+            (reach L.pending L.plan self.old.work.links.slots.items (M.plans around.old.maker)
+            (G.stand around.old.gate)))
+            (standing_by (machine_in self.new.work.core) (shown self.new.talk.wire)
+            self.old.parting result)
             (seen (I.left around.new.source) (I.ended around.new.source)
-            (O.taken around.new.sink) (C.given around.new.clock) (G.calls around.new.gate)) }
-        ensures ends { EndsIn result (place (machine_in self.new.work.core)
-            (shown self.new.talk.wire) (lost_with (lost_by self.old.parting) result)) }
+            (O.taken around.new.sink) (C.given around.new.clock) (G.calls around.new.gate)
+            (reach L.pending L.plan self.new.work.links.slots.items (M.plans around.new.maker)
+            (G.stand around.new.gate))) }
+        ensures ends { EndsIn result (standing_by (machine_in self.new.work.core)
+            (shown self.new.talk.wire) self.old.parting result) }
     {
         match self.work.core.asks() {
             Ask::Rest => self.rest(around, tables),
@@ -228,10 +261,7 @@ impl<L: Link> Session<L> {
             }
             Ask::WaitFor(b) => self.work.wait(b, &around.maker, &mut around.gate),
             Ask::Reply => self.reply(config),
-            Ask::End => {
-                self.work.core.end();
-                Step::Ended
-            }
+            Ask::End => Step::Ended,
         }
     }
 
@@ -239,14 +269,15 @@ impl<L: Link> Session<L> {
     fn reply(&mut self, config: &Config) -> Step
         requires { IsReply (next_action (machine_in self.old.work.core)) }
         ensures quiet { IsQuiet result }
+        ensures links { told_at L.pending L.plan self.new.work.links.slots.items
+            ≡ told_at L.pending L.plan self.old.work.links.slots.items }
         ensures parting { self.new.parting ≡ self.old.parting }
         ensures went { (tables : _) → (s : Seen) → Went (setting tables config.now.nodes)
-            (place (machine_in self.old.work.core) (shown self.old.talk.wire)
-            (lost_by self.old.parting)) s
-            (place (machine_in self.new.work.core) (shown self.new.talk.wire)
-            (lost_with (lost_by self.old.parting) result)) s }
-        ensures ends { EndsIn result (place (machine_in self.new.work.core)
-            (shown self.new.talk.wire) (lost_with (lost_by self.old.parting) result)) }
+            (standing (machine_in self.old.work.core) (shown self.old.talk.wire) self.old.parting) s
+            (standing_by (machine_in self.new.work.core) (shown self.new.talk.wire)
+            self.old.parting result) s }
+        ensures ends { EndsIn result (standing_by (machine_in self.new.work.core)
+            (shown self.new.talk.wire) self.old.parting result) }
     {
         if self.is_gone() {
             return Step::Over(EndCause::Stopped);
@@ -294,21 +325,26 @@ impl<L: Link> Session<L> {
         // What took place: there are deeds, each of which may come where the session stands, and
         // those outside have seen just them.
         ensures went { IfNone result (Went (setting tables.now config.now.nodes)
-            (place (machine_in self.old.work.core) (shown self.old.talk.wire)
-            (lost_by self.old.parting))
+            (standing (machine_in self.old.work.core) (shown self.old.talk.wire) self.old.parting)
             (seen (I.left around.old.source) (I.ended around.old.source)
-            (O.taken around.old.sink) (C.given around.old.clock) (G.calls around.old.gate))
-            (place (machine_in self.new.work.core) (shown self.new.talk.wire)
-            (lost_by self.new.parting))
+            (O.taken around.old.sink) (C.given around.old.clock) (G.calls around.old.gate)
+            (reach L.pending L.plan self.old.work.links.slots.items (M.plans around.old.maker)
+            (G.stand around.old.gate)))
+            (standing (machine_in self.new.work.core) (shown self.new.talk.wire) self.new.parting)
             (seen (I.left around.new.source) (I.ended around.new.source)
-            (O.taken around.new.sink) (C.given around.new.clock) (G.calls around.new.gate))) }
+            (O.taken around.new.sink) (C.given around.new.clock) (G.calls around.new.gate)
+            (reach L.pending L.plan self.new.work.links.slots.items (M.plans around.new.maker)
+            (G.stand around.new.gate)))) }
         ensures finishes { IfSome result (λ cause. Finishes (setting tables.now config.now.nodes)
-            (place (machine_in self.old.work.core) (shown self.old.talk.wire)
-            (lost_by self.old.parting))
+            (standing (machine_in self.old.work.core) (shown self.old.talk.wire) self.old.parting)
             (seen (I.left around.old.source) (I.ended around.old.source)
-            (O.taken around.old.sink) (C.given around.old.clock) (G.calls around.old.gate)) cause
+            (O.taken around.old.sink) (C.given around.old.clock) (G.calls around.old.gate)
+            (reach L.pending L.plan self.old.work.links.slots.items (M.plans around.old.maker)
+            (G.stand around.old.gate))) cause
             (seen (I.left around.new.source) (I.ended around.new.source)
-            (O.taken around.new.sink) (C.given around.new.clock) (G.calls around.new.gate))) }
+            (O.taken around.new.sink) (C.given around.new.clock) (G.calls around.new.gate)
+            (reach L.pending L.plan self.new.work.links.slots.items (M.plans around.new.maker)
+            (G.stand around.new.gate)))) }
     {
         let step = self.due(around, config, tables);
         self.behind(step, around.gate.is_cut())
@@ -316,6 +352,10 @@ impl<L: Link> Session<L> {
 
     /// Where a step leads.
     fn behind(&mut self, step: Step, is_cut: bool) -> Option<EndCause>
+        requires ends { EndsIn step (standing_by (machine_in self.old.work.core)
+            (shown self.old.talk.wire) self.old.parting step) }
+        ensures links { told_at L.pending L.plan self.new.work.links.slots.items
+            ≡ told_at L.pending L.plan self.old.work.links.slots.items }
         ensures read { in_answer is_read_fault result ≡ true
             → (in_parting is_read_fault self.old.parting ≡ true)
             ⊎ (in_step is_read_fault step ≡ true) }
@@ -335,13 +375,13 @@ impl<L: Link> Session<L> {
             → (in_parting is_cut_off self.old.parting ≡ true)
             ⊎ (in_step is_cut_off step ≡ true) }
         ensures went { IfNone result ((w : Setting) → (s : Seen) → Went w
-            (place (machine_in self.old.work.core) (shown self.old.talk.wire)
-            (lost_with (lost_by self.old.parting) step)) s
-            (place (machine_in self.new.work.core) (shown self.new.talk.wire)
-            (lost_by self.new.parting)) s) }
-        ensures ends { IfSome result (λ cause. (last : Place)
-            → last.lost ≡ lost_with (lost_by self.old.parting) step → EndsIn step last
-            → Ends cause last) }
+            (standing_by (machine_in self.old.work.core) (shown self.old.talk.wire)
+            self.old.parting step) s
+            (standing (machine_in self.new.work.core) (shown self.new.talk.wire)
+            self.new.parting) s) }
+        ensures leads { IfSome result (λ cause. (w : Setting) → (s : Seen) → Leads w
+            (standing_by (machine_in self.old.work.core) (shown self.old.talk.wire)
+            self.old.parting step) s cause s) }
     {
         match step {
             Step::Goes | Step::Silent => None,
@@ -351,15 +391,14 @@ impl<L: Link> Session<L> {
             }
             Step::Lost(cause) => self.lose(cause),
             Step::Ended => self.ended(is_cut),
-            Step::Over(cause) => Some(cause),
+            Step::Over(cause) => Some(first_of(self.parting, cause)),
         }
     }
 
     /// The client is lost: the core is brought to its end. The first cause counts.
     fn lose(&mut self, cause: EndCause) -> Option<EndCause>
-        ensures read { in_answer is_read_fault result ≡ false }
-        ensures write { in_answer is_write_fault result ≡ false }
-        ensures cut { in_answer is_cut_off result ≡ false }
+        ensures links { told_at L.pending L.plan self.new.work.links.slots.items
+            ≡ told_at L.pending L.plan self.old.work.links.slots.items }
         ensures read_kept { in_parting is_read_fault self.new.parting ≡ true
             → (in_parting is_read_fault self.old.parting ≡ true)
             ⊎ (is_read_fault cause ≡ true) }
@@ -369,24 +408,28 @@ impl<L: Link> Session<L> {
         ensures cut_kept { in_parting is_cut_off self.new.parting ≡ true
             → (in_parting is_cut_off self.old.parting ≡ true)
             ⊎ (is_cut_off cause ≡ true) }
+        ensures parts { IfSome result (λ over. self.new.parting ≡ Parting.Gone over) }
+        ensures lost { lost_by self.new.parting ≡ first_loss (lost_by self.old.parting) cause }
         ensures went { IfNone result ((w : Setting) → (s : Seen) → Went w
-            (place (machine_in self.old.work.core) (shown self.old.talk.wire)
-            (lost_with (lost_by self.old.parting) (Step.Lost cause))) s
-            (place (machine_in self.new.work.core) (shown self.new.talk.wire)
-            (lost_by self.new.parting)) s) }
-        ensures stopped { IfSome result (λ over. over ≡ EndCause.Stopped) }
+            (standing_by (machine_in self.old.work.core) (shown self.old.talk.wire)
+            self.old.parting (Step.Lost cause)) s
+            (standing (machine_in self.new.work.core) (shown self.new.talk.wire)
+            self.new.parting) s) }
     {
+        self.part(cause);
         if !self.work.core.may_give_up() {
-            return Some(EndCause::Stopped);
+            return lost_by(self.parting);
         }
         self.work.core.give_up();
-        self.part(cause);
         None
     }
 
     /// The first cause counts by which the client is lost.
     fn part(&mut self, cause: EndCause)
+        ensures links { told_at L.pending L.plan self.new.work.links.slots.items
+            ≡ told_at L.pending L.plan self.old.work.links.slots.items }
         ensures lost { lost_by self.new.parting ≡ first_loss (lost_by self.old.parting) cause }
+        ensures leaving { is_leaving self.new.parting ≡ true }
         ensures machine { machine_in self.new.work.core ≡ machine_in self.old.work.core }
         ensures wire { shown self.new.talk.wire ≡ shown self.old.talk.wire }
         ensures read { in_parting is_read_fault self.new.parting ≡ true
@@ -407,7 +450,10 @@ impl<L: Link> Session<L> {
 
     /// The wire has ordered its Leave.
     fn close(&mut self)
+        ensures links { told_at L.pending L.plan self.new.work.links.slots.items
+            ≡ told_at L.pending L.plan self.old.work.links.slots.items }
         ensures lost { lost_by self.new.parting ≡ lost_by self.old.parting }
+        ensures leaving { is_leaving self.new.parting ≡ true }
         ensures machine { machine_in self.new.work.core ≡ machine_in self.old.work.core }
         ensures wire { shown self.new.talk.wire ≡ shown self.old.talk.wire }
         ensures read { in_parting is_read_fault self.new.parting ≡ true
@@ -424,27 +470,62 @@ impl<L: Link> Session<L> {
     }
 
     /// The core is at its end. Without a Leave it comes there from a commit that was cut off alone.
-    fn ended(&self, is_cut: bool) -> Option<EndCause>
+    fn ended(&mut self, is_cut: bool) -> Option<EndCause>
+        requires { next_action (machine_in self.old.work.core) ≡ actions.End }
+        ensures links { told_at L.pending L.plan self.new.work.links.slots.items
+            ≡ told_at L.pending L.plan self.old.work.links.slots.items }
+        ensures parting { self.new.parting ≡ self.old.parting }
         ensures read { in_answer is_read_fault result
-            ≡ in_parting is_read_fault self.now.parting }
+            ≡ in_parting is_read_fault self.old.parting }
         ensures write { in_answer is_write_fault result
-            ≡ in_parting is_write_fault self.now.parting }
+            ≡ in_parting is_write_fault self.old.parting }
         ensures cut { in_answer is_cut_off result ≡ true
-            → (in_parting is_cut_off self.now.parting ≡ true) ⊎ (is_cut ≡ true) }
-        ensures none { IfNone result (lost_by self.now.parting ≡ None) }
-        ensures ends { IfSome result (λ cause. (last : Place)
-            → last.lost ≡ lost_by self.now.parting → Ends cause last) }
+            → (in_parting is_cut_off self.old.parting ≡ true) ⊎ (is_cut ≡ true) }
+        ensures went { IfNone result ((w : Setting) → (s : Seen) → Went w
+            (standing (machine_in self.old.work.core) (shown self.old.talk.wire) self.old.parting)
+            s (standing (machine_in self.new.work.core) (shown self.new.talk.wire)
+            self.old.parting) s) }
+        ensures leads { IfSome result (λ cause. (w : Setting) → (s : Seen) → Leads w
+            (standing (machine_in self.old.work.core) (shown self.old.talk.wire) self.old.parting)
+            s cause s) }
     {
         match self.parting {
-            Parting::No => {
-                if is_cut {
-                    Some(EndCause::CutOff)
-                } else {
-                    Some(EndCause::Stopped)
-                }
+            Parting::No => Some(unbidden(is_cut)),
+            Parting::Closing | Parting::Gone(_) => {
+                self.work.core.end();
+                lost_by(self.parting)
             }
-            Parting::Closing => None,
-            Parting::Gone(cause) => Some(cause),
         }
+    }
+}
+
+/// By which cause a session is over: the first counts by which its client was lost.
+fn first_of(parting: Parting, cause: EndCause) -> EndCause
+    ensures { result ≡ first_of (lost_by parting) cause }
+{
+    match parting {
+        Parting::No | Parting::Closing => cause,
+        Parting::Gone(first) => first,
+    }
+}
+
+/// How a session ends whose machine has come to its end, and was not told to leave.
+fn unbidden(is_cut: bool) -> EndCause
+    ensures { result ≡ unbidden_by is_cut }
+{
+    if is_cut {
+        EndCause::CutOff
+    } else {
+        EndCause::Stopped
+    }
+}
+
+/// By which cause the client was lost.
+fn lost_by(parting: Parting) -> Option<EndCause>
+    ensures { result ≡ lost_by parting }
+{
+    match parting {
+        Parting::No | Parting::Closing => None,
+        Parting::Gone(cause) => Some(cause),
     }
 }

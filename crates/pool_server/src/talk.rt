@@ -6,6 +6,7 @@ ghost use Rattle.pool_base.specs.declared.outside.Got.TheVariants.{Failed};
 ghost use Rattle.pool_config.specs.declared.config.Node.{Node};
 ghost use Rattle.schema.specs.Grammar.{IsWithin};
 ghost use Rattle.session_machine.specs.declared.machine.Machine.{Machine};
+ghost use Rattle.session_machine.specs.declared.action.Action.TheVariants as actions;
 ghost use Rattle.session_machine.specs.Rules.{next_action};
 ghost use Rattle.session_engine.specs.Handing.{IsReply};
 ghost use Rattle.session_engine.specs.Cores.{machine_in};
@@ -15,7 +16,7 @@ ghost use Rattle.session_wire.specs.Shown.{IsFresh, shown, with_end, with_writte
 ghost use Rattle.pool_server.specs.Causes.{IsQuiet, in_step, is_cut_off, is_read_fault, is_write_fault};
 ghost use Rattle.pool_server.specs.Places.{AsServed, Place, Setting, TellsOf, at_moment, setting};
 ghost use Rattle.pool_server.specs.Sights.{Seen, Went, with_client, with_reads, with_taken, with_talk};
-ghost use Rattle.pool_server.specs.Servings.{AreThere, EndsIn, IsFed, IsGiven, IsHad, IsPassing, IsTaken, closed_by, talked, talking};
+ghost use Rattle.pool_server.specs.Servings.{AreThere, EndsIn, IsFed, IsGiven, IsHad, IsOrdered, closed_by, passing_by, talked, talking};
 ghost use Rattle.pool_server.specs.Told.{Begins};
 
 use crate::end::EndCause;
@@ -52,22 +53,22 @@ fn served(alloc: Global, body: OrderBody) -> Result<OrderBody, NoMemory>
     }
 }
 
-/// What stands behind an order.
+/// What a session does after an order.
 fn behind(body: &OrderBody) -> Step
     ensures quiet { IsQuiet result }
-    ensures passing { IsPassing result }
+    ensures passing { result ≡ passing_by body.now }
+    ensures ends { (last : Place) → EndsIn result last }
 {
-    if matches!(body, OrderBody::Leave) {
-        Step::Leaves
-    } else {
-        Step::Goes
+    match body {
+        OrderBody::Leave => Step::Leaves,
+        _ => Step::Goes,
     }
 }
 
 /// An order goes to the core.
 fn give(core: &mut Core, moment: i64, body: OrderBody, behind: Step) -> Step
     requires quiet { IsQuiet behind }
-    requires passing { IsPassing behind }
+    requires passes { (last : Place) → EndsIn behind last }
     ensures quiet { IsQuiet result }
     ensures ends { (last : Place) → EndsIn result last }
     ensures given { IsGiven (at_moment moment body) (machine_in core.old) behind result
@@ -88,7 +89,7 @@ fn give(core: &mut Core, moment: i64, body: OrderBody, behind: Step) -> Step
 fn take(alloc: Global, order: Order, core: &mut Core) -> Step
     ensures quiet { IsQuiet result }
     ensures ends { (last : Place) → EndsIn result last }
-    ensures taken { IsTaken order (machine_in core.old) result (machine_in core.new) }
+    ensures taken { IsOrdered order (machine_in core.old) result (machine_in core.new) }
 {
     let Order { moment, body } = order;
     let behind = behind(&body);
@@ -150,6 +151,7 @@ impl Talk {
         clock: &mut C,
     ) -> Step
         requires within { IsWithin tables.now }
+        requires rests { next_action (machine_in core.old) ≡ actions.Rest }
         ensures read { in_step is_read_fault result ≡ true
             → Rose (I.fault_count source.old) (I.fault_count source.new) }
         ensures write { in_step is_write_fault result ≡ true

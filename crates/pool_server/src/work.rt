@@ -1,21 +1,25 @@
 //! What is done of what is due of the core: one call of the gate, one detachment, one post, one
 //! look for an answer.
-ghost use Rattle.std.specs.Prelude.{◌≡◌, IfOk};
+ghost use Rattle.std.specs.Prelude.{◌≡◌, ◌<◌, ℕ, true, false, Some, IfOk};
+ghost use Rattle.session_machine.specs.declared.action.SessionEvent.TheVariants as events;
 ghost use Rattle.session_machine.specs.Rules.{new_machine, next_action};
+ghost use Rattle.session_links.specs.Plans.{NoLink, awaits, told_at};
+ghost use Rattle.session_links.specs.Slots.{is_awaited, slot_at};
 ghost use Rattle.session_engine.specs.declared.ask.Ask.TheVariants as asks;
-ghost use Rattle.session_engine.specs.Handing.{IsDetach, IsPost, asked_of};
+ghost use Rattle.session_engine.specs.Handing.{IsDetach, IsPost, Posts, asked_of, gate_event};
 ghost use Rattle.session_engine.specs.Cores.{machine_in};
 ghost use Rattle.pool_server.specs.Causes.{IsQuiet};
 ghost use Rattle.pool_server.specs.Places.{Place, Setting, with_machine};
-ghost use Rattle.pool_server.specs.Sights.{Seen, Went, with_calls};
-ghost use Rattle.pool_server.specs.Servings.{EndsIn, IsAnswered, IsPeeked, stepped};
+ghost use Rattle.pool_server.specs.Reaches.{Keeps, KeepsAt, is_away, reach, view_in};
+ghost use Rattle.pool_server.specs.Sights.{Seen, Went, with_work};
+ghost use Rattle.pool_server.specs.Servings.{EndsIn, Happens, IsPeeked, stepped};
 
 use crate::end::EndCause;
 use crate::outside::{GatePass, Notices};
 use crate::parting::Step;
 use backend_trait::{Answer, Link, Request};
 use pg_messages::Pair;
-use pool_base::{BackendId, BackendSet, GateAnswer, GateCall, NoMemory, SessionId};
+use pool_base::{BackendId, BackendSet, GateAnswer, GateCall, NoMemory, SessionId, View};
 use session_engine::Core;
 use session_links::{Found, LinkMaker, Links, Loss, Sent};
 use session_machine::{Cause, ReadPolicy};
@@ -29,7 +33,7 @@ const MEMORY_TRIES: u32 = 1000;
 const POLL_TRIES: u32 = 600;
 
 /// How many looks may come to nothing where another session may be waited for, before the server is
-/// asked whether it answers at all. It is asked again behind as many more: every 20 seconds.
+/// asked whether it answers at all. It is asked again after as many more: every 20 seconds.
 const QUIET_TRIES: u32 = 400;
 
 /// How many turns of the wire may pass without a post before the backends are told what was held
@@ -74,8 +78,11 @@ fn patience_of(request: &Request) -> Patience {
 
 impl<L: Link> Work<L> {
     /// A core that rests, and no link.
+    #[tactic(auto, using(crate::proofs::Linking::none_told))]
     pub fn new(alloc: Global, id: SessionId, policy: ReadPolicy) -> Result<Work<L>, NoMemory>
-        ensures { IfOk result (λ work. machine_in work.core ≡ new_machine id policy) }
+        ensures machine { IfOk result (λ work. machine_in work.core ≡ new_machine id policy) }
+        ensures links { IfOk result (λ work. (c : ℕ)
+            → told_at L.pending L.plan work.links.slots.items c ≡ NoLink) }
     {
         Ok(Work {
             id,
@@ -90,7 +97,10 @@ impl<L: Link> Work<L> {
 
     fn pause<G: GatePass>(&mut self, gate: &mut G)
         ensures machine { machine_in self.new.core ≡ machine_in self.old.core }
+        ensures links { told_at L.pending L.plan self.new.links.slots.items
+            ≡ told_at L.pending L.plan self.old.links.slots.items }
         ensures calls { G.calls gate.new ≡ G.calls gate.old }
+        ensures stand { G.stand gate.new ≡ G.stand gate.old }
     {
         gate.pause(self.tries);
         self.tries = self.tries.saturating_add(1);
@@ -102,8 +112,12 @@ impl<L: Link> Work<L> {
         ensures quiet { IsQuiet result }
         ensures ends { (last : Place) → EndsIn result last }
         ensures went { (w : Setting) → (p : Place) → (s : Seen) → Went w
-            (with_machine p (machine_in self.old.core)) (with_calls s (G.calls gate.old))
-            (stepped p (machine_in self.new.core) result) (with_calls s (G.calls gate.new)) }
+            (with_machine p (machine_in self.old.core))
+            (with_work s (G.calls gate.old) (reach L.pending L.plan self.old.links.slots.items
+            s.reach.plans (G.stand gate.old)))
+            (stepped p (machine_in self.new.core) result)
+            (with_work s (G.calls gate.new) (reach L.pending L.plan self.new.links.slots.items
+            s.reach.plans (G.stand gate.new))) }
     {
         self.pause(gate);
         if self.is_tired() {
@@ -124,8 +138,12 @@ impl<L: Link> Work<L> {
         ensures quiet { IsQuiet result }
         ensures ends { (last : Place) → EndsIn result last }
         ensures went { (w : Setting) → (p : Place) → (s : Seen) → Went w
-            (with_machine p (machine_in self.old.core)) (with_calls s (G.calls gate.old))
-            (stepped p (machine_in self.new.core) result) (with_calls s (G.calls gate.new)) }
+            (with_machine p (machine_in self.old.core))
+            (with_work s (G.calls gate.old) (reach L.pending L.plan self.old.links.slots.items
+            s.reach.plans (G.stand gate.old)))
+            (stepped p (machine_in self.new.core) result)
+            (with_work s (G.calls gate.new) (reach L.pending L.plan self.new.links.slots.items
+            s.reach.plans (G.stand gate.new))) }
     {
         if !gate.may_step(call) {
             return Step::Over(EndCause::Stopped);
@@ -143,8 +161,10 @@ impl<L: Link> Work<L> {
     fn answered(&mut self, answer: GateAnswer) -> Step
         ensures quiet { IsQuiet result }
         ensures ends { (last : Place) → EndsIn result last }
-        ensures answered { IsAnswered (machine_in self.old.core) answer result
-            (machine_in self.new.core) }
+        ensures links { told_at L.pending L.plan self.new.links.slots.items
+            ≡ told_at L.pending L.plan self.old.links.slots.items }
+        ensures happens { Happens (gate_event (next_action (machine_in self.old.core)) answer)
+            (machine_in self.old.core) result (machine_in self.new.core) }
     {
         if !self.core.may_gate_answer(&answer) {
             return Step::Over(EndCause::Stopped);
@@ -154,32 +174,57 @@ impl<L: Link> Work<L> {
         Step::Goes
     }
 
-    /// What a view of the gate means for the links: those to what is not attached are dropped.
+    /// What an answer of the gate means for the links.
     fn heed(&mut self, call: GateCall, answer: GateAnswer)
-        ensures { machine_in self.new.core ≡ machine_in self.old.core }
+        ensures machine { machine_in self.new.core ≡ machine_in self.old.core }
+        ensures keeps { Keeps call (view_in answer)
+            (told_at L.pending L.plan self.old.links.slots.items)
+            (told_at L.pending L.plan self.new.links.slots.items) }
     {
-        match answer {
-            GateAnswer::Granted(view) => {
-                if call == GateCall::EnterSnapshot {
-                    self.entered(view.epoch);
-                }
-                self.links.keep(view.attached);
-            }
-            GateAnswer::Seen(view) => self.links.keep(view.attached),
-            GateAnswer::Held(_) | GateAnswer::Spent => {}
+        let seen = view_in(answer);
+        match seen {
+            Some(view) => self.regard(call, view),
+            None => {}
         }
     }
 
-    /// A snapshot was entered: in another epoch a backend may have left and come again.
-    fn entered(&mut self, now: u32)
-        ensures { machine_in self.new.core ≡ machine_in self.old.core }
+    /// What a view of the gate means for the links: those to what is not attached are dropped.
+    fn regard(&mut self, call: GateCall, view: View)
+        ensures machine { machine_in self.new.core ≡ machine_in self.old.core }
+        ensures keeps { Keeps call (Some view)
+            (told_at L.pending L.plan self.old.links.slots.items)
+            (told_at L.pending L.plan self.new.links.slots.items) }
     {
-        if let Some(before) = self.epoch {
-            if before != now {
-                self.links.keep(BackendSet::EMPTY);
-            }
+        self.entered(call, view.epoch);
+        self.links.keep(view.attached);
+    }
+
+    /// Where a snapshot was entered in another epoch, a backend may have left and come again: all
+    /// links are dropped.
+    fn entered(&mut self, call: GateCall, now: u32)
+        ensures machine { machine_in self.new.core ≡ machine_in self.old.core }
+        ensures links { (c : ℕ) → c < 8 → KeepsAt call true
+            (told_at L.pending L.plan self.old.links.slots.items c)
+            (told_at L.pending L.plan self.new.links.slots.items c) }
+    {
+        match call {
+            GateCall::EnterSnapshot => self.begin(now),
+            _ => {}
         }
+    }
+
+    /// A snapshot was entered in that epoch.
+    fn begin(&mut self, now: u32)
+        ensures machine { machine_in self.new.core ≡ machine_in self.old.core }
+        ensures links { (c : ℕ) → c < 8 → KeepsAt GateCall.EnterSnapshot true
+            (told_at L.pending L.plan self.old.links.slots.items c)
+            (told_at L.pending L.plan self.new.links.slots.items c) }
+    {
+        let before = self.epoch;
         self.epoch = Some(now);
+        if is_other(before, now) {
+            self.links.keep(BackendSet::EMPTY);
+        }
     }
 
     /// A backend is detached, and who wants to know is told where it was this session's doing.
@@ -194,8 +239,12 @@ impl<L: Link> Work<L> {
         ensures quiet { IsQuiet result }
         ensures ends { (last : Place) → EndsIn result last }
         ensures went { (w : Setting) → (p : Place) → (s : Seen) → Went w
-            (with_machine p (machine_in self.old.core)) (with_calls s (G.calls gate.old))
-            (stepped p (machine_in self.new.core) result) (with_calls s (G.calls gate.new)) }
+            (with_machine p (machine_in self.old.core))
+            (with_work s (G.calls gate.old) (reach L.pending L.plan self.old.links.slots.items
+            s.reach.plans (G.stand gate.old)))
+            (stepped p (machine_in self.new.core) result)
+            (with_work s (G.calls gate.new) (reach L.pending L.plan self.new.links.slots.items
+            s.reach.plans (G.stand gate.new))) }
     {
         let cause = match self.core.cause() {
             Ok(cause) => cause,
@@ -231,16 +280,45 @@ impl<L: Link> Work<L> {
         ensures quiet { IsQuiet result }
         ensures ends { (last : Place) → EndsIn result last }
         ensures went { (w : Setting) → (p : Place) → (s : Seen) → Went w
-            (with_machine p (machine_in self.old.core)) (with_calls s (G.calls gate.old))
-            (stepped p (machine_in self.new.core) result) (with_calls s (G.calls gate.new)) }
+            (with_machine p (machine_in self.old.core))
+            (with_work s (G.calls gate.old) (reach L.pending L.plan self.old.links.slots.items
+            (M.plans maker.old) (G.stand gate.old)))
+            (stepped p (machine_in self.new.core) result)
+            (with_work s (G.calls gate.new) (reach L.pending L.plan self.new.links.slots.items
+            (M.plans maker.new) (G.stand gate.new))) }
     {
         if self.links.is_awaited(b) {
             return Step::Over(EndCause::Stopped);
         }
-        let request = match self.core.request() {
-            Ok(request) => request,
-            Err(NoMemory) => return self.short(gate),
-        };
+        match self.core.request() {
+            Ok(request) => self.put(b, request, options, maker, gate),
+            Err(NoMemory) => self.short(gate),
+        }
+    }
+
+    /// A request is put at the link to its backend.
+    fn put<M: LinkMaker<L = L>, G: GatePass>(
+        &mut self,
+        b: BackendId,
+        request: Request,
+        options: &[Pair],
+        maker: &mut M,
+        gate: &mut G,
+    ) -> Step
+        requires due { IsPost (next_action (machine_in self.old.core)) }
+        requires asked { asked_of (next_action (machine_in self.old.core)) ≡ asks.Post b }
+        requires posts { Posts (next_action (machine_in self.old.core)) request }
+        requires free { is_awaited (slot_at self.old.links.slots.items b.number) ≡ false }
+        ensures quiet { IsQuiet result }
+        ensures ends { (last : Place) → EndsIn result last }
+        ensures went { (w : Setting) → (p : Place) → (s : Seen) → Went w
+            (with_machine p (machine_in self.old.core))
+            (with_work s (G.calls gate.old) (reach L.pending L.plan self.old.links.slots.items
+            (M.plans maker.old) (G.stand gate.old)))
+            (stepped p (machine_in self.new.core) result)
+            (with_work s (G.calls gate.new) (reach L.pending L.plan self.new.links.slots.items
+            (M.plans maker.new) (G.stand gate.new))) }
+    {
         self.patience = patience_of(&request);
         match self.links.post(b, request, maker, options) {
             Sent::Accepted => {
@@ -264,8 +342,12 @@ impl<L: Link> Work<L> {
         ensures quiet { IsQuiet result }
         ensures ends { (last : Place) → EndsIn result last }
         ensures went { (w : Setting) → (p : Place) → (s : Seen) → Went w
-            (with_machine p (machine_in self.old.core)) (with_calls s (G.calls gate.old))
-            (stepped p (machine_in self.new.core) result) (with_calls s (G.calls gate.new)) }
+            (with_machine p (machine_in self.old.core))
+            (with_work s (G.calls gate.old) (reach L.pending L.plan self.old.links.slots.items
+            s.reach.plans (G.stand gate.old)))
+            (stepped p (machine_in self.new.core) result)
+            (with_work s (G.calls gate.new) (reach L.pending L.plan self.new.links.slots.items
+            s.reach.plans (G.stand gate.new))) }
     {
         if !self.links.is_awaited(b) {
             return Step::Over(EndCause::Stopped);
@@ -283,7 +365,9 @@ impl<L: Link> Work<L> {
 
     /// The wire has its turn.
     pub fn rest(&mut self)
-        ensures { machine_in self.new.core ≡ machine_in self.old.core }
+        ensures machine { machine_in self.new.core ≡ machine_in self.old.core }
+        ensures links { told_at L.pending L.plan self.new.links.slots.items
+            ≡ told_at L.pending L.plan self.old.links.slots.items }
     {
         self.turns = self.turns.saturating_add(1);
         if self.turns >= TURNS && self.settle() {
@@ -293,7 +377,9 @@ impl<L: Link> Work<L> {
 
     /// The backends are told what was held back from them. False: some of it is not told yet.
     pub fn settle(&mut self) -> bool
-        ensures { machine_in self.new.core ≡ machine_in self.old.core }
+        ensures machine { machine_in self.new.core ≡ machine_in self.old.core }
+        ensures links { told_at L.pending L.plan self.new.links.slots.items
+            ≡ told_at L.pending L.plan self.old.links.slots.items }
     {
         let mut told = true;
         for number in 0..8 {
@@ -305,9 +391,10 @@ impl<L: Link> Work<L> {
     fn hear(&mut self, b: BackendId, answer: Answer) -> Step
         ensures quiet { IsQuiet result }
         ensures ends { (last : Place) → EndsIn result last }
-        ensures went { (w : Setting) → (p : Place) → (s : Seen) → Went w
-            (with_machine p (machine_in self.old.core)) s
-            (stepped p (machine_in self.new.core) result) s }
+        ensures links { told_at L.pending L.plan self.new.links.slots.items
+            ≡ told_at L.pending L.plan self.old.links.slots.items }
+        ensures happens { Happens (events.Taken b answer) (machine_in self.old.core) result
+            (machine_in self.new.core) }
     {
         if !self.core.may_hear(b, &answer) {
             drop(answer);
@@ -321,9 +408,10 @@ impl<L: Link> Work<L> {
     fn lose(&mut self, b: BackendId, loss: Loss) -> Step
         ensures quiet { IsQuiet result }
         ensures ends { (last : Place) → EndsIn result last }
-        ensures went { (w : Setting) → (p : Place) → (s : Seen) → Went w
-            (with_machine p (machine_in self.old.core)) s
-            (stepped p (machine_in self.new.core) result) s }
+        ensures links { told_at L.pending L.plan self.new.links.slots.items
+            ≡ told_at L.pending L.plan self.old.links.slots.items }
+        ensures happens { Happens (events.Faulted b loss.before loss.after)
+            (machine_in self.old.core) result (machine_in self.new.core) }
     {
         if !self.core.may_lose(b, loss.before, loss.after) {
             return Step::Over(EndCause::Stopped);
@@ -348,13 +436,27 @@ impl<L: Link> Work<L> {
         maker: &M,
         gate: &mut G,
     )
+        requires { awaits (told_at L.pending L.plan self.old.links.slots.items b.number) ≡ true }
         ensures machine { machine_in self.new.core ≡ machine_in self.old.core }
-        ensures calls { IsPeeked (G.calls gate.old) (G.calls gate.new) }
+        ensures peeked { (plans : _) → IsPeeked b (G.calls gate.old) (G.calls gate.new)
+            (reach L.pending L.plan self.old.links.slots.items plans (G.stand gate.old))
+            (reach L.pending L.plan self.new.links.slots.items plans (G.stand gate.new)) }
     {
         self.tries = self.tries.saturating_add(1);
         if self.hangs(b, maker) {
             return self.links.give_up(b);
         }
+        self.peek(b, gate);
+    }
+
+    /// The gate is looked at: a backend that is attached no more is waited for no longer.
+    fn peek<G: GatePass>(&mut self, b: BackendId, gate: &mut G)
+        requires { awaits (told_at L.pending L.plan self.old.links.slots.items b.number) ≡ true }
+        ensures machine { machine_in self.new.core ≡ machine_in self.old.core }
+        ensures peeked { (plans : _) → IsPeeked b (G.calls gate.old) (G.calls gate.new)
+            (reach L.pending L.plan self.old.links.slots.items plans (G.stand gate.old))
+            (reach L.pending L.plan self.new.links.slots.items plans (G.stand gate.new)) }
+    {
         let answer = gate.step(GateCall::Look);
         if is_away(b, answer) {
             self.links.give_up(b);
@@ -362,8 +464,28 @@ impl<L: Link> Work<L> {
     }
 }
 
+/// Whether that epoch is another than the one before, where there was one.
+fn is_other(before: Option<u32>, now: u32) -> bool {
+    match before {
+        Some(epoch) => epoch != now,
+        None => false,
+    }
+}
+
+/// The view that an answer gives.
+fn view_in(answer: GateAnswer) -> Option<View>
+    ensures { result ≡ view_in answer }
+{
+    match answer {
+        GateAnswer::Seen(view) | GateAnswer::Granted(view) => Some(view),
+        GateAnswer::Held(_) | GateAnswer::Spent => None,
+    }
+}
+
 /// Whether a look at the gate shows that the backend is attached no more.
-fn is_away(b: BackendId, answer: GateAnswer) -> bool {
+fn is_away(b: BackendId, answer: GateAnswer) -> bool
+    ensures { result ≡ is_away b answer }
+{
     match answer {
         GateAnswer::Seen(view) => !view.attached.has(b),
         GateAnswer::Granted(_) | GateAnswer::Held(_) | GateAnswer::Spent => false,

@@ -1,4 +1,5 @@
-use Rattle.std.proofs.Common.{refl, inl, inr, rules, ap, ◌∙◌, w64}
+use Rattle.std.proofs.Common.{refl, inl, inr, rules, sym, ap, ◌∙◌, w64}
+use Rattle.std.proofs.lemmas.Bool.{false≢true}
 use Rattle.std.specs.Prelude.{ℤ}
 use Rattle.std.proofs.lemmas.Int.{to_z-of_z}
 use Rattle.session_machine.specs.declared.action.SessionEvent.TheVariants as events
@@ -8,7 +9,7 @@ use Rattle.pool_server.specs.Places.{at_moment}
 use Rattle.pool_server.proofs.talk.give.Goals as goal
 
 pub returns-then-not-may_order-clause-given : goal.returns-then-not-may_order-clause-given
-returns-then-not-may_order-clause-given c = inr (inl refl, refl)
+returns-then-not-may_order-clause-given c = inr (inl (refl, ((λ takes. absurd (false≢true (sym c.if-not-may_order.true ∙ c.may_order.ensures.1 takes))), refl)))
 
 pub returns-in-Ok-clause-given : goal.returns-in-Ok-clause-given
 returns-in-Ok-clause-given c = inl (
@@ -20,4 +21,4 @@ returns-in-Ok-clause-given c = inl (
 )
 
 pub returns-in-Err-clause-given : goal.returns-in-Err-clause-given
-returns-in-Err-clause-given c = inr (inr refl, c.in-Err.ensures.as_before)
+returns-in-Err-clause-given c = inr (inr (refl, c.in-Err.ensures.as_before))

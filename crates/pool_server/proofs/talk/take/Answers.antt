@@ -14,4 +14,4 @@ returns-in-Ok-clause-taken c =
     (subst (λ (z : ℤ). IsGiven (at_moment z c.in-Ok.body) (machine_in c.args.core.now) c.behind-behind.result c.give.result (machine_in c.give.new.core)) (to_z-of_z w64 c.args.order.moment fits) c.give.ensures.given)
 
 pub returns-in-Err-clause-taken : goal.returns-in-Err-clause-taken
-returns-in-Err-clause-taken c = inr (inr refl, refl)
+returns-in-Err-clause-taken c = inr (inr (refl, refl))

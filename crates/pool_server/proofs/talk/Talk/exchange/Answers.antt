@@ -11,7 +11,7 @@ use Rattle.pool_server.proofs.talk.Talk.exchange.Goals as goal
 pub returns-then-not-flush-clause-went : goal.returns-then-not-flush-clause-went
 returns-then-not-flush-clause-went g c = λ w p m s.
     wrote_front w p (with_reads s (g.I.Source.left c.args.source.now) (g.I.Source.ended c.args.source.now)) m (shown c.args.self.now.wire) (shown c.flush.new.self.wire) (g.O.Sink.taken c.args.sink.now) (g.O.Sink.taken c.flush.new.sink)
-    (steps.Lost causes.WriteFault) (c.flush.ensures.front c.if-not-flush.true) (c.flush.ensures.same c.if-not-flush.true) refl
+    (steps.Lost causes.WriteFault) (c.flush.ensures.front c.if-not-flush.true) (c.flush.ensures.same c.if-not-flush.true) refl refl
 
 pub returns-clause-went : goal.returns-clause-went
 returns-clause-went g c = λ w p m s.

@@ -1,10 +1,9 @@
-use Rattle.std.proofs.Common.{refl, rules}
-use Rattle.session_engine.specs.Cores.{machine_in}
-use Rattle.pool_server.proofs.Working.{stopped, took}
+use Rattle.std.proofs.Common.{refl, inl, inr, sym, ◌∙◌}
+use Rattle.std.proofs.lemmas.Bool.{false≢true}
 use Rattle.pool_server.proofs.work.Work.hear.Goals as goal
 
-pub returns-then-not-may_hear-clause-went : goal.returns-then-not-may_hear-clause-went
-returns-then-not-may_hear-clause-went g c = λ w p s. stopped w p s (machine_in c.args.self.now.core) (machine_in c.args.self.now.core) refl
+pub returns-then-not-may_hear-clause-happens : goal.returns-then-not-may_hear-clause-happens
+returns-then-not-may_hear-clause-happens g c = inr (refl, (λ may. absurd (false≢true (sym c.if-not-may_hear.true ∙ c.may_hear.ensures.1 may)), refl))
 
-pub returns-clause-went : goal.returns-clause-went
-returns-clause-went g c = λ w p s. took w p s c.args.b c.args.answer (machine_in c.args.self.now.core) (machine_in c.backend_answer.new.self) (search rules) c.backend_answer.ensures
+pub returns-clause-happens : goal.returns-clause-happens
+returns-clause-happens g c = inl (refl, (c.may_hear.ensures.0 c.if-not-may_hear.false, c.backend_answer.ensures))

@@ -1,12 +1,15 @@
-use Rattle.std.proofs.Common.{refl}
+use Rattle.std.proofs.Common.{refl, sym, ◌∙◌}
 use Rattle.session_engine.specs.Cores.{machine_in}
-use Rattle.pool_server.specs.declared.end.EndCause.TheVariants as causes
-use Rattle.pool_server.proofs.Working.{plainly, posted}
+use Rattle.pool_server.specs.Deeds.{Unasked}
+use Rattle.pool_server.specs.Reaches.{reach}
+use Rattle.pool_server.specs.Sights.{with_work}
+use Rattle.pool_server.proofs.Working.{due_post, unseen, untried}
 use Rattle.pool_server.proofs.work.Work.post.Goals as goal
 
 pub returns-then-is_awaited-clause-went : goal.returns-then-is_awaited-clause-went
-returns-then-is_awaited-clause-went g c = λ w p s. plainly w p s causes.Stopped (machine_in c.args.self.now.core) (machine_in c.args.self.now.core) (g.G.GatePass.calls c.args.gate.now) (g.G.GatePass.calls c.args.gate.now) tt refl refl
+returns-then-is_awaited-clause-went g c = λ w p s.
+    untried w p s (Unasked c.args.b) (machine_in c.args.self.now.core) (g.G.GatePass.calls c.args.gate.now) (reach g.L.Link.pending g.L.Link.plan c.args.self.now.links.slots.items (g.M.LinkMaker.plans c.args.maker.now) (g.G.GatePass.stand c.args.gate.now))
+    (unseen refl refl refl (λ ended. refl)) (due_post _ c.args.b c.requires.asked) (refl, refl) (sym c.is_awaited.ensures.told ∙ c.if-is_awaited.true, refl) refl
 
-pub returns-in-Accepted-clause-went : goal.returns-in-Accepted-clause-went
-returns-in-Accepted-clause-went g c = λ w p s.
-    posted w p s c.args.b c.in-Ok.request (machine_in c.args.self.now.core) (machine_in c.posted.new.self) (g.G.GatePass.calls c.args.gate.now) (g.G.GatePass.calls c.args.gate.now) c.requires.asked c.in-Ok.ensures.is (c.posted.ensures c.args.b c.in-Ok.request) refl
+pub returns-in-Err-clause-went : goal.returns-in-Err-clause-went
+returns-in-Err-clause-went g c = λ w p s. c.short.ensures.went w p (with_work s (g.G.GatePass.calls c.args.gate.now) (reach g.L.Link.pending g.L.Link.plan c.args.self.now.links.slots.items (g.M.LinkMaker.plans c.args.maker.now) (g.G.GatePass.stand c.args.gate.now)))

@@ -1,19 +1,45 @@
-use Rattle.std.proofs.Common.{refl}
+use Rattle.std.proofs.Common.{refl, sym, ap, ◌∙◌, ℕ}
 use Rattle.session_engine.specs.Cores.{machine_in}
-use Rattle.pool_server.specs.declared.end.EndCause.TheVariants as causes
-use Rattle.pool_server.specs.Sights.{with_calls}
-use Rattle.pool_server.proofs.Working.{peeks, plainly}
+use Rattle.session_links.specs.Plans.{Told, awaits}
+use Rattle.pool_server.specs.Places.{with_machine}
+use Rattle.pool_server.specs.Deeds.{Unawaited}
+use Rattle.pool_server.specs.Reaches.{reach}
+use Rattle.pool_server.specs.Sights.{with_work}
+use Rattle.pool_server.specs.Servings.{stepped}
+use Rattle.pool_server.proofs.Going.{went_from}
+use Rattle.pool_server.proofs.Linking.{heard_so, lost_so, same_work, settled}
+use Rattle.pool_server.proofs.Working.{missed, peeks, took, unseen, untried, waited_due}
 use Rattle.pool_server.proofs.work.Work.wait.Goals as goal
 
 pub returns-then-not-is_awaited-clause-went : goal.returns-then-not-is_awaited-clause-went
-returns-then-not-is_awaited-clause-went g c = λ w p s. plainly w p s causes.Stopped (machine_in c.args.self.now.core) (machine_in c.args.self.now.core) (g.G.GatePass.calls c.args.gate.now) (g.G.GatePass.calls c.args.gate.now) tt refl refl
+returns-then-not-is_awaited-clause-went g c = λ w p s.
+    untried w p s (Unawaited c.args.b) (machine_in c.args.self.now.core) (g.G.GatePass.calls c.args.gate.now) (reach g.L.Link.pending g.L.Link.plan c.args.self.now.links.slots.items s.reach.plans (g.G.GatePass.stand c.args.gate.now))
+    (unseen refl refl refl (λ ended. refl)) (waited_due _ c.args.b c.requires) (refl, refl) (sym c.is_awaited.ensures.told ∙ c.if-not-is_awaited.true, refl) refl
 
 pub returns-in-Answered-clause-went : goal.returns-in-Answered-clause-went
-returns-in-Answered-clause-went g c = λ w p s. c.hear.ensures.went w p (with_calls s (g.G.GatePass.calls c.args.gate.now))
+returns-in-Answered-clause-went g c = λ w p s.
+    took w p s c.args.b c.in-Answered.answer c.hear.result (machine_in c.args.self.now.core) (machine_in c.hear.new.self.core) (g.G.GatePass.calls c.args.gate.now) (reach g.L.Link.pending g.L.Link.plan c.args.self.now.links.slots.items s.reach.plans (g.G.GatePass.stand c.args.gate.now)) (reach g.L.Link.pending g.L.Link.plan c.hear.new.self.links.slots.items s.reach.plans (g.G.GatePass.stand c.args.gate.now))
+    c.requires (heard_so g.L.Link.pending g.L.Link.plan _ _ _ s.reach.plans c.args.b c.in-Answered.answer _ c.in-Answered.ensures.told c.poll.ensures.others c.hear.ensures.links) c.hear.ensures.happens
 
 pub returns-in-Lost-clause-went : goal.returns-in-Lost-clause-went
-returns-in-Lost-clause-went g c = λ w p s. c.lose.ensures.went w p (with_calls s (g.G.GatePass.calls c.args.gate.now))
+returns-in-Lost-clause-went g c = λ w p s.
+    missed w p s c.args.b c.in-Lost.loss.before c.in-Lost.loss.after c.lose.result (machine_in c.args.self.now.core) (machine_in c.lose.new.self.core) (g.G.GatePass.calls c.args.gate.now) (reach g.L.Link.pending g.L.Link.plan c.args.self.now.links.slots.items s.reach.plans (g.G.GatePass.stand c.args.gate.now)) (reach g.L.Link.pending g.L.Link.plan c.lose.new.self.links.slots.items s.reach.plans (g.G.GatePass.stand c.args.gate.now))
+    c.requires c.in-Lost.loss.rose (lost_so g.L.Link.pending g.L.Link.plan _ _ _ s.reach.plans c.args.b _ c.in-Lost.ensures.told c.poll.ensures.others c.lose.ensures.links) c.lose.ensures.happens
 
 pub returns-in-NotYet-clause-went : goal.returns-in-NotYet-clause-went
 returns-in-NotYet-clause-went g c = λ w p s.
-    peeks w p s c.args.b (machine_in c.args.self.now.core) (machine_in c.look_around.new.self.core) (g.G.GatePass.calls c.args.gate.now) (g.G.GatePass.calls c.look_around.new.gate) c.requires c.look_around.ensures.machine c.look_around.ensures.calls
+    went_from w (with_machine p (machine_in c.args.self.now.core)) (with_machine p (machine_in c.args.self.now.core)) (with_machine p (machine_in c.look_around.new.self.core))
+    (with_work s (g.G.GatePass.calls c.args.gate.now) (reach g.L.Link.pending g.L.Link.plan c.args.self.now.links.slots.items s.reach.plans (g.G.GatePass.stand c.args.gate.now))) (with_work s (g.G.GatePass.calls c.args.gate.now) (reach g.L.Link.pending g.L.Link.plan c.poll.new.self.slots.items s.reach.plans (g.G.GatePass.stand c.args.gate.now))) (with_work s (g.G.GatePass.calls c.look_around.new.gate) (reach g.L.Link.pending g.L.Link.plan c.look_around.new.self.links.slots.items s.reach.plans (g.G.GatePass.stand c.look_around.new.gate)))
+    refl (ap (with_work s (g.G.GatePass.calls c.args.gate.now)) (same_work _ _ _ _ _ (settled g.L.Link.pending g.L.Link.plan _ _ c.args.b.number c.in-NotYet.ensures.told c.poll.ensures.others) refl))
+    (peeks w p s c.args.b (machine_in c.args.self.now.core) (machine_in c.look_around.new.self.core) (g.G.GatePass.calls c.args.gate.now) (g.G.GatePass.calls c.look_around.new.gate) (reach g.L.Link.pending g.L.Link.plan c.poll.new.self.slots.items s.reach.plans (g.G.GatePass.stand c.args.gate.now)) (reach g.L.Link.pending g.L.Link.plan c.look_around.new.self.links.slots.items s.reach.plans (g.G.GatePass.stand c.look_around.new.gate))
+    c.requires c.look_around.ensures.machine (c.look_around.ensures.peeked s.reach.plans))
+
+pub returns-in-NoMemory-clause-went : goal.returns-in-NoMemory-clause-went
+returns-in-NoMemory-clause-went g c = λ w p s.
+    went_from w (with_machine p (machine_in c.args.self.now.core)) (with_machine p (machine_in c.args.self.now.core)) (stepped p (machine_in c.short.new.self.core) c.short.result)
+    (with_work s (g.G.GatePass.calls c.args.gate.now) (reach g.L.Link.pending g.L.Link.plan c.args.self.now.links.slots.items s.reach.plans (g.G.GatePass.stand c.args.gate.now))) (with_work s (g.G.GatePass.calls c.args.gate.now) (reach g.L.Link.pending g.L.Link.plan c.poll.new.self.slots.items s.reach.plans (g.G.GatePass.stand c.args.gate.now))) (with_work s (g.G.GatePass.calls c.short.new.gate) (reach g.L.Link.pending g.L.Link.plan c.short.new.self.links.slots.items s.reach.plans (g.G.GatePass.stand c.short.new.gate)))
+    refl (ap (with_work s (g.G.GatePass.calls c.args.gate.now)) (same_work _ _ _ _ _ (settled g.L.Link.pending g.L.Link.plan _ _ c.args.b.number c.in-NoMemory.ensures.told c.poll.ensures.others) refl))
+    (c.short.ensures.went w p s)
+
+pub look_around-requires : goal.look_around-requires
+look_around-requires g c = ap awaits c.in-NotYet.ensures.told ∙ (sym c.is_awaited.ensures.told ∙ c.if-not-is_awaited.false)

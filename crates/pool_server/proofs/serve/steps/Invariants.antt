@@ -5,10 +5,11 @@ use Rattle.pool_server.specs.Causes.{in_parting, is_cut_off, is_read_fault, is_w
 use Rattle.session_engine.specs.Cores.{machine_in}
 use Rattle.session_wire.specs.Shown.{shown}
 use Rattle.pool_server.specs.Places.{place, setting}
+use Rattle.pool_server.specs.Reaches.{reach}
 use Rattle.pool_server.specs.Sights.{Went, seen}
-use Rattle.pool_server.specs.Servings.{lost_by}
+use Rattle.pool_server.specs.Servings.{standing}
 use Rattle.pool_server.specs.Told.{Begins}
-use Rattle.pool_server.proofs.serve.run.Given as goal
+use Rattle.pool_server.proofs.serve.steps.Given as goal
 
 abbrev pub invariant-steps : goal.invariant-steps
 invariant-steps g l = record {
@@ -18,6 +19,6 @@ invariant-steps g l = record {
   read_later : g.I.Source.fault_count l.initial.around.source ≤ g.I.Source.fault_count l.around.source;
   write_later : g.O.Sink.fault_count l.initial.around.sink ≤ g.O.Sink.fault_count l.around.sink;
   taken : Begins (g.O.Sink.taken l.initial.around.sink) (g.O.Sink.taken l.around.sink);
-  went : Went (setting l.tables l.config.nodes) (place (machine_in l.initial.session.work.core) (shown l.initial.session.talk.wire) None) (seen (g.I.Source.left l.initial.around.source) (g.I.Source.ended l.initial.around.source) (g.O.Sink.taken l.initial.around.sink) (g.C.Clock.given l.initial.around.clock) (g.G.GatePass.calls l.initial.around.gate))
-      (place (machine_in l.session.work.core) (shown l.session.talk.wire) (lost_by l.session.parting)) (seen (g.I.Source.left l.around.source) (g.I.Source.ended l.around.source) (g.O.Sink.taken l.around.sink) (g.C.Clock.given l.around.clock) (g.G.GatePass.calls l.around.gate));
+  went : Went (setting l.tables l.config.nodes) (place (machine_in l.initial.session.work.core) (shown l.initial.session.talk.wire) None false) (seen (g.I.Source.left l.initial.around.source) (g.I.Source.ended l.initial.around.source) (g.O.Sink.taken l.initial.around.sink) (g.C.Clock.given l.initial.around.clock) (g.G.GatePass.calls l.initial.around.gate) (reach g.L.Link.pending g.L.Link.plan l.initial.session.work.links.slots.items (g.M.LinkMaker.plans l.initial.around.maker) (g.G.GatePass.stand l.initial.around.gate)))
+      (standing (machine_in l.session.work.core) (shown l.session.talk.wire) l.session.parting) (seen (g.I.Source.left l.around.source) (g.I.Source.ended l.around.source) (g.O.Sink.taken l.around.sink) (g.C.Clock.given l.around.clock) (g.G.GatePass.calls l.around.gate) (reach g.L.Link.pending g.L.Link.plan l.session.work.links.slots.items (g.M.LinkMaker.plans l.around.maker) (g.G.GatePass.stand l.around.gate)));
 }
