@@ -1,5 +1,5 @@
 -- What waits for its answer at a link, and its faults.
-use Rattle.std.specs.Prelude.{ℕ, ◌+◌, min, ◌-◌, ◌^◌, Option, Some, None, ◌≡◌}
+use Rattle.std.specs.Prelude.{ℕ, ◌+◌, min, ◌-◌, ◌^◌, Option, Some, None}
 use Rattle.backend_trait.specs.declared.request.Request.{Request}
 use Rattle.postgres_talk.specs.Forms.{IsSaid}
 use Rattle.postgres_talk.specs.declared.talk.Said.{Said}

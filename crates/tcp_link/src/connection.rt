@@ -5,10 +5,12 @@ ghost use Rattle.tcp_link.specs.Connections.{IsConnected};
 use crate::TcpLink;
 use crate::codes::{INVALID_AUTHORIZATION, is_of_client};
 use crate::outbox::{Emptied, Outbox};
+use crate::password::{Shown, Unshown, show};
 use crate::patient::PatientLink;
 use crate::stream::TcpWire;
 use crate::wire::{Received, Sent, Wire};
 use catalogue::Catalogue;
+use login::Entry as Showing;
 use pg_messages::Pair;
 use pool_base::{Code, List, NoMemory};
 use postgres_link::{Arrival, Heard, Inbox, Listening, Welcome, hear};
@@ -40,12 +42,26 @@ const PIECE: usize = 1024;
 /// Shape: `Int32 8`, `Int32 80877103`.
 const ENCRYPTION: [u8; 8] = [0, 0, 0, 8, 4, 210, 22, 47];
 
+/// How the pool introduces itself to a server: the options of its start message, the password that
+/// it shows where it is asked for one, and a nonce for that, which is fresh.
+#[derive(Clone, Copy)]
+pub struct Introduction<'a> {
+    pub options: &'a [Pair],
+    pub password: Option<&'a [u8]>,
+    pub nonce: &'a [u8],
+}
+
 /// What became of the beginning of a session.
 #[derive(Drop)]
 pub enum Connected<'a> {
     /// There is a session; or the server has turned this client away, and lets others in, and the
     /// link answers so.
     Ready(TcpLink<'a>),
+    /// The server asks for what it is not shown, and turns everybody away who does not show it: the
+    /// link answers so.
+    Unshown(TcpLink<'a>, Unshown),
+    /// No session: what is there has not shown that it knows the password.
+    Forged,
     /// No session: no server is there, it lets nobody in, or it answers otherwise.
     Failed,
     NoMemory,
@@ -56,6 +72,10 @@ enum Entry {
     LetIn,
     /// It has turned the client away, and lets others in.
     Refused(Code),
+    /// It asks for what it is not shown.
+    Unshown(Unshown),
+    /// It has not shown that it knows the password.
+    Forged,
     Failed,
 }
 
@@ -81,7 +101,7 @@ fn reach<R: Net<Stream = TcpStream>>(rt: &R, host: &str, port: u16) -> io::Resul
 }
 
 /// Sends all of the bytes, unless the wire is broken or out of patience.
-fn send_all<W: Wire>(wire: &mut W, outbox: &mut Outbox) -> bool {
+pub(crate) fn send_all<W: Wire>(wire: &mut W, outbox: &mut Outbox) -> bool {
     for _ in 0..START_TRIES {
         match outbox.empty(wire) {
             Emptied::All => return true,
@@ -101,47 +121,66 @@ fn entry_by(welcome: Welcome) -> Entry {
     }
 }
 
-/// What bytes that are no start come to: a server that asks the client for more than its name turns
-/// it away, since the pool has no more to tell.
-///
-/// Source: PostgreSQL, "Frontend/Backend Protocol", "Message Formats": the requests of
-/// authentication are of type `R`.
-fn entry_behind(inbox: &Inbox) -> Entry {
-    match inbox.as_slice() {
-        [b'R', ..] => Entry::Refused(INVALID_AUTHORIZATION),
-        _ => Entry::Failed,
-    }
-}
-
 /// Takes what the server sends until it is ready, or turns the client away.
-fn enter<W: Wire>(alloc: Global, wire: &mut W, inbox: &mut Inbox) -> Result<Entry, NoMemory> {
-    let mut listening = Listening::new(Arrival::Outside);
+fn arrive<W: Wire>(
+    alloc: Global,
+    wire: &mut W,
+    inbox: &mut Inbox,
+    arrival: Arrival,
+) -> Result<Entry, NoMemory> {
+    let mut listening = Listening::new(arrival);
     let mut piece = [0u8; PIECE];
     for _ in 0..START_TRIES {
+        match hear(alloc, inbox, &mut listening)? {
+            Heard::NotYet => {}
+            Heard::Reply(welcome) => return Ok(entry_by(welcome)),
+            Heard::Broken => return Ok(Entry::Failed),
+        }
         match wire.receive(&mut piece) {
             Received::Bytes(count) => inbox.take(&piece[..count])?,
             Received::NotYet => {}
             Received::Failed => return Ok(Entry::Failed),
         }
-        match hear(alloc, inbox, &mut listening)? {
-            Heard::NotYet => {}
-            Heard::Reply(welcome) => return Ok(entry_by(welcome)),
-            Heard::Broken => return Ok(entry_behind(inbox)),
-        }
     }
     Ok(Entry::Failed)
+}
+
+/// Shows the password, where the server asks for one, and then takes what it sends.
+fn enter<W: Wire>(
+    alloc: Global,
+    wire: &mut W,
+    inbox: &mut Inbox,
+    showing: Showing,
+) -> Result<Entry, NoMemory> {
+    match show(alloc, wire, inbox, showing)? {
+        Shown::LetIn => arrive(alloc, wire, inbox, Arrival::Inside),
+        Shown::Otherwise => arrive(alloc, wire, inbox, Arrival::Outside),
+        Shown::Unshown(unshown) => Ok(Entry::Unshown(unshown)),
+        Shown::Forged => Ok(Entry::Forged),
+        Shown::Failed => Ok(Entry::Failed),
+    }
+}
+
+/// What the pool shows where it is asked for a password.
+fn showing(alloc: Global, introduction: Introduction<'_>) -> Result<Showing, NoMemory> {
+    let nonce = List::from_slice(alloc, introduction.nonce)?;
+    let password = match introduction.password {
+        Some(password) => Some(List::from_slice(alloc, password)?),
+        None => None,
+    };
+    Ok(Showing::new(password, nonce))
 }
 
 fn started<'a>(
     alloc: Global,
     tables: &'a Catalogue,
     mut wire: TcpWire,
-    options: &[Pair],
+    introduction: Introduction<'_>,
 ) -> Result<Connected<'a>, NoMemory>
     ensures { IfOk result IsConnected }
 {
     let mut start = List::new(alloc);
-    if !put_start(options, &mut start)? {
+    if !put_start(introduction.options, &mut start)? {
         return Ok(Connected::Failed);
     }
     let mut outbox = Outbox::new(alloc);
@@ -150,12 +189,19 @@ fn started<'a>(
         return Ok(Connected::Failed);
     }
     let mut inbox = Inbox::new(alloc);
-    let refusal = match enter(alloc, &mut wire, &mut inbox)? {
-        Entry::LetIn => None,
-        Entry::Refused(code) => Some(code),
+    let showing = showing(alloc, introduction)?;
+    let (refusal, unshown) = match enter(alloc, &mut wire, &mut inbox, showing)? {
+        Entry::LetIn => (None, None),
+        Entry::Refused(code) => (Some(code), None),
+        Entry::Unshown(unshown) => (Some(INVALID_AUTHORIZATION), Some(unshown)),
+        Entry::Forged => return Ok(Connected::Forged),
         Entry::Failed => return Ok(Connected::Failed),
     };
-    Ok(Connected::Ready(PatientLink::new(alloc, tables, wire, inbox, refusal)?))
+    let link = PatientLink::new(alloc, tables, wire, inbox, refusal)?;
+    Ok(match unshown {
+        Some(unshown) => Connected::Unshown(link, unshown),
+        None => Connected::Ready(link),
+    })
 }
 
 /// Whether something comes, as long as a server may take at the start.
@@ -180,16 +226,17 @@ pub fn answers<R: Net<Stream = TcpStream>>(rt: &R, host: &str, port: u16) -> boo
     matches!(wire.send(&ENCRYPTION), Sent::Taken(_)) && hears(&mut wire)
 }
 
-/// Begins a session at the server of that address, with these options, as `user` and `database`.
-/// The server lets it in without a password, or there is none. A client that the server turns away
-/// while it lets others in has a link that refuses each snapshot with the server's code.
+/// Begins a session at the server of that address, with the options of the introduction, as `user`
+/// and `database`. Where the server asks for a password by SCRAM-SHA-256, it is shown, and the
+/// server has to show that it knows it too. A client that the server turns away while it lets
+/// others in has a link that refuses each snapshot with the server's code.
 pub fn connect<'a, R: Net<Stream = TcpStream>>(
     rt: &R,
     alloc: Global,
     tables: &'a Catalogue,
     host: &str,
     port: u16,
-    options: &[Pair],
+    introduction: Introduction<'_>,
 ) -> Connected<'a>
     // A link that is ready has nothing pending, and is not lost.
     ensures ready { IsConnected result }
@@ -197,7 +244,7 @@ pub fn connect<'a, R: Net<Stream = TcpStream>>(
     let Ok(wire) = reach(rt, host, port) else {
         return Connected::Failed;
     };
-    match started(alloc, tables, wire, options) {
+    match started(alloc, tables, wire, introduction) {
         Ok(connected) => connected,
         Err(NoMemory) => Connected::NoMemory,
     }
