@@ -1,2 +1,4 @@
 pub mod Matched
 pub mod Calls
+pub mod Noted
+pub mod Letting

@@ -1,31 +1,31 @@
 //! The door: a thread for each connection, as long as there is a seat.
-ghost use Rattle.std.specs.Prelude.{◌≡◌, IfNone};
+ghost use Rattle.std.specs.Prelude.{◌≡◌, ◌≢◌, IfNone, IfOk, IfSome, Ok, None};
 ghost use Rattle.pool_base.specs.Outside.{Rose};
 ghost use Rattle.schema.specs.Grammar.{IsWithin};
 ghost use Rattle.tcp_server.specs.declared.accept.ServeEnd.TheVariants.{ListenFault};
 
 use crate::host::Host;
-use crate::room::{AtGate, Room};
+use crate::porch::{Porch, attend};
+use crate::room::{AtGate, House, Room};
+use crate::servers::attached_behind;
 use crate::start::{Job, start};
-use crate::turned_away::turn_away;
-use pool_base::{BackendSet, NoMemory};
+use pool_base::NoMemory;
 use pool_config::Config;
 use schema::Catalogue;
+use serve_base::{Keeper, Visit, is_second_over, tell};
 use shared_gate::{Pass, SharedGate};
 use std::alloc::Global;
 use std::marker::Brand;
 use std::net::{TcpListener, TcpStream};
 use std::sync::Arc;
-use std::thread;
-use std::time::Duration;
+use std::time::{Duration, Instant};
+use std::{io, thread};
+use tcp_link::secrets_of;
 
 /// How long is waited behind a connection that could not be accepted.
 ///
 /// Units: milliseconds.
 const PAUSE: u64 = 50;
-
-/// The sets of the first backends: of none, of one, up to eight.
-const FIRST: [u8; 9] = [0, 1, 3, 7, 15, 31, 63, 127, 255];
 
 /// How the serving ended.
 #[derive(Clone, Copy, Debug, PartialEq, Eq)]
@@ -46,55 +46,119 @@ fn host_of(config: &Config) -> &str {
     }
 }
 
-/// The backends of a configuration, all attached.
-fn attached_of(config: &Config) -> BackendSet {
-    BackendSet {
-        bits: FIRST[config.nodes.len().min(8)],
-    }
-}
-
 /// Listens at the address of the configuration, and says so. `None`: the count of faults rose.
-fn listen<R: Host>(rt: &R, faults: &mut u64, config: &Config) -> Option<TcpListener>
+fn listen<R: Host>(rt: &R, alloc: Global, faults: &mut u64, config: &Config) -> Option<TcpListener>
     ensures { IfNone result (Rose faults.old faults.new) }
 {
     let (host, port) = (host_of(config), config.port);
     match TcpListener::bind(rt, (host, port)) {
         Ok(listener) => {
             let (nodes, seats) = (config.nodes.len(), config.children);
-            let line = "pool: listening at";
-            drop(eprintln!(rt; "{line} {host}, port {port}: backends {nodes}, seats {seats}"));
+            tell(
+                rt,
+                alloc,
+                format_args!("listening at {host}, port {port}: backends {nodes}, seats {seats}"),
+            );
             Some(listener)
         }
         Err(fault) => {
             *faults = faults.saturating_add(1);
-            drop(eprintln!(rt; "pool: cannot listen at {host}, port {port}: {fault}"));
+            tell(
+                rt,
+                alloc,
+                format_args!("cannot listen at {host}, port {port}: {fault}"),
+            );
             None
         }
     }
 }
 
-/// A connection gets a seat and a thread, or is told that there is no seat. One that gets no thread
-/// is closed.
-fn welcome<R: Host, G: AtGate + Send + Sync + 'static>(
-    rt: R,
+/// The door of one gate: what is behind it, and the number of the last connection that came.
+#[derive(Drop)]
+struct Door<G: AtGate> {
     alloc: Global,
-    room: &Arc<Room<G>, Global>,
-    stream: TcpStream,
-) {
-    match room.take(&rt) {
-        None => drop(thread::spawn(&rt, move || turn_away(alloc, stream))),
-        Some((s, pass)) => {
-            if let Some(job) = start(rt, alloc, room, Job { s, pass, stream }) {
-                let Job { s, pass, stream } = job;
-                drop(stream);
-                room.give(&rt, s, pass);
+    room: Arc<Room<G>, Global>,
+    porch: Arc<Porch, Global>,
+    /// Somebody tells those that find no seat.
+    attended: bool,
+    number: u64,
+    /// When it was told last that a connection could not be accepted.
+    told: Option<Instant>,
+}
+
+impl<G: AtGate + Send + Sync + 'static> Door<G> {
+    /// A connection gets a seat and a thread, or is told that there is no seat. One that gets no
+    /// thread is closed.
+    fn welcome<R: Host>(&mut self, rt: R, stream: TcpStream) {
+        self.number = self.number.saturating_add(1);
+        match self.room.take(&rt) {
+            None => self.turn_away(rt, stream),
+            Some((s, pass)) => {
+                let visit = Visit::new(self.number, stream.peer_addr().ok());
+                let job = Job {
+                    s,
+                    pass,
+                    stream,
+                    visit,
+                };
+                if let Some(job) = start(rt, self.alloc, &self.room, job) {
+                    self.send_home(rt, job);
+                }
             }
         }
     }
+
+    /// There is no seat.
+    fn turn_away<R: Host>(&self, rt: R, stream: TcpStream) {
+        if self.attended {
+            self.porch.take(&rt, stream);
+        }
+    }
+
+    /// A connection could not be accepted: an operator is told, at most once a second.
+    fn pause<R: Host>(&mut self, rt: R, fault: &io::Error) {
+        if is_second_over(&rt, self.told) {
+            self.told = Instant::now(&rt).ok();
+            tell(
+                &rt,
+                self.alloc,
+                format_args!("cannot accept a connection: {fault}"),
+            );
+        }
+        thread::sleep(&rt, Duration::from_millis(PAUSE));
+    }
+
+    /// There is no thread.
+    fn send_home<R: Host>(&self, rt: R, job: Job<G>) {
+        let Job {
+            s,
+            pass,
+            stream,
+            visit,
+        } = job;
+        tell(
+            &rt,
+            self.alloc,
+            format_args!("{visit} ends: the system gives no thread for it"),
+        );
+        drop(stream);
+        self.room.give(&rt, s, pass);
+    }
+}
+
+/// Starts the thread that tells those that find no seat. Answers whether there is one.
+fn attend_in_thread<R: Host>(rt: R, porch: &Arc<Porch, Global>, seats: u32) -> bool {
+    let Ok(theirs) = Arc::try_clone(porch) else {
+        return false;
+    };
+    thread::spawn(&rt, move || attend(&rt, &theirs, seats)).is_ok()
 }
 
 /// Serves TCP clients of these tables, before the backends of a configuration, until no more come.
-/// `faults` counts the addresses that could not be listened at.
+/// `faults` counts the addresses that could not be listened at. Attached are the backends that are
+/// up in the status file and whose servers are there, and each detachment is written into that
+/// file before it is made. `tells_all`: standard error has a line where a session begins and ends,
+/// besides those of faults.
 ///
 /// Units: at most 64 seats are given out, and at most eight backends are attached.
 pub fn serve<R: Host>(
@@ -103,42 +167,109 @@ pub fn serve<R: Host>(
     faults: &mut u64,
     config: Config,
     tables: Catalogue,
+    keeper: Keeper,
+    tells_all: bool,
 ) -> ServeEnd
     requires within { IsWithin tables }
     ensures listen_fault { result ≡ ListenFault → Rose faults.old faults.new }
 {
-    let Some(listener) = listen(&rt, faults, &config) else {
+    let house = match house_of(&rt, alloc, faults, config, tables, keeper, tells_all) {
+        Ok(Some(house)) => house,
+        Ok(None) => return ServeEnd::ListenFault,
+        Err(NoMemory) => return ServeEnd::NoMemory,
+    };
+    let attached = attached_behind(&rt, alloc, &house.config, &house.tables, &house.keeper);
+    let Some(listener) = listen(&rt, alloc, faults, &house.config) else {
+        drop(house);
         return ServeEnd::ListenFault;
     };
-    let Ok((gate, pass)) = SharedGate::new(&rt, alloc, attached_of(&config)) else {
-        return ServeEnd::NoMemory;
-    };
-    match serve_at::<R, Brand>(rt, alloc, &listener, gate, pass, config, tables) {
+    match SharedGate::new(&rt, alloc, attached) {
+        Ok((gate, pass)) => end_of(serve_at::<R, Brand>(rt, alloc, &listener, gate, pass, house)),
+        Err(NoMemory) => {
+            drop(house);
+            ServeEnd::NoMemory
+        }
+    }
+}
+
+/// What is served, with what clients are asked for their passwords by. `None`: the count of faults
+/// rose.
+fn house_of<R: Host>(
+    rt: &R,
+    alloc: Global,
+    faults: &mut u64,
+    config: Config,
+    tables: Catalogue,
+    keeper: Keeper,
+    tells_all: bool,
+) -> Result<Option<House>, NoMemory>
+    requires within { IsWithin tables }
+    ensures none { result ≡ Ok None → Rose faults.old faults.new }
+    ensures kept { IfOk result (λ house. IfSome house (λ _. faults.new ≡ faults.old)) }
+{
+    let secrets = secrets_of(rt, alloc, faults, &config);
+    match secrets {
+        Ok(Some(secrets)) => Ok(Some(House {
+            config,
+            tables,
+            secrets,
+            keeper,
+            tells_all,
+        })),
+        Ok(None) => {
+            drop(config);
+            drop(tables);
+            drop(keeper);
+            Ok(None)
+        }
+        Err(NoMemory) => {
+            drop(config);
+            drop(tables);
+            drop(keeper);
+            Err(NoMemory)
+        }
+    }
+}
+
+/// How the serving of a gate ended.
+fn end_of(served: Result<(), NoMemory>) -> ServeEnd
+    ensures { result ≢ ListenFault }
+{
+    match served {
         Ok(()) => ServeEnd::Closed,
         Err(NoMemory) => ServeEnd::NoMemory,
     }
 }
 
-/// Serves the clients of one gate, at which all backends are attached.
+/// Serves the clients of one gate.
 fn serve_at<R: Host, G: AtGate + Send + Sync + 'static>(
     rt: R,
     alloc: Global,
     listener: &TcpListener,
     gate: SharedGate,
     pass: Pass,
-    config: Config,
-    tables: Catalogue,
+    house: House,
 ) -> Result<(), NoMemory>
     requires gate { gate ≡ G.gate }
     requires pass { pass.gate ≡ G.gate }
-    requires within { IsWithin tables }
 {
-    let room = Room::<G>::new(alloc, gate, pass, config, tables)?;
+    let seats = house.config.children;
+    let room = Room::<G>::new(alloc, gate, pass, house)?;
     let room = Arc::new(alloc, room)?;
+    let porch = Arc::new(alloc, Porch::new(alloc))?;
+    let attended = attend_in_thread(rt, &porch, seats);
+    let mut door = Door {
+        alloc,
+        room,
+        porch,
+        attended,
+        number: 0,
+        told: None,
+    };
     for stream in listener.incoming() {
         match stream {
-            Ok(stream) => welcome(rt, alloc, &room, stream),
-            Err(_) => thread::sleep(&rt, Duration::from_millis(PAUSE)),
+            Ok(stream) => door.welcome(rt, stream),
+            Err(fault) => door.pause(rt, &fault),
         }
     }
     Ok(())

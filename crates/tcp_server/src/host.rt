@@ -1,6 +1,7 @@
 //! What the server asks of the system.
 
 use std::net::{Net, TcpListener, TcpStream};
+use std::random::RandomSource;
 use std::rt::Clock;
 use std::sync::Wait;
 use std::thread::Threads;
@@ -10,6 +11,7 @@ pub trait Host: Net<Listener = TcpListener, Stream = TcpStream>
     + Threads
     + Wait
     + Clock
+    + RandomSource
     + Eprint
     + Copy
     + Send
@@ -22,6 +24,7 @@ where
         + Threads
         + Wait
         + Clock
+        + RandomSource
         + Eprint
         + Copy
         + Send

@@ -4,13 +4,18 @@
 
 mod accept;
 mod client;
+mod desk;
+mod doorway;
+mod entrance;
+mod explained;
 mod host;
-mod maker;
 mod notices;
 mod pass_at;
+mod porch;
+mod refusal;
 mod room;
+mod servers;
 mod start;
-mod turned_away;
 mod turns;
 mod why;
 

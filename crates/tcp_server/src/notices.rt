@@ -4,45 +4,72 @@ use crate::why::{Why, why_ended};
 use pool_base::{BackendId, SessionId};
 use pool_config::Config;
 use pool_server::{EndCause, Notices};
+use serve_base::{Turned, Visit, tell};
 use session_machine::Cause;
+use std::alloc::Global;
 use std::cell::Cell;
+use std::rt::Clock;
 
 /// Lines on standard error. What cannot be written is left out.
 #[derive(Drop)]
 pub(crate) struct ErrorLines<'a, R> {
     pub rt: &'a R,
+    pub alloc: Global,
     pub config: &'a Config,
+    pub visit: &'a Visit,
     /// The backends where the last try began no session, each by its bit.
     pub unreached: &'a Cell<u8>,
+    /// Sessions that begin and end without a fault are told of too.
+    pub tells_all: bool,
 }
 
-impl<'a, R: Eprint> ErrorLines<'a, R> {
+impl<'a, R: Eprint + Clock + Copy> ErrorLines<'a, R> {
     /// A session has detached a backend.
-    fn tell(&self, s: SessionId, b: BackendId, why: Why<'_>) {
-        let (s, b) = (s.number, b.number);
+    fn tell_detached(&self, b: BackendId, why: Why<'_>) {
+        let (visit, b) = (self.visit, b.number);
         let (host, port) = match self.config.nodes.get(usize::from(b)) {
             Some(node) => (node.host.as_str(), node.port),
             None => ("", 0),
         };
-        let line = "pool: session";
-        drop(eprintln!(self.rt; "{line} {s} detaches backend {b} ({host}, port {port}): {why}"));
+        tell(
+            self.rt,
+            self.alloc,
+            format_args!("{visit} detaches backend {b} ({host}, port {port}): {why}"),
+        );
     }
 }
 
-impl<'a, R: Eprint> Notices for ErrorLines<'a, R> {
-    fn detached(&mut self, s: SessionId, b: BackendId, cause: &Cause) {
+impl<'a, R: Eprint + Clock + Copy> Notices for ErrorLines<'a, R> {
+    fn detached(&mut self, _: SessionId, b: BackendId, cause: &Cause) {
         let unreached = self.unreached.get() >> b.number & 1 == 1;
-        self.tell(s, b, Why { cause, unreached });
+        self.tell_detached(b, Why { cause, unreached });
     }
 
     fn none_left(&mut self) {
-        drop(eprintln!(self.rt; "pool: no backend is left"));
+        tell(self.rt, self.alloc, "no backend is left");
     }
 
-    fn ended(&mut self, s: SessionId, cause: EndCause) {
-        if let Some(why) = why_ended(cause) {
-            let s = s.number;
-            drop(eprintln!(self.rt; "pool: session {s} ends: {why}"));
+    fn ended(&mut self, _: SessionId, cause: EndCause) {
+        let visit = self.visit;
+        match (visit.turned.get(), why_ended(cause)) {
+            (Turned::Late, _) => {
+                let what = if visit.has_names() {
+                    "it has not shown its password in time"
+                } else {
+                    "no start message came in time"
+                };
+                tell(self.rt, self.alloc, format_args!("{visit} ends: {what}"));
+            }
+            (Turned::No, Some(why)) => tell(
+                self.rt,
+                self.alloc,
+                format_args!("{visit} ends: {why}"),
+            ),
+            (Turned::No, None) => {
+                if self.tells_all && visit.has_names() {
+                    tell(self.rt, self.alloc, format_args!("{visit} ends"));
+                }
+            }
         }
     }
 }

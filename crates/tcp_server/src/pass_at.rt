@@ -1,12 +1,15 @@
 //! A session's pass at the gate that threads share.
-ghost use Rattle.std.specs.Prelude.{◌≡◌};
+ghost use Rattle.std.specs.Prelude.{◌≡◌, true};
 ghost use Rattle.shared_gate.specs.History.{IsOut, stand_of, copy_of, Out, Idle};
 ghost use Rattle.pool_server.specs.Passes.{stand_in};
+ghost use Rattle.tcp_server.specs.Noting.{are_noted};
 
+use crate::explained::note;
 use crate::room::{AtGate, OutPass};
 use crate::turns::Turns;
 use pool_base::{GateAnswer, GateCall};
 use pool_server::{Footing, GatePass};
+use serve_base::{Keeper, Notes};
 use shared_gate::{Pass, SharedGate};
 use std::marker::PhantomData;
 use std::rt::Clock;
@@ -31,13 +34,16 @@ pub(crate) struct PassAt<'a, R, G: AtGate> {
     rt: &'a R,
     gate: &'a SharedGate,
     turns: &'a Turns,
+    keeper: &'a Keeper,
     pass: Pass,
+    notes: Notes,
     footing: Footing,
     of: PhantomData<G>,
     ghost gate_is: { gate.now ≡ G.gate },
     ghost pass_is: { pass.gate ≡ G.gate },
     ghost stands: { stand_of pass.mine ≡ stand_in footing.phase },
     ghost idle: { copy_of pass.mine ≡ Idle },
+    ghost noted: { are_noted notes pass.mine ≡ true },
 }
 
 impl<'a, R, G: AtGate> PassAt<'a, R, G> {
@@ -46,17 +52,20 @@ impl<'a, R, G: AtGate> PassAt<'a, R, G> {
         rt: &'a R,
         gate: &'a SharedGate,
         turns: &'a Turns,
+        keeper: &'a Keeper,
         pass: OutPass<G>,
     ) -> PassAt<'a, R, G>
         requires { gate.now ≡ G.gate }
         ensures { stand_of result.pass.mine ≡ Out }
     {
-        let OutPass { pass, .. } = pass;
+        let OutPass { pass, notes, .. } = pass;
         PassAt {
             rt,
             gate,
             turns,
+            keeper,
             pass,
+            notes,
             footing: Footing::new(),
             of: PhantomData,
         }
@@ -66,9 +75,10 @@ impl<'a, R, G: AtGate> PassAt<'a, R, G> {
     pub fn into_pass(self) -> OutPass<G>
         requires { stand_of self.pass.mine ≡ Out }
     {
-        let PassAt { pass, .. } = self;
+        let PassAt { pass, notes, .. } = self;
         OutPass {
             pass,
+            notes,
             of: PhantomData,
         }
     }
@@ -83,7 +93,7 @@ fn wait_behind(tries: u32) -> Option<Duration> {
     Some(Duration::from_micros(FIRST_WAIT << doublings))
 }
 
-impl<'a, R: Wait + Clock, G: AtGate> GatePass for PassAt<'a, R, G> {
+impl<'a, R: Wait + Clock + Eprint + Copy, G: AtGate> GatePass for PassAt<'a, R, G> {
     ghost use Rattle.shared_gate.specs.History.{stand_of};
     ghost use Rattle.pool_server.specs.Sights.{calls_in};
 
@@ -102,6 +112,7 @@ impl<'a, R: Wait + Clock, G: AtGate> GatePass for PassAt<'a, R, G> {
     }
 
     fn step(&mut self, call: GateCall) -> GateAnswer {
+        note(self.rt, self.keeper, &mut self.notes, call);
         self.turns.wait(self.rt, call);
         let answer = self.gate.step(self.rt, &mut self.pass, call);
         self.turns.heed(self.rt, call, answer);

@@ -1,12 +1,13 @@
 //! What the sessions share: the gate with the turns there, the seats with their passes, the
-//! configuration, the tables.
+//! configuration, the tables, and who keeps the status file.
 //!
 //! ```text
 //! free, its pass is there --take--> taken, its pass is with a session --give--> free
 //! ```
-ghost use Rattle.std.specs.Prelude.{◌≡◌, ◌≤◌, length, IfOk, IfSome, min};
+ghost use Rattle.std.specs.Prelude.{◌≡◌, ◌≤◌, length, IfOk, IfSome, min, true};
 ghost use Rattle.schema.specs.Grammar.{IsWithin};
 ghost use Rattle.shared_gate.specs.History.{IsOut};
+ghost use Rattle.tcp_server.specs.Noting.{are_noted};
 ghost use Rattle.tcp_server.specs.Rooms.{AreMatched};
 
 use crate::turns::Turns;
@@ -14,11 +15,13 @@ use pool_base::{NoMemory, SessionId};
 use pool_config::Config;
 use pool_server::Seats;
 use schema::Catalogue;
+use serve_base::{Keeper, Notes};
 use shared_gate::{Pass, SharedGate};
 use std::alloc::Global;
 use std::marker::{Brand, PhantomData};
 use std::mem;
 use std::sync::{Mutex, Wait};
+use tcp_link::Secrets;
 
 /// How many seats there are at most.
 const MOST: u32 = 64;
@@ -36,13 +39,15 @@ impl AtGate for Brand {
     ghost gate = { no_gate };
 }
 
-/// A pass of the gate that is out.
+/// A pass of the gate that is out, with what was noted of the detachments that it has made.
 #[derive(Drop)]
 pub(crate) struct OutPass<G: AtGate> {
     pub pass: Pass,
+    pub notes: Notes,
     pub of: PhantomData<G>,
     ghost of_gate: { pass.gate ≡ G.gate },
     ghost out: { IsOut pass },
+    ghost noted: { are_noted notes pass.mine ≡ true },
 }
 
 /// The seats, and the pass of each seat that is free.
@@ -102,20 +107,31 @@ fn split_off<G: AtGate>(gate: &SharedGate, pass: &mut Pass) -> OutPass<G>
 {
     OutPass {
         pass: gate.split(pass),
+        notes: Notes::new(),
         of: PhantomData,
     }
+}
+
+/// What is served, whom clients show their passwords to, and who keeps the status file.
+#[derive(Drop)]
+pub(crate) struct House {
+    pub config: Config,
+    pub tables: Catalogue,
+    pub secrets: Secrets,
+    pub keeper: Keeper,
+    /// Sessions that begin and end without a fault are told of too.
+    pub tells_all: bool,
+    ghost within: { IsWithin tables },
 }
 
 /// What the sessions share.
 #[derive(Drop)]
 pub(crate) struct Room<G: AtGate> {
     pub gate: SharedGate,
-    pub config: Config,
-    pub tables: Catalogue,
+    pub house: House,
     pub turns: Turns,
     places: Mutex<Places<G>>,
     ghost gate_is: { gate ≡ G.gate },
-    ghost within: { IsWithin tables },
 }
 
 impl<G: AtGate> Room<G> {
@@ -124,23 +140,26 @@ impl<G: AtGate> Room<G> {
         alloc: Global,
         gate: SharedGate,
         pass: Pass,
-        config: Config,
-        tables: Catalogue,
+        house: House,
     ) -> Result<Room<G>, NoMemory>
         requires gate { gate ≡ G.gate }
         requires pass { pass.gate ≡ G.gate }
-        requires within { IsWithin tables }
     {
         let mut pass = pass;
-        let count = config.children.min(MOST);
-        let places = Places::<G>::new(alloc, &gate, &mut pass, count)?;
-        Ok(Room {
-            gate,
-            config,
-            tables,
-            turns: Turns::new(),
-            places: Mutex::new(places),
-        })
+        let count = house.config.children.min(MOST);
+        match Places::<G>::new(alloc, &gate, &mut pass, count) {
+            Ok(places) => Ok(Room {
+                gate,
+                house,
+                turns: Turns::new(),
+                places: Mutex::new(places),
+            }),
+            Err(NoMemory) => {
+                drop(gate);
+                drop(house);
+                Err(NoMemory)
+            }
+        }
     }
 
     /// The lowest free seat with its pass, if there is one.

@@ -54,7 +54,8 @@ impl<'a> fmt::Display for Why<'a> {
 /// Why a session ended, where an operator wants to know.
 pub(crate) fn why_ended(cause: EndCause) -> Option<&'static str> {
     match cause {
-        EndCause::Left | EndCause::Refused => None,
+        EndCause::Left => None,
+        EndCause::Refused => Some("it was told an error that ends a session"),
         EndCause::ReadFault => Some("its client could not be read"),
         EndCause::WriteFault => Some("its client could not be written to"),
         EndCause::CutOff => Some("it was cut off in a commit, with no backend left"),
