@@ -1,4 +1,5 @@
 """Three PostgreSQL servers with one schema, and the pool before them, in a folder that goes again."""
+import glob
 import os
 import shutil
 import socket
@@ -26,19 +27,43 @@ class NotServed(Exception):
 class Pool:
     """The pool before servers. Its lines are those that it wrote on standard error."""
 
-    def __init__(self, folder, words, ports, seats=SEATS, schema=SCHEMA):
-        self.port, self.lines_path = free_port(), f"{folder}/lines"
+    def __init__(self, folder, words, ports, seats=SEATS, schema=SCHEMA, more=()):
+        self.folder, self.words, self.child = folder, words, None
+        self.port, self.lines_path, self.status_path = free_port(), f"{folder}/lines", f"{folder}/config.status"
         config = ["backend_clustering_mode = 'snapshot_isolation'", "listen_addresses = '127.0.0.1'"]
         config += [f"port = {self.port}", f"num_init_children = {seats}"]
         for number, port in enumerate(ports):
             config += [f"backend_hostname{number} = '127.0.0.1'", f"backend_port{number} = {port}"]
+        config += more
         for name, text in (("config", "\n".join(config) + "\n"), ("schema", schema)):
             with open(f"{folder}/{name}", "w", encoding="utf-8") as file:
                 file.write(text)
+        self.start()
+
+    def start(self):
+        """Starts the pool. What it told before is gone."""
+        words = [*self.words, "serve", f"{self.folder}/config", f"{self.folder}/schema"]
         with open(self.lines_path, "wb") as lines:
-            self.child = subprocess.Popen(
-                [*words, "serve", f"{folder}/config", f"{folder}/schema"], stdin=subprocess.DEVNULL, stdout=lines, stderr=lines
-            )
+            self.child = subprocess.Popen(words, stdin=subprocess.DEVNULL, stdout=lines, stderr=lines)
+
+    def again(self, kill=False):
+        """Ends the pool, by SIGKILL or by SIGTERM, and starts it again."""
+        if kill:
+            self.child.kill()
+        self.stop()
+        self.start()
+        self.wait()
+
+    def attach(self, number):
+        """The operator's word that a backend may be attached: its status, and what is said."""
+        words = [*self.words, "attach", f"{self.folder}/config", str(number)]
+        done = subprocess.run(words, stdin=subprocess.DEVNULL, capture_output=True, encoding="utf-8", timeout=60, check=False)
+        return done.returncode, (done.stdout + done.stderr).strip()
+
+    def said(self):
+        """What the status file says."""
+        with open(self.status_path, encoding="utf-8") as file:
+            return file.read()
 
     def lines(self):
         """What the pool has told its operator."""
@@ -112,7 +137,9 @@ class Servers:
             client.close()
 
     def reset(self):
-        """All servers run, and have the rows of the start."""
+        """All servers run, and have the rows of the start. No pool has told of one that is down."""
+        for name in glob.glob(f"{self.folder}/config.status*"):
+            os.rmdir(name) if os.path.isdir(name) else os.remove(name)
         for server in self.all:
             if not server.is_running():
                 server.start()
@@ -137,9 +164,9 @@ class Servers:
         server = next(server for server in self.all if server.is_running())
         return int(self.at(server, "SELECT sum(v) FROM accounts").rows[0][0])
 
-    def pool(self, words, **given):
-        """The pool before the servers, as soon as it listens."""
-        pool = Pool(self.folder, words, self.ports(), **given)
+    def pool(self, words, folder=None, **given):
+        """The pool before the servers, as soon as it listens. Pools that run at once have a folder each."""
+        pool = Pool(folder or self.folder, words, self.ports(), **given)
         try:
             pool.wait()
         except BaseException:

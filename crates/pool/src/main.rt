@@ -1,14 +1,19 @@
 //! The pool: `pool play CONFIG SCHEMA SCRIPT` plays a script and writes its transcript;
-//! `pool serve CONFIG SCHEMA` serves TCP clients before PostgreSQL servers.
+//! `pool serve CONFIG SCHEMA` serves TCP clients before PostgreSQL servers; `pool attach CONFIG N`
+//! lets a backend be attached again.
 #![tactic(auto)]
 
 mod advice;
+mod attach;
+mod limits;
 mod serving;
 
 use crate::advice::advise;
-use crate::serving::serve;
+use crate::attach::attach_by;
+use crate::limits::seats_of;
+use crate::serving::{place_by, serve, warn};
 use pool_base::{Files, NoMemory, Sink, SystemFiles, WriterSink};
-use pool_run::{Status, ask_to_serve, run_over_stores};
+use pool_run::{Served, Status, ask_to_serve, run_over_stores};
 use std::alloc::Global;
 use std::env;
 use std::io::{self, BufWriter, Write};
@@ -45,23 +50,92 @@ fn args_of(rt: &HostRuntime) -> Result<Vec<String>, NoMemory> {
     Ok(args)
 }
 
-/// Runs the command of the words, and serves with what the host has.
+/// Whether `serve` tells of sessions that begin and end: unless `POOL_LOG_SESSIONS` is `off`.
+fn tells_sessions(rt: &HostRuntime) -> bool {
+    match env::var(rt, "POOL_LOG_SESSIONS") {
+        Ok(value) => value.as_str() != "off",
+        Err(_) => true,
+    }
+}
+
+/// Runs the command of the words, and serves with what the host has. `place` is where the status
+/// file of a command that serves is.
 fn run<R: Host, F: Files, O: Sink>(
+    rt: &HostRuntime,
     host: R,
     alloc: Global,
     words: &[&str],
+    place: &str,
     files: &mut F,
     out: &mut O,
+    tells_all: bool,
 ) -> Result<u8, NoMemory> {
     match ask_to_serve(alloc, words, files, out) {
-        Ok(Some(served)) => Ok(serve(host, alloc, served)),
+        Ok(Some(served)) => begin(rt, host, alloc, words, place, served, tells_all),
         Ok(None) => run_over_stores(alloc, words, files, out),
         Err(code) => Ok(code),
     }
 }
 
-/// Runs the command that the program is called with, and writes to a buffer. Standard error has why
-/// it ends where it ends before it begins.
+/// Serves what was read, with as many seats as the limit of open files has room for.
+fn begin<R: Host>(
+    rt: &HostRuntime,
+    host: R,
+    alloc: Global,
+    words: &[&str],
+    place: &str,
+    served: Served,
+    tells_all: bool,
+) -> Result<u8, NoMemory> {
+    warn(rt, words, &served);
+    match seats_of(rt, &served.config) {
+        Ok(seats) => Ok(serve(rt, host, alloc, place, served, seats, tells_all)),
+        Err(NoMemory) => {
+            drop(served);
+            Err(NoMemory)
+        }
+    }
+}
+
+/// Runs a command that is no word of an operator about a backend.
+fn run_at<R: Host, F: Files, O: Sink>(
+    rt: &HostRuntime,
+    host: R,
+    words: &[&str],
+    files: &mut F,
+    out: &mut O,
+) -> Result<u8, NoMemory> {
+    let place = place_by(rt, words)?;
+    let tells_all = tells_sessions(rt);
+    run(
+        rt,
+        host,
+        rt.alloc(),
+        words,
+        place.as_str(),
+        files,
+        out,
+        tells_all,
+    )
+}
+
+/// Runs the command of the words. Standard error has why it ends where it ends before it begins.
+fn run_words<R: Host, F: Files, O: Sink>(
+    rt: &HostRuntime,
+    host: R,
+    words: &[&str],
+    files: &mut F,
+    out: &mut O,
+) -> Result<u8, NoMemory> {
+    if let Some(code) = attach_by(rt, &host, words, files, out)? {
+        return Ok(code);
+    }
+    let code = run_at(rt, host, words, files, out)?;
+    advise(rt, words, code)?;
+    Ok(code)
+}
+
+/// Runs the command that the program is called with, and writes to a buffer.
 fn run_buffered<R: Host, W: Write>(
     rt: &HostRuntime,
     host: R,
@@ -74,9 +148,7 @@ fn run_buffered<R: Host, W: Write>(
     }
     let mut files = SystemFiles::new(rt.clone()?);
     let mut out = WriterSink::new(buffer);
-    let code = run(host, rt.alloc(), words.as_slice(), &mut files, &mut out)?;
-    advise(rt, words.as_slice(), code)?;
-    Ok(code)
+    run_words(rt, host, words.as_slice(), &mut files, &mut out)
 }
 
 /// Runs the command, and then writes what is left in the buffer. Where that cannot be written, the
