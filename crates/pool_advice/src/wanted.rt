@@ -66,6 +66,19 @@ fn single_wanted(name: &[u8]) -> Option<Wanted>
         Some(Wanted::OnlyOn)
     } else if name == b"failover_if_affected_tuples_mismatch".as_slice() {
         Some(Wanted::OnlyOn)
+    } else if name == b"server_timeout".as_slice() {
+        Some(Wanted::Number { low: 2, high: 600 })
+    } else if name == b"authentication_timeout".as_slice() {
+        Some(Wanted::Number { low: 1, high: 600 })
+    } else if name == b"client_idle_limit".as_slice() {
+        Some(Wanted::Number {
+            low: 0,
+            high: 86400,
+        })
+    } else if name == b"log_connections".as_slice() {
+        Some(Wanted::Truth)
+    } else if name == b"log_disconnections".as_slice() {
+        Some(Wanted::Truth)
     } else if name == b"backend_password".as_slice() {
         Some(Wanted::Secret)
     } else {

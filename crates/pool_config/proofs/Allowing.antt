@@ -12,12 +12,12 @@ use Rattle.scram.specs.Tests.{is_verifier}
 use Rattle.pool_config.specs.Users.{all_users}
 use Rattle.pool_config.specs.declared.user.UserNumber.{UserNumber}
 use Rattle.pool_config.specs.Settings.{Sets, Say}
-use Rattle.pool_config.specs.Configuration.{standing, said_by, later, text_in, number_in, count_of, backends_in, node_of, user_count_of, users_in, user_of, text_there, required_at, required_of, lacks, missing_of, config_of, IsConfiguration, IsString, AreAllowedNodes, AreAllowedUsers, IsAllowedPassword, IsAllowed}
+use Rattle.pool_config.specs.Configuration.{standing, said_by, later, text_in, number_in, count_of, backends_in, node_of, user_count_of, users_in, user_of, text_there, required_at, required_of, lacks, missing_of, config_of, IsConfiguration, IsString, AreAllowedNodes, AreAllowedUsers, IsAllowedPassword, AreAllowedSessions, sessions_of, IsAllowed}
 use Rattle.pool_config.specs.Reader.{Gives, answer_of}
 use Rattle.pool_config.specs.declared.line.Class.{Class}
 use Rattle.pool_config.specs.declared.line.Class.TheVariants.{InLine}
 use Rattle.pool_config.specs.declared.parameter.Parameter.{Parameter}
-use Rattle.pool_config.specs.declared.parameter.Parameter.TheVariants.{ClusteringMode, Hostname, BackendPort, Weight, ListenAddresses, Port, Children, ScramUser, ScramVerifier, BackendPassword}
+use Rattle.pool_config.specs.declared.parameter.Parameter.TheVariants.{ClusteringMode, Hostname, BackendPort, Weight, ListenAddresses, Port, Children, ServerTimeout, AuthenticationTimeout, ClientIdleLimit, LogConnections, LogDisconnections, ScramUser, ScramVerifier, BackendPassword}
 use Rattle.pool_config.specs.declared.parameter.Kind.{Kind}
 use Rattle.pool_config.specs.declared.parameter.Kind.TheVariants as kind
 use Rattle.pool_config.specs.declared.value.Value.{Value}
@@ -231,6 +231,21 @@ users_for said (u ∷ us) h e f =
     let verifier = verifier_for (standing (ScramVerifier u) said) q.0 (standing_for (ScramVerifier u) said h) in
     ((name_for (standing (ScramUser u) said) p.0 (standing_for (ScramUser u) said h), verifier.0, verifier.1), users_for said us h p.1 q.1)
 
+-- ---- the sessions
+
+sessions_for : (said : List Setting) → AreSettings said → AreAllowedSessions (sessions_of said)
+sessions_for said h =
+    let server = number_for 2 600 10 (standing ServerTimeout said) (standing_for ServerTimeout said h) (omega arith) (omega arith) in
+    let authentication = number_for 1 600 30 (standing AuthenticationTimeout said) (standing_for AuthenticationTimeout said h) (omega arith) (omega arith) in
+    let idle = number_for 0 86400 0 (standing ClientIdleLimit said) (standing_for ClientIdleLimit said h) (omega arith) (omega arith) in
+    record {
+      server_from = server.0;
+      server_to = server.1;
+      authentication_from = authentication.0;
+      authentication_to = authentication.1;
+      idle_to = idle.1;
+    }
+
 -- ---- the whole
 
 settings_allowed : (said : List Setting) → AreSettings said → missing_of said ≡ None → IsAllowed (config_of said)
@@ -257,6 +272,7 @@ settings_allowed said h complete =
       port_to = port.1;
       children_from = children.0;
       children_to = children.1;
+      sessions = sessions_for said h;
       few_users = subst (λ (n : ℕ). n ≤ 16) (sym many) most;
       users = users_for said us h shown.0 shown.1;
       password = password_for (standing BackendPassword said) (standing_for BackendPassword said h);

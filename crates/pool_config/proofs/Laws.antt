@@ -9,7 +9,7 @@ use Rattle.pool_config.specs.Settings.{Sets, HasUnknownName, AsksOtherMode, IsBa
 use Rattle.pool_config.specs.Configuration.{missing_of, IsConfiguration, IsFault, Says, IsAnswer}
 use Rattle.pool_config.specs.Reader.{Form, empty, assignment, other, form_at, refused, set_by, set_of, assigned, setting_in, setting_at, joined, read_lines, unless_missing, assembled, answer_of, Gives}
 use Rattle.pool_config.specs.declared.parameter.Parameter.{Parameter}
-use Rattle.pool_config.specs.declared.parameter.Parameter.TheVariants.{ClusteringMode, Hostname, BackendPort, Weight, ListenAddresses, Port, Children, LoadBalance, StatementBalance, InsertLock, StopOnMismatch, FailoverOnMismatch, ScramUser, ScramVerifier, BackendPassword}
+use Rattle.pool_config.specs.declared.parameter.Parameter.TheVariants.{ClusteringMode, Hostname, BackendPort, Weight, ListenAddresses, Port, Children, LoadBalance, StatementBalance, InsertLock, StopOnMismatch, FailoverOnMismatch, ServerTimeout, AuthenticationTimeout, ClientIdleLimit, LogConnections, LogDisconnections, ScramUser, ScramVerifier, BackendPassword}
 use Rattle.pool_config.specs.declared.value.Value.{Value}
 use Rattle.pool_config.specs.declared.value.Value.TheVariants.{Text, Number, Truth}
 use Rattle.pool_config.specs.declared.assemble.Setting.{Setting}
@@ -79,6 +79,11 @@ refused_is n StopOnMismatch v = inl refl
 refused_is n FailoverOnMismatch v = inl refl
 refused_is n (ScramUser u) v = inl refl
 refused_is n (ScramVerifier u) v = inl refl
+refused_is n ServerTimeout v = inl refl
+refused_is n AuthenticationTimeout v = inl refl
+refused_is n ClientIdleLimit v = inl refl
+refused_is n LogConnections v = inl refl
+refused_is n LogDisconnections v = inl refl
 refused_is n BackendPassword v = inl refl
 
 refused_means : (n : ℕ) (line name : List ℕ) (w : Spelling) (p : Parameter) (v : Value) → IsAssignment line name w

@@ -13,6 +13,7 @@ pub mod Laws
 pub mod Printing
 pub mod UserPrinting
 pub mod Logins
+pub mod Timing
 pub mod Writing
 pub mod Allowing
 pub mod Naming

@@ -55,12 +55,12 @@ users_passed p (u ∷ us) (x ∷ xs) said low =
     passed p (record { parameter = ScramUser u; value = Text x.name }) (second ∷ rest) (λ e. absurd (omega arith))
     ∙ (passed p second rest (λ e. absurd (omega arith)) ∙ users_passed p us xs said low)
 
-password_passed : (p : Parameter) (password : Option (List ℕ)) → place_of p < 33 → standing p (password_settings password) ≡ None
+password_passed : (p : Parameter) (password : Option (List ℕ)) → place_of p < 38 → standing p (password_settings password) ≡ None
 password_passed p None low = refl
 password_passed p (Some text) low = passed p (record { parameter = BackendPassword; value = Text text }) [] (λ e. absurd (omega arith))
 
 -- no parameter of a backend or of the pool stands there
-pub logins_silent : (p : Parameter) (users : List UserOf) (password : Option (List ℕ)) → place_of p < 33 → standing p (logins users password) ≡ None
+pub logins_silent : (p : Parameter) (users : List UserOf) (password : Option (List ℕ)) → place_of p < 38 → standing p (logins users password) ≡ None
 logins_silent p users password low =
     users_passed p all_users users (password_settings password) (omega arith) ∙ password_passed p password low
 
@@ -176,13 +176,13 @@ ports_low (b ∷ bs) = let low = b.below_8 in (omega arith, ports_low bs)
 pub required_low : (bs : List BackendId) → AllPass (λ p. place_of p < 33) (required_at bs)
 required_low bs = (omega arith, all_append _ (map Hostname bs) (map BackendPort bs) (hosts_low bs) (ports_low bs))
 
-names_high : (us : List UserNumber) → AllPass (λ p. 33 ≤ place_of p) (map ScramUser us)
+names_high : (us : List UserNumber) → AllPass (λ p. 38 ≤ place_of p) (map ScramUser us)
 names_high [] = tt
 names_high (u ∷ us) = (omega arith, names_high us)
 
-verifiers_high : (us : List UserNumber) → AllPass (λ p. 33 ≤ place_of p) (map ScramVerifier us)
+verifiers_high : (us : List UserNumber) → AllPass (λ p. 38 ≤ place_of p) (map ScramVerifier us)
 verifiers_high [] = tt
 verifiers_high (u ∷ us) = (omega arith, verifiers_high us)
 
-pub required_high : (us : List UserNumber) → AllPass (λ p. 33 ≤ place_of p) (required_of us)
+pub required_high : (us : List UserNumber) → AllPass (λ p. 38 ≤ place_of p) (required_of us)
 required_high us = all_append _ (map ScramUser us) (map ScramVerifier us) (names_high us) (verifiers_high us)

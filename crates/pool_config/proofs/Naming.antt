@@ -7,7 +7,7 @@ use Rattle.pool_base.specs.declared.backend_id.BackendId.{BackendId}
 use Rattle.pool_config.specs.Table.{all_backends, numbered, name_of}
 use Rattle.pool_config.specs.Names.{single_named, of_stem, of_backend, by_digit, numbered_named, or_numbered, user_named, or_of_user, parameter_named}
 use Rattle.pool_config.specs.declared.parameter.Parameter.{Parameter}
-use Rattle.pool_config.specs.declared.parameter.Parameter.TheVariants.{ClusteringMode, Hostname, BackendPort, Weight, ListenAddresses, Port, Children, LoadBalance, StatementBalance, InsertLock, StopOnMismatch, FailoverOnMismatch, ScramUser, ScramVerifier, BackendPassword}
+use Rattle.pool_config.specs.declared.parameter.Parameter.TheVariants.{ClusteringMode, Hostname, BackendPort, Weight, ListenAddresses, Port, Children, LoadBalance, StatementBalance, InsertLock, StopOnMismatch, FailoverOnMismatch, ServerTimeout, AuthenticationTimeout, ClientIdleLimit, LogConnections, LogDisconnections, ScramUser, ScramVerifier, BackendPassword}
 use Rattle.pool_config.specs.Users.{all_users, digits_of, one_digit, second_digit, user_at}
 use Rattle.pool_config.specs.declared.user.UserNumber.{UserNumber}
 use Rattle.pool_config.proofs.UserPrinting.{user_known, verifier_known}
@@ -38,7 +38,12 @@ single_is name p e =
     (pick Is name (codes "insert_lock") InsertLock p _ (λ k. k)
     (pick Is name (codes "replication_stop_on_mismatch") StopOnMismatch p _ (λ k. k)
     (pick Is name (codes "failover_if_affected_tuples_mismatch") FailoverOnMismatch p _ (λ k. k)
-    (pick Is name (codes "backend_password") BackendPassword p None (λ k. k) (λ k. absurd (cc))))))))))) e
+    (pick Is name (codes "server_timeout") ServerTimeout p _ (λ k. k)
+    (pick Is name (codes "authentication_timeout") AuthenticationTimeout p _ (λ k. k)
+    (pick Is name (codes "client_idle_limit") ClientIdleLimit p _ (λ k. k)
+    (pick Is name (codes "log_connections") LogConnections p _ (λ k. k)
+    (pick Is name (codes "log_disconnections") LogDisconnections p _ (λ k. k)
+    (pick Is name (codes "backend_password") BackendPassword p None (λ k. k) (λ k. absurd (cc)))))))))))))))) e
 
 -- ---- a stem and a digit
 
@@ -210,6 +215,11 @@ known StopOnMismatch = refl
 known FailoverOnMismatch = refl
 known (ScramUser u) = user_known u
 known (ScramVerifier u) = verifier_known u
+known ServerTimeout = refl
+known AuthenticationTimeout = refl
+known ClientIdleLimit = refl
+known LogConnections = refl
+known LogDisconnections = refl
 known BackendPassword = refl
 
 -- the name is the parameter's exactly where the table gives it that name

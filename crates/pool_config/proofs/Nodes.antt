@@ -34,10 +34,6 @@ three t a b c p q r e f g =
 pub two : (t a b p q : List ℕ) → p ≡ t ++ a → q ≡ p ++ b → q ≡ t ++ (a ++ b)
 two t a b p q e f = f ∙ (ap (λ (x : List ℕ). x ++ b) e ∙ append_assoc t a b)
 
-pub five : (t a b c d p q r s : List ℕ) → p ≡ t ++ a → q ≡ p ++ b → r ≡ q ++ c → s ≡ r ++ d → s ≡ t ++ (a ++ (b ++ (c ++ d)))
-five t a b c d p q r s e f g h =
-    two t a (b ++ (c ++ d)) p s e (three p b c d q r s f g h)
-
 pub four : (t a b c d u p q r s v : List ℕ) → p ≡ t ++ a → q ≡ p ++ b → r ≡ q ++ c → s ≡ r ++ d → v ≡ s ++ u → v ≡ t ++ (a ++ (b ++ (c ++ (d ++ u))))
 four t a b c d u p q r s v e f g h k =
     three r d u [] s v v (h) k (sym (append-nil v)) ∙ (ap (λ (x : List ℕ). r ++ (d ++ x)) (append-nil u)

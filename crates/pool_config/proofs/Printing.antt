@@ -19,7 +19,7 @@ use Rattle.pool_config.specs.Printed.{line_of, string_line, number_line, truth_l
 use Rattle.pool_config.specs.declared.line.Class.{Class}
 use Rattle.pool_config.specs.declared.line.Class.TheVariants.{Name, Word, InLine}
 use Rattle.pool_config.specs.declared.parameter.Parameter.{Parameter}
-use Rattle.pool_config.specs.declared.parameter.Parameter.TheVariants.{ClusteringMode, Hostname, BackendPort, Weight, ListenAddresses, Port, Children, LoadBalance, StatementBalance, BackendPassword}
+use Rattle.pool_config.specs.declared.parameter.Parameter.TheVariants.{ClusteringMode, Hostname, BackendPort, Weight, ListenAddresses, Port, Children, LoadBalance, StatementBalance, ServerTimeout, AuthenticationTimeout, ClientIdleLimit, LogConnections, LogDisconnections, BackendPassword}
 use Rattle.pool_config.specs.declared.value.Value.{Value}
 use Rattle.pool_config.specs.declared.value.Value.TheVariants.{Text, Number, Truth}
 use Rattle.pool_config.specs.declared.assemble.Setting.{Setting}
@@ -175,7 +175,7 @@ no_truth (d ∷ ds) some h =
     else (if (d == 102) && bytes_eq ds (codes "alse") then Some (Truth false) else rest)) q.1
     ∙ ap (λ (t : Bool). if t && bytes_eq ds (codes "alse") then Some (Truth false) else rest) q.2)
 
-pub number_wrote : (name : List ℕ) (n : ℕ) (p : Parameter) (rest : List ℕ) (said : List Setting) → Names name p → n ≤ 65535 → takes (kind_of p) (Number n) ≡ true
+pub number_wrote : (name : List ℕ) (n : ℕ) (p : Parameter) (rest : List ℕ) (said : List Setting) → Names name p → n ≤ 86400 → takes (kind_of p) (Number n) ≡ true
     → Say (lines rest) said → Say (lines (number_line name n ++ rest)) (record { parameter = p; value = Number n } ∷ said)
 number_wrote name n p rest said names small taken more =
     let fits : n < 2 ^ 64 = omega arith in
@@ -271,6 +271,26 @@ pub statement_name : Names (codes "statement_level_load_balance") StatementBalan
 unfolding parameter_named
 statement_name = record { bytes = refl; in_line = refl; some = refl; known = refl }
 
+pub server_timeout_name : Names (codes "server_timeout") ServerTimeout
+unfolding parameter_named
+server_timeout_name = record { bytes = refl; in_line = refl; some = refl; known = refl }
+
+pub authentication_name : Names (codes "authentication_timeout") AuthenticationTimeout
+unfolding parameter_named
+authentication_name = record { bytes = refl; in_line = refl; some = refl; known = refl }
+
+pub idle_name : Names (codes "client_idle_limit") ClientIdleLimit
+unfolding parameter_named
+idle_name = record { bytes = refl; in_line = refl; some = refl; known = refl }
+
+pub connections_name : Names (codes "log_connections") LogConnections
+unfolding parameter_named
+connections_name = record { bytes = refl; in_line = refl; some = refl; known = refl }
+
+pub disconnections_name : Names (codes "log_disconnections") LogDisconnections
+unfolding parameter_named
+disconnections_name = record { bytes = refl; in_line = refl; some = refl; known = refl }
+
 pub password_name : Names (codes "backend_password") BackendPassword
 unfolding parameter_named
 password_name = record { bytes = refl; in_line = refl; some = refl; known = refl }
@@ -303,7 +323,7 @@ node_wrote b x rest said ok more =
     subst (λ (t : List ℕ). Say (lines t) (record { parameter = Hostname b; value = Text x.host }
     ∷ record { parameter = BackendPort b; value = Number x.port } ∷ record { parameter = Weight b; value = Number x.weight } ∷ said)) (sym parts)
     (string_wrote _ x.host (Hostname b) _ _ (with_digit (codes "backend_hostname") Hostname host_name b) ok.0.0 (host_taken x.host ok.0.1)
-    (number_wrote _ x.port (BackendPort b) _ _ (with_digit (codes "backend_port") BackendPort port_name b) ok.1.1 (in_range 1 65535 x.port ok.1.0 ok.1.1)
+    (number_wrote _ x.port (BackendPort b) _ _ (with_digit (codes "backend_port") BackendPort port_name b) (let h = ok.1.1 in omega arith) (in_range 1 65535 x.port ok.1.0 ok.1.1)
     (number_wrote _ x.weight (Weight b) rest said (with_digit (codes "backend_weight") Weight weight_name b) (let w = ok.2 in omega arith) (in_range 0 1000 x.weight (omega arith) ok.2) more)))
 
 -- backends with the numbers from n on

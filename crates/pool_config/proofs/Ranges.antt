@@ -6,7 +6,7 @@ use Rattle.pool_config.specs.Table.{kind_of, takes, place_of}
 use Rattle.pool_config.specs.Taken.{AllTaken}
 use Rattle.pool_config.specs.Configuration.{standing, said_by, later, number_in, count_of}
 use Rattle.pool_config.specs.declared.parameter.Parameter.{Parameter}
-use Rattle.pool_config.specs.declared.parameter.Parameter.TheVariants.{ClusteringMode, Hostname, BackendPort, Weight, ListenAddresses, Port, Children, LoadBalance, StatementBalance, InsertLock, StopOnMismatch, FailoverOnMismatch, ScramUser, ScramVerifier, BackendPassword}
+use Rattle.pool_config.specs.declared.parameter.Parameter.TheVariants.{ClusteringMode, Hostname, BackendPort, Weight, ListenAddresses, Port, Children, LoadBalance, StatementBalance, InsertLock, StopOnMismatch, FailoverOnMismatch, ServerTimeout, AuthenticationTimeout, ClientIdleLimit, LogConnections, LogDisconnections, ScramUser, ScramVerifier, BackendPassword}
 use Rattle.pool_config.specs.declared.parameter.Kind.{Kind}
 use Rattle.pool_config.specs.declared.parameter.Kind.TheVariants as kind
 use Rattle.pool_config.specs.declared.value.Value.{Value}
@@ -17,11 +17,15 @@ abbrev low_kind : ℕ → Kind
 low_kind n = if n == 0 then kind.Mode else (if n == 1 then kind.Words else (if n == 2 then kind.Number 1 65535
     else (if n == 3 then kind.Number 1 64 else (if nat_lt n 6 then kind.Truth else kind.OnlyOn))))
 
+abbrev middle_kind : ℕ → Kind
+middle_kind n = if n == 32 then kind.OnlyOn else (if n == 33 then kind.Number 2 600 else (if n == 34 then kind.Number 1 600
+    else (if n == 35 then kind.Number 0 86400 else (if nat_lt n 38 then kind.Truth else kind.Secret))))
+
 -- the kind of the parameter with this place
 abbrev kind_at : ℕ → Kind
 kind_at n = if nat_lt n 8 then low_kind n else (if nat_lt n 16 then kind.HostName
-    else (if nat_lt n 24 then kind.Number 1 65535 else (if nat_lt n 32 then kind.Number 0 1000 else (if n == 32 then kind.OnlyOn
-    else (if nat_lt n 40 then kind.Secret else (if nat_lt n 56 then kind.Words else kind.Verifier))))))
+    else (if nat_lt n 24 then kind.Number 1 65535 else (if nat_lt n 32 then kind.Number 0 1000
+    else (if nat_lt n 40 then middle_kind n else (if nat_lt n 56 then kind.Words else kind.Verifier)))))
 
 host_kind : (n : ℕ) → n < 8 → kind_at (8 + n) ≡ kind.HostName
 host_kind n h = grind (arith, nat_tests)
@@ -53,6 +57,11 @@ kind_by_place StopOnMismatch = refl
 kind_by_place FailoverOnMismatch = refl
 kind_by_place (ScramUser u) = user_kind u.number u.below_16
 kind_by_place (ScramVerifier u) = verifier_kind u.number u.below_16
+kind_by_place ServerTimeout = refl
+kind_by_place AuthenticationTimeout = refl
+kind_by_place ClientIdleLimit = refl
+kind_by_place LogConnections = refl
+kind_by_place LogDisconnections = refl
 kind_by_place BackendPassword = refl
 
 pub same_kind : (p q : Parameter) → place_of p ≡ place_of q → kind_of p ≡ kind_of q
@@ -85,6 +94,15 @@ port_small said taken = let h = standing_small Port 1 65535 refl said taken in o
 
 pub children_small : (said : List Setting) → AllTaken said → number_in (standing Children said) < 2 ^ 32
 children_small said taken = let h = standing_small Children 1 64 refl said taken in omega arith
+
+pub server_small : (said : List Setting) → AllTaken said → number_in (standing ServerTimeout said) < 2 ^ 32
+server_small said taken = let h = standing_small ServerTimeout 2 600 refl said taken in omega arith
+
+pub authentication_small : (said : List Setting) → AllTaken said → number_in (standing AuthenticationTimeout said) < 2 ^ 32
+authentication_small said taken = let h = standing_small AuthenticationTimeout 1 600 refl said taken in omega arith
+
+pub idle_small : (said : List Setting) → AllTaken said → number_in (standing ClientIdleLimit said) < 2 ^ 32
+idle_small said taken = let h = standing_small ClientIdleLimit 0 86400 refl said taken in omega arith
 
 pub node_port_small : (b : BackendId) (said : List Setting) → AllTaken said → number_in (standing (BackendPort b) said) < 2 ^ 16
 node_port_small b said taken = let h = standing_small (BackendPort b) 1 65535 refl said taken in omega arith

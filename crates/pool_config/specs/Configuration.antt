@@ -12,12 +12,13 @@ use Rattle.pool_config.specs.declared.config.ScramUser.{ScramUser as UserOf}
 use Rattle.pool_config.specs.Settings.{Say, FirstFault}
 use Rattle.pool_config.specs.declared.line.Class.TheVariants.{Inner, InLine}
 use Rattle.pool_config.specs.declared.parameter.Parameter.{Parameter}
-use Rattle.pool_config.specs.declared.parameter.Parameter.TheVariants.{ClusteringMode, Hostname, BackendPort, Weight, ListenAddresses, Port, Children, LoadBalance, StatementBalance, ScramUser, ScramVerifier, BackendPassword}
+use Rattle.pool_config.specs.declared.parameter.Parameter.TheVariants.{ClusteringMode, Hostname, BackendPort, Weight, ListenAddresses, Port, Children, LoadBalance, StatementBalance, ServerTimeout, AuthenticationTimeout, ClientIdleLimit, LogConnections, LogDisconnections, ScramUser, ScramVerifier, BackendPassword}
 use Rattle.pool_config.specs.declared.value.Value.{Value}
 use Rattle.pool_config.specs.declared.value.Value.TheVariants.{Text, Number, Truth}
 use Rattle.pool_config.specs.declared.assemble.Setting.{Setting}
 use Rattle.pool_config.specs.declared.config.Config.{Config}
 use Rattle.pool_config.specs.declared.config.Node.{Node}
+use Rattle.pool_config.specs.declared.config.Sessions.{Sessions}
 use Rattle.pool_config.specs.declared.fault.ConfigFault.{ConfigFault}
 use Rattle.pool_config.specs.declared.fault.ConfigFault.TheVariants.{BadLine, UnknownName, WrongMode, Missing, NoMemory}
 
@@ -92,6 +93,17 @@ user_of said u = record {
   verifier = text_in (value_for (ScramVerifier u) said);
 }
 
+-- ---- the sessions
+
+abbrev pub sessions_of : List Setting → Sessions
+sessions_of said = record {
+  server_timeout = number_in (value_for ServerTimeout said);
+  authentication_timeout = number_in (value_for AuthenticationTimeout said);
+  client_idle_limit = number_in (value_for ClientIdleLimit said);
+  log_connections = truth_in (value_for LogConnections said);
+  log_disconnections = truth_in (value_for LogDisconnections said);
+}
+
 -- ---- what is missing
 
 -- the mode, the hostnames and the ports of these backends
@@ -123,6 +135,7 @@ config_of said = record {
   children = number_in (value_for Children said);
   balance = truth_in (value_for LoadBalance said);
   per_statement = truth_in (value_for StatementBalance said);
+  sessions = sessions_of said;
   users = map (user_of said) (users_in said);
   backend_password = text_there (value_for BackendPassword said);
 }
@@ -186,6 +199,13 @@ abbrev pub IsAllowedPassword : Option (List ℕ) → Type 0
 IsAllowedPassword None = Unit {0}
 IsAllowedPassword (Some text) = IsString text × (is_secret text ≡ true)
 
+pub record AreAllowedSessions (s : Sessions) : Type 0 where
+  pub server_from : 2 ≤ s.server_timeout
+  pub server_to : s.server_timeout ≤ 600
+  pub authentication_from : 1 ≤ s.authentication_timeout
+  pub authentication_to : s.authentication_timeout ≤ 600
+  pub idle_to : s.client_idle_limit ≤ 86400
+
 -- the values of the configuration are in the ranges of the table
 pub record IsAllowed (config : Config) : Type 0 where
   pub some_node : 1 ≤ length config.nodes
@@ -196,6 +216,7 @@ pub record IsAllowed (config : Config) : Type 0 where
   pub port_to : config.port ≤ 65535
   pub children_from : 1 ≤ config.children
   pub children_to : config.children ≤ 64
+  pub sessions : AreAllowedSessions config.sessions
   pub few_users : length config.users ≤ 16
   pub users : AreAllowedUsers config.users
   pub password : IsAllowedPassword config.backend_password

@@ -5,7 +5,7 @@ use Rattle.pool_base.specs.declared.backend_id.BackendId.{BackendId}
 use Rattle.pool_config.specs.Table.{all_backends}
 use Rattle.pool_config.specs.Users.{user_at}
 use Rattle.pool_config.specs.declared.parameter.Parameter.{Parameter}
-use Rattle.pool_config.specs.declared.parameter.Parameter.TheVariants.{ClusteringMode, Hostname, BackendPort, Weight, ListenAddresses, Port, Children, LoadBalance, StatementBalance, InsertLock, StopOnMismatch, FailoverOnMismatch, ScramUser, ScramVerifier, BackendPassword}
+use Rattle.pool_config.specs.declared.parameter.Parameter.TheVariants.{ClusteringMode, Hostname, BackendPort, Weight, ListenAddresses, Port, Children, LoadBalance, StatementBalance, InsertLock, StopOnMismatch, FailoverOnMismatch, ServerTimeout, AuthenticationTimeout, ClientIdleLimit, LogConnections, LogDisconnections, ScramUser, ScramVerifier, BackendPassword}
 
 -- among those without a number
 abbrev pub single_named : List ℕ → Option Parameter
@@ -18,8 +18,13 @@ single_named name = if bytes_eq name (codes "backend_clustering_mode") then Some
     else (if bytes_eq name (codes "insert_lock") then Some InsertLock
     else (if bytes_eq name (codes "replication_stop_on_mismatch") then Some StopOnMismatch
     else (if bytes_eq name (codes "failover_if_affected_tuples_mismatch") then Some FailoverOnMismatch
+    else (if bytes_eq name (codes "server_timeout") then Some ServerTimeout
+    else (if bytes_eq name (codes "authentication_timeout") then Some AuthenticationTimeout
+    else (if bytes_eq name (codes "client_idle_limit") then Some ClientIdleLimit
+    else (if bytes_eq name (codes "log_connections") then Some LogConnections
+    else (if bytes_eq name (codes "log_disconnections") then Some LogDisconnections
     else (if bytes_eq name (codes "backend_password") then Some BackendPassword
-    else None)))))))))
+    else None))))))))))))))
 
 -- among those of one backend: a stem, and the digit of its number
 abbrev pub of_stem : List ℕ → BackendId → Option Parameter

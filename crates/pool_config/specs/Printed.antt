@@ -1,8 +1,9 @@
 -- The one text of a configuration: a line for each parameter, in the order of the table.
-use Rattle.std.specs.Prelude.{◌+◌, ℕ, Bool, true, false, List, [], ◌∷◌, ◌++◌, Option, Some, None, codes}
+use Rattle.std.specs.Prelude.{◌+◌, ◌==◌, ℕ, Bool, true, false, List, [], ◌∷◌, ◌++◌, Option, Some, None, codes, if◌then◌else◌}
 use Rattle.std.specs.Fmt.{decimal}
 use Rattle.pool_config.specs.declared.config.Config.{Config}
 use Rattle.pool_config.specs.declared.config.Node.{Node}
+use Rattle.pool_config.specs.declared.config.Sessions.{Sessions}
 use Rattle.pool_config.specs.declared.config.ScramUser.{ScramUser}
 use Rattle.pool_config.specs.declared.fault.ConfigFault.{ConfigFault}
 use Rattle.pool_config.specs.declared.fault.ConfigFault.TheVariants.{BadLine, UnknownName, WrongMode, Missing, NoMemory}
@@ -42,6 +43,22 @@ rest_text config = string_line (codes "listen_addresses") config.listen
     ++ (truth_line (codes "load_balance_mode") config.balance
     ++ truth_line (codes "statement_level_load_balance") config.per_statement)))
 
+-- a line where the value is not the default; that of a switch is off
+abbrev pub number_unless : List ℕ → ℕ → ℕ → List ℕ
+number_unless name default n = if n == default then [] else number_line name n
+
+abbrev pub line_if_on : List ℕ → Bool → List ℕ
+line_if_on name true = line_of name (codes "on")
+line_if_on name false = []
+
+-- how long sessions wait, and what is told of them
+abbrev pub sessions_text : Sessions → List ℕ
+sessions_text s = number_unless (codes "server_timeout") 10 s.server_timeout
+    ++ (number_unless (codes "authentication_timeout") 30 s.authentication_timeout
+    ++ (number_unless (codes "client_idle_limit") 0 s.client_idle_limit
+    ++ (line_if_on (codes "log_connections") s.log_connections
+    ++ line_if_on (codes "log_disconnections") s.log_disconnections)))
+
 -- the lines of the user with number n
 abbrev pub user_text : ℕ → ScramUser → List ℕ
 user_text n user = string_line (codes "scram_user" ++ decimal n) user.name
@@ -59,7 +76,8 @@ password_text (Some text) = string_line (codes "backend_password") text
 
 abbrev pub text_of : Config → List ℕ
 text_of config = string_line (codes "backend_clustering_mode") (codes "snapshot_isolation")
-    ++ (nodes_text 0 config.nodes ++ (rest_text config ++ (users_text 0 config.users ++ password_text config.backend_password)))
+    ++ (nodes_text 0 config.nodes ++ (rest_text config ++ (sessions_text config.sessions
+    ++ (users_text 0 config.users ++ password_text config.backend_password))))
 
 -- what an operator reads of a fault
 abbrev pub shown : ConfigFault → List ℕ

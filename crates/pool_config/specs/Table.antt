@@ -10,7 +10,7 @@ use Rattle.pool_config.specs.declared.user.UserNumber.{UserNumber}
 use Rattle.pool_config.specs.declared.parameter.Number.{Number as NumberOf}
 use Rattle.pool_config.specs.declared.parameter.Number.TheVariants as numbers
 use Rattle.pool_config.specs.declared.parameter.Parameter.{Parameter}
-use Rattle.pool_config.specs.declared.parameter.Parameter.TheVariants.{ClusteringMode, Hostname, BackendPort, Weight, ListenAddresses, Port, Children, LoadBalance, StatementBalance, InsertLock, StopOnMismatch, FailoverOnMismatch, ScramUser, ScramVerifier, BackendPassword}
+use Rattle.pool_config.specs.declared.parameter.Parameter.TheVariants.{ClusteringMode, Hostname, BackendPort, Weight, ListenAddresses, Port, Children, LoadBalance, StatementBalance, InsertLock, StopOnMismatch, FailoverOnMismatch, ServerTimeout, AuthenticationTimeout, ClientIdleLimit, LogConnections, LogDisconnections, ScramUser, ScramVerifier, BackendPassword}
 use Rattle.pool_config.specs.declared.parameter.Kind.{Kind}
 use Rattle.pool_config.specs.declared.parameter.Kind.TheVariants as kind
 use Rattle.pool_config.specs.declared.value.Value.{Value}
@@ -51,6 +51,11 @@ name_of StopOnMismatch = codes "replication_stop_on_mismatch"
 name_of FailoverOnMismatch = codes "failover_if_affected_tuples_mismatch"
 name_of (ScramUser u) = of_user (codes "scram_user") u
 name_of (ScramVerifier u) = of_user (codes "scram_verifier") u
+name_of ServerTimeout = codes "server_timeout"
+name_of AuthenticationTimeout = codes "authentication_timeout"
+name_of ClientIdleLimit = codes "client_idle_limit"
+name_of LogConnections = codes "log_connections"
+name_of LogDisconnections = codes "log_disconnections"
 name_of BackendPassword = codes "backend_password"
 
 -- the kind and the range of its value
@@ -69,6 +74,11 @@ kind_of StopOnMismatch = kind.OnlyOn
 kind_of FailoverOnMismatch = kind.OnlyOn
 kind_of (ScramUser u) = kind.Words
 kind_of (ScramVerifier u) = kind.Verifier
+kind_of ServerTimeout = kind.Number 2 600
+kind_of AuthenticationTimeout = kind.Number 1 600
+kind_of ClientIdleLimit = kind.Number 0 86400
+kind_of LogConnections = kind.Truth
+kind_of LogDisconnections = kind.Truth
 kind_of BackendPassword = kind.Secret
 
 -- the value that stands where no line sets it; without one it is required where its backend is there
@@ -82,6 +92,11 @@ default_of StatementBalance = Some (Truth false)
 default_of InsertLock = Some (Truth true)
 default_of StopOnMismatch = Some (Truth true)
 default_of FailoverOnMismatch = Some (Truth true)
+default_of ServerTimeout = Some (Number 10)
+default_of AuthenticationTimeout = Some (Number 30)
+default_of ClientIdleLimit = Some (Number 0)
+default_of LogConnections = Some (Truth false)
+default_of LogDisconnections = Some (Truth false)
 default_of ClusteringMode = None
 default_of (Hostname b) = None
 default_of (BackendPort b) = None
@@ -143,7 +158,12 @@ place_of StatementBalance = 5
 place_of InsertLock = 6
 place_of StopOnMismatch = 7
 place_of FailoverOnMismatch = 32
-place_of BackendPassword = 33
+place_of ServerTimeout = 33
+place_of AuthenticationTimeout = 34
+place_of ClientIdleLimit = 35
+place_of LogConnections = 36
+place_of LogDisconnections = 37
+place_of BackendPassword = 38
 place_of (ScramUser u) = 40 + u.number
 place_of (ScramVerifier u) = 56 + u.number
 

@@ -1,11 +1,11 @@
 //! From what the lines set to the configuration.
 ghost use Rattle.std.specs.Prelude.{◌≡◌, ◌<◌, ◌≤◌, ◌^◌, ◌∷◌, [], Some, None, IfOk, map, option_map, find, take, Result, Ok};
 ghost use Rattle.pool_config.specs.Table.{name_of};
-ghost use Rattle.pool_config.specs.Configuration.{standing, count_of, backends_in, lacks, missing_of, required_at, required_of, users_in, user_count_of, user_of, later, text_in, text_there, number_in, truth_in, value_for, node_of, config_of};
+ghost use Rattle.pool_config.specs.Configuration.{standing, count_of, backends_in, lacks, missing_of, required_at, required_of, users_in, user_count_of, user_of, later, text_in, text_there, number_in, truth_in, value_for, node_of, sessions_of, config_of};
 ghost use Rattle.pool_config.specs.Reader.{Gives, unless_missing};
 ghost use Rattle.pool_config.specs.Taken.{AllTaken};
 
-use crate::config::{Config, Node, ScramUser};
+use crate::config::{Config, Node, ScramUser, Sessions};
 use crate::fault::ConfigFault;
 use crate::parameter::{Parameter, all_backends};
 use crate::user::UserNumber;
@@ -28,6 +28,12 @@ const PORT: u16 = 9999;
 const CHILDREN: u32 = 32;
 
 const WEIGHT: u32 = 1;
+
+const SERVER_TIMEOUT: u32 = 10;
+
+const AUTHENTICATION_TIMEOUT: u32 = 30;
+
+const CLIENT_IDLE_LIMIT: u32 = 0;
 
 /// The value that stands for the parameter: that of the last line for it.
 fn standing(settings: &[Setting], parameter: Parameter) -> Option<&Value>
@@ -213,6 +219,7 @@ fn config_of(
     let children = number_or(standing(settings, Parameter::Children), CHILDREN);
     let balance = truth_or(standing(settings, Parameter::LoadBalance), true);
     let per_statement = truth_or(standing(settings, Parameter::StatementBalance), false);
+    let sessions = sessions_of(settings);
     let users = users_of(alloc, settings, users)?;
     let backend_password = text_there(standing(settings, Parameter::BackendPassword))?;
     Ok(Config {
@@ -222,9 +229,30 @@ fn config_of(
         children,
         balance,
         per_statement,
+        sessions,
         users,
         backend_password,
     })
+}
+
+#[tactic(auto, using(crate::proofs::Ranges::server_small, crate::proofs::Ranges::authentication_small, crate::proofs::Ranges::idle_small))]
+/// How long sessions wait, and what is told of them.
+fn sessions_of(settings: &[Setting]) -> Sessions
+    requires { AllTaken settings.now }
+    ensures { result ≡ sessions_of settings.now }
+{
+    let server = standing(settings, Parameter::ServerTimeout);
+    let authentication = standing(settings, Parameter::AuthenticationTimeout);
+    let idle = standing(settings, Parameter::ClientIdleLimit);
+    let connections = standing(settings, Parameter::LogConnections);
+    let disconnections = standing(settings, Parameter::LogDisconnections);
+    Sessions {
+        server_timeout: number_or(server, SERVER_TIMEOUT),
+        authentication_timeout: number_or(authentication, AUTHENTICATION_TIMEOUT),
+        client_idle_limit: number_or(idle, CLIENT_IDLE_LIMIT),
+        log_connections: truth_or(connections, false),
+        log_disconnections: truth_or(disconnections, false),
+    }
 }
 
 /// The users, from 0 on.

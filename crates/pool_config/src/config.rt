@@ -18,6 +18,21 @@ pub struct ScramUser {
     pub verifier: Text,
 }
 
+/// How long sessions wait, and what is told of them.
+#[derive(Clone, Copy, PartialEq, Eq)]
+pub struct Sessions {
+    /// How many seconds a server may leave the pool without an answer, from 2 to 600.
+    pub server_timeout: u32,
+    /// How many seconds a client has to be let in, from 1 to 600.
+    pub authentication_timeout: u32,
+    /// A client that sends nothing for so many seconds is put out, from 1 to 86400; 0 is never.
+    pub client_idle_limit: u32,
+    /// The start of each session is told.
+    pub log_connections: bool,
+    /// The end of each session is told.
+    pub log_disconnections: bool,
+}
+
 /// A configuration: the backends by number, and how clients are served.
 #[derive(PartialEq, Eq, Drop)]
 pub struct Config {
@@ -30,6 +45,7 @@ pub struct Config {
     pub balance: bool,
     /// The backend of a read is chosen for each statement (`statement_level_load_balance`).
     pub per_statement: bool,
+    pub sessions: Sessions,
     /// Who is let in with a password. Where there is nobody, each client is let in.
     pub users: List<ScramUser>,
     /// What the backends are shown where they ask for a password.

@@ -13,7 +13,7 @@ mod user_names;
 mod value;
 mod write;
 
-pub use config::{Config, Node, ScramUser};
+pub use config::{Config, Node, ScramUser, Sessions};
 pub use fault::ConfigFault;
 pub use parse::parse_config;
 pub use user::UserNumber;

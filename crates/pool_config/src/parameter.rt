@@ -26,6 +26,11 @@ pub enum Parameter {
     InsertLock,
     StopOnMismatch,
     FailoverOnMismatch,
+    ServerTimeout,
+    AuthenticationTimeout,
+    ClientIdleLimit,
+    LogConnections,
+    LogDisconnections,
     ScramUser(UserNumber),
     ScramVerifier(UserNumber),
     BackendPassword,
@@ -112,6 +117,11 @@ impl Parameter {
                 "failover_if_affected_tuples_mismatch",
                 Number::Nobody,
             ),
+            Parameter::ServerTimeout => ("server_timeout", Number::Nobody),
+            Parameter::AuthenticationTimeout => ("authentication_timeout", Number::Nobody),
+            Parameter::ClientIdleLimit => ("client_idle_limit", Number::Nobody),
+            Parameter::LogConnections => ("log_connections", Number::Nobody),
+            Parameter::LogDisconnections => ("log_disconnections", Number::Nobody),
             Parameter::ScramUser(u) => ("scram_user", Number::OfUser(u)),
             Parameter::ScramVerifier(u) => ("scram_verifier", Number::OfUser(u)),
             Parameter::BackendPassword => ("backend_password", Number::Nobody),
@@ -135,7 +145,12 @@ impl Parameter {
             Parameter::InsertLock => 6,
             Parameter::StopOnMismatch => 7,
             Parameter::FailoverOnMismatch => 32,
-            Parameter::BackendPassword => 33,
+            Parameter::ServerTimeout => 33,
+            Parameter::AuthenticationTimeout => 34,
+            Parameter::ClientIdleLimit => 35,
+            Parameter::LogConnections => 36,
+            Parameter::LogDisconnections => 37,
+            Parameter::BackendPassword => 38,
             Parameter::ScramUser(u) => 40 + u.number,
             Parameter::ScramVerifier(u) => 56 + u.number,
         }
@@ -158,6 +173,11 @@ impl Parameter {
             | Parameter::InsertLock
             | Parameter::StopOnMismatch
             | Parameter::FailoverOnMismatch
+            | Parameter::ServerTimeout
+            | Parameter::AuthenticationTimeout
+            | Parameter::ClientIdleLimit
+            | Parameter::LogConnections
+            | Parameter::LogDisconnections
             | Parameter::ScramUser(_)
             | Parameter::ScramVerifier(_)
             | Parameter::BackendPassword => 0,
@@ -183,6 +203,11 @@ impl Parameter {
             | Parameter::InsertLock
             | Parameter::StopOnMismatch
             | Parameter::FailoverOnMismatch
+            | Parameter::ServerTimeout
+            | Parameter::AuthenticationTimeout
+            | Parameter::ClientIdleLimit
+            | Parameter::LogConnections
+            | Parameter::LogDisconnections
             | Parameter::BackendPassword => 0,
         }
     }
@@ -201,7 +226,16 @@ impl Parameter {
             Parameter::Weight(_) => Kind::Number { low: 0, high: 1000 },
             Parameter::ListenAddresses => Kind::Words,
             Parameter::Children => Kind::Number { low: 1, high: 64 },
-            Parameter::LoadBalance | Parameter::StatementBalance => Kind::Truth,
+            Parameter::LoadBalance
+            | Parameter::StatementBalance
+            | Parameter::LogConnections
+            | Parameter::LogDisconnections => Kind::Truth,
+            Parameter::ServerTimeout => Kind::Number { low: 2, high: 600 },
+            Parameter::AuthenticationTimeout => Kind::Number { low: 1, high: 600 },
+            Parameter::ClientIdleLimit => Kind::Number {
+                low: 0,
+                high: 86400,
+            },
             Parameter::InsertLock | Parameter::StopOnMismatch | Parameter::FailoverOnMismatch => {
                 Kind::OnlyOn
             }
@@ -283,6 +317,16 @@ fn single_named(name: &[u8]) -> Option<Parameter>
         Some(Parameter::StopOnMismatch)
     } else if name == b"failover_if_affected_tuples_mismatch".as_slice() {
         Some(Parameter::FailoverOnMismatch)
+    } else if name == b"server_timeout".as_slice() {
+        Some(Parameter::ServerTimeout)
+    } else if name == b"authentication_timeout".as_slice() {
+        Some(Parameter::AuthenticationTimeout)
+    } else if name == b"client_idle_limit".as_slice() {
+        Some(Parameter::ClientIdleLimit)
+    } else if name == b"log_connections".as_slice() {
+        Some(Parameter::LogConnections)
+    } else if name == b"log_disconnections".as_slice() {
+        Some(Parameter::LogDisconnections)
     } else if name == b"backend_password".as_slice() {
         Some(Parameter::BackendPassword)
     } else {

@@ -1,9 +1,9 @@
 //! The writer: a configuration to its one text.
 ghost use Rattle.std.specs.Prelude.{◌≡◌, ◌<◌, ◌++◌, length, IfOk, OnOk, string_bytes};
-ghost use Rattle.pool_config.specs.Printed.{text_of, node_text, nodes_text, rest_text, user_text, users_text, password_text, truth_word};
+ghost use Rattle.pool_config.specs.Printed.{text_of, node_text, nodes_text, rest_text, sessions_text, number_unless, line_if_on, user_text, users_text, password_text, truth_word};
 ghost use Rattle.pool_config.specs.Configuration.{IsAllowed, IsConfiguration};
 
-use crate::config::{Config, Node, ScramUser};
+use crate::config::{Config, Node, ScramUser, Sessions};
 use pool_base::{NoMemory, Text};
 use std::alloc::{AllocError, Global};
 use std::fmt::Write;
@@ -21,7 +21,7 @@ pub fn write_config(alloc: Global, config: &Config) -> Result<Text, NoMemory>
 }
 
 /// The one text of a configuration.
-#[tactic(auto, using(crate::proofs::Nodes::five))]
+#[tactic(auto, using(crate::proofs::Nodes::four))]
 fn written(alloc: Global, config: &Config) -> Result<Text, NoMemory>
     requires nodes { length config.now.nodes < 9 }
     requires users { length config.now.users < 17 }
@@ -30,6 +30,7 @@ fn written(alloc: Global, config: &Config) -> Result<Text, NoMemory>
     let mut text = String::from_str(alloc, "backend_clustering_mode = 'snapshot_isolation'\n")?;
     write_nodes(&mut text, config.nodes.as_slice())?;
     write_rest(&mut text, config)?;
+    write_sessions(&mut text, config.sessions)?;
     write_users(&mut text, config.users.as_slice())?;
     write_password(&mut text, &config.backend_password)?;
     Ok(Text::from_string(text))
@@ -79,6 +80,49 @@ fn write_rest(text: &mut String, config: &Config) -> Result<(), AllocError>
     write!(text, "num_init_children = {children}\n")?;
     write!(text, "load_balance_mode = {balance}\n")?;
     write!(text, "statement_level_load_balance = {per_statement}\n")?;
+    Ok(())
+}
+
+/// The lines of how long sessions wait, and of what is told of them: those that are not at their
+/// defaults.
+fn write_sessions(text: &mut String, sessions: Sessions) -> Result<(), AllocError>
+    ensures { OnOk result (string_bytes text.new
+        ≡ string_bytes text.old ++ sessions_text sessions) }
+{
+    write_unless(text, "server_timeout", 10, sessions.server_timeout)?;
+    write_unless(
+        text,
+        "authentication_timeout",
+        30,
+        sessions.authentication_timeout,
+    )?;
+    write_unless(text, "client_idle_limit", 0, sessions.client_idle_limit)?;
+    write_if_on(text, "log_connections", sessions.log_connections)?;
+    write_if_on(text, "log_disconnections", sessions.log_disconnections)?;
+    Ok(())
+}
+
+/// The line of a number that is not at its default.
+fn write_unless(text: &mut String, name: &str, default: u32, number: u32) -> Result<(), AllocError>
+    ensures { OnOk result (string_bytes text.new
+        ≡ string_bytes text.old ++ number_unless name.now default number) }
+{
+    if number == default {
+        return Ok(());
+    }
+    write!(text, "{name} = {number}\n")?;
+    Ok(())
+}
+
+/// The line of a switch that is on.
+fn write_if_on(text: &mut String, name: &str, on: bool) -> Result<(), AllocError>
+    ensures { OnOk result (string_bytes text.new
+        ≡ string_bytes text.old ++ line_if_on name.now on) }
+{
+    if !on {
+        return Ok(());
+    }
+    write!(text, "{name} = on\n")?;
     Ok(())
 }
 

@@ -4,7 +4,7 @@ ghost use Rattle.schema.specs.Grammar.{IsWithin};
 
 use catalogue::{Catalogue, SchemaFault, read_schema};
 use pool_base::{List, NoMemory, Text};
-use pool_config::Config;
+use pool_config::{Config, Sessions};
 use std::alloc::Global;
 
 /// Why a measurement stops.
@@ -50,6 +50,13 @@ pub fn config(alloc: Global) -> Result<Config, Stop> {
         children: 32,
         balance: true,
         per_statement: false,
+        sessions: Sessions {
+            server_timeout: 10,
+            authentication_timeout: 30,
+            client_idle_limit: 0,
+            log_connections: false,
+            log_disconnections: false,
+        },
         users: List::new(alloc),
         backend_password: None,
     })
