@@ -1,5 +1,5 @@
 -- What each step of a recovery did, by what it asked for.
-use Rattle.std.proofs.Common.{◌≡◌, ℕ, Bool, true, false, List, Result, Ok, Err, refl, sym, ap, ◌∙◌, subst, inl, inr}
+use Rattle.std.proofs.Common.{◌≡◌, ℕ, Bool, true, false, List, Result, Ok, Err, refl, sym, ap, ◌∙◌, subst}
 use Rattle.std.specs.Prelude.{ℤ, ◌==◌, IfOk, IfSome, OnOk, Option, None, Some, if◌then◌else◌}
 use Rattle.pool_base.specs.Sets.{has}
 use Rattle.pool_base.specs.declared.backend_id.BackendId.{BackendId}
@@ -34,10 +34,10 @@ use Rattle.online_recovery.specs.Rules.{next_action, after, after_at}
 use Rattle.session_seat.specs.declared.book.Journal.{Journal}
 use Rattle.session_seat.specs.declared.step.Step.{Step}
 use Rattle.session_seat.specs.declared.step.Step.TheVariants as steps
-use Rattle.session_seat.specs.Told.{added, told_of, told_lost}
+use Rattle.session_seat.specs.Told.{added, told_of}
 use Rattle.session_seat.specs.Shared.{Shared, shared_of}
 use Rattle.session_seat.specs.Steps.{IsDid, IsOutside}
-use Rattle.session_seat.proofs.ServedLemmas.{IsLostAt, not_lost, lost_before, stores_lost, lost_now, still_waits, lost_again}
+use Rattle.session_seat.proofs.ServedLemmas.{IsLostAt}
 use Rattle.recovery_seat.specs.Places.{standing_at}
 use Rattle.session_seat.specs.Speech.{recovering}
 use Rattle.recovery_seat.specs.Schedule.{IsOutside as IsApart, Recovers}
@@ -100,7 +100,7 @@ pub called_place : (tables : List TableDef) (s : SessionId) (others : ℕ) (mach
     → q ≡ after r (gate_event (next_action r) answer) → k ≡ added j (told_of tables s (events.Called call answer)) → (took : TookPlace tables s others (at old machine r j) (at new machine q k)) × (took.entry ≡ Recovers s (events.Called call answer))
 called_place tables s others machine old new r q j k call answer asked may is stores happens leads tells =
     let event : gate_event (next_action r) answer ≡ events.Called call answer = ap (λ (a : RecoveryAction). gate_event a answer) (called_due (next_action r) call asked) in
-    proceeded tables s others (events.Called call answer) (at old machine r j) (at old machine r j) (at new machine q k) (inl refl) (subst (MayHappen r) event happens) (λ machines recoveries own stands fits. tt)
+    proceeded tables s others (events.Called call answer) (at old machine r j) (at new machine q k) (subst (MayHappen r) event happens) (λ machines recoveries own stands fits. tt)
     (may, is) stores refl (leads ∙ ap (after r) event) tells
 
 pub detached_place : (tables : List TableDef) (s : SessionId) (others : ℕ) (machine : Machine) (old new : Shared) (r q : Standing) (j k : Journal) (b : BackendId) (answer : GateAnswer)
@@ -110,7 +110,7 @@ pub detached_place : (tables : List TableDef) (s : SessionId) (others : ℕ) (ma
 detached_place tables s others machine old new r q j k b answer asked is stores happens leads tells =
     let cause = tells.0 in
     let event : gate_event (next_action r) answer ≡ events.Detached b cause answer = ap (λ (a : RecoveryAction). gate_event a answer) (detached_due (next_action r) b cause asked tells.1) in
-    proceeded tables s others (events.Detached b cause answer) (at old machine r j) (at old machine r j) (at new machine q k) (inl refl) (subst (MayHappen r) event happens)
+    proceeded tables s others (events.Detached b cause answer) (at old machine r j) (at new machine q k) (subst (MayHappen r) event happens)
     (λ machines recoveries own stands fits. tt) is stores refl (leads ∙ ap (after r) event) tells.2
 
 -- A post, an answer and a loss.
@@ -120,37 +120,21 @@ pub posted_place : (tables : List TableDef) (s : SessionId) (others : ℕ) (mach
     → new.stores ≡ with_at old.stores b.number (posted (old.stores b.number) s.number request) → q ≡ after r (events.Posted b request) → k ≡ added j (told_of tables s (events.Posted b request))
     → (took : TookPlace tables s others (at old machine r j) (at new machine q k)) × (took.entry ≡ Recovers s (events.Posted b request))
 posted_place tables s others machine old new r q j k b request asked posts gate idle stores leads tells =
-    proceeded tables s others (events.Posted b request) (at old machine r j) (at old machine r j) (at new machine q k) (inl refl) (post_due (next_action r) b request asked posts)
+    proceeded tables s others (events.Posted b request) (at old machine r j) (at new machine q k) (post_due (next_action r) b request asked posts)
     (λ machines recoveries own stands fits. tt) gate (idle, stores) refl leads tells
 
--- a backend was found lost; where no session has seen it before, it is lost first, and the journal tells of that
-pub missed_place : {E : Type 0} (tables : List TableDef) (s : SessionId) (others : ℕ) (machine : Machine) (old new : Shared) (r q : Standing) (j mid k : Journal) (b : BackendId) (before later : ℕ) (is_new : Bool)
-    (result : Result Step E) → mid ≡ (if is_new then added j (told_lost b) else j) → IfOk result IsDid → OnOk result (MayHappen r (events.Faulted b before later))
-    → OnOk result (q ≡ after r (events.Faulted b before later)) → OnOk result (k ≡ added mid (told_of tables s (events.Faulted b before later))) → new.gate ≡ old.gate
-    → IsLostAt old.stores b.number s.number is_new new.stores → IfOk result (λ step. DidAs tables s others (events.Faulted b before later) (at old machine r j) step (at new machine q k))
-missed_place tables s others machine old new r q j mid k b before later true (Ok (steps.Did mark)) seen is may leads line gate lost =
-    let was = old.stores in
-    let now = new.stores in
-    proceeded tables s others (events.Faulted b before later) (at old machine r j) (at new machine r mid) (at new machine q k)
-    (inr (record {
-      b = b;
-      fault = refl;
-      loss = record { not_lost = not_lost was now b.number s.number lost; gate = gate; stores = stores_lost was now b.number s.number true lost };
-      machine = refl;
-      standing = refl;
-      tells = seen;
-    }))
-    may (λ machines recoveries own stands fits. tt) refl (lost_now was now b.number s.number true lost, (still_waits was now b.number s.number true lost, refl)) refl leads line
-missed_place tables s others machine old new r q j mid k b before later false (Ok (steps.Did mark)) seen is may leads line gate lost =
-    let was = old.stores in
-    let now = new.stores in
-    proceeded tables s others (events.Faulted b before later) (at old machine r j) (at old machine r j) (at new machine q k) (inl refl) may (λ machines recoveries own stands fits. tt) gate
-    (lost_before was now b.number s.number lost, (lost.waits, lost_again was now b.number s.number lost)) refl leads (line ∙ ap (λ (z : Journal). added z (told_of tables s (events.Faulted b before later))) seen)
-missed_place tables s others machine old new r q j mid k b before later is_new (Ok steps.Waits) seen is may leads line gate lost = absurd is
-missed_place tables s others machine old new r q j mid k b before later is_new (Ok steps.Idle) seen is may leads line gate lost = absurd is
-missed_place tables s others machine old new r q j mid k b before later is_new (Ok steps.Closed) seen is may leads line gate lost = absurd is
-missed_place tables s others machine old new r q j mid k b before later is_new (Ok (steps.Recovers moment number)) seen is may leads line gate lost = absurd is
-missed_place tables s others machine old new r q j mid k b before later is_new (Err fault) seen is may leads line gate lost = tt
+-- a backend was found lost
+pub missed_place : {E : Type 0} (tables : List TableDef) (s : SessionId) (others : ℕ) (machine : Machine) (old new : Shared) (r q : Standing) (j k : Journal) (b : BackendId) (before later : ℕ)
+    (result : Result Step E) → IfOk result IsDid → OnOk result (MayHappen r (events.Faulted b before later))
+    → OnOk result (q ≡ after r (events.Faulted b before later)) → OnOk result (k ≡ added j (told_of tables s (events.Faulted b before later))) → new.gate ≡ old.gate
+    → IsLostAt old.stores b.number s.number new.stores → IfOk result (λ step. DidAs tables s others (events.Faulted b before later) (at old machine r j) step (at new machine q k))
+missed_place tables s others machine old new r q j k b before later (Ok (steps.Did mark)) is may leads line gate lost =
+    proceeded tables s others (events.Faulted b before later) (at old machine r j) (at new machine q k) may (λ machines recoveries own stands fits. tt) gate (lost.lost, (lost.waits, lost.same)) refl leads line
+missed_place tables s others machine old new r q j k b before later (Ok steps.Waits) is may leads line gate lost = absurd is
+missed_place tables s others machine old new r q j k b before later (Ok steps.Idle) is may leads line gate lost = absurd is
+missed_place tables s others machine old new r q j k b before later (Ok steps.Closed) is may leads line gate lost = absurd is
+missed_place tables s others machine old new r q j k b before later (Ok (steps.Recovers moment number)) is may leads line gate lost = absurd is
+missed_place tables s others machine old new r q j k b before later (Err fault) is may leads line gate lost = tt
 
 -- A session is not at a backend where it is at another, or at none.
 
@@ -182,7 +166,7 @@ pub swapped_place : (tables : List TableDef) (s : SessionId) (others : ℕ) (mac
     → q ≡ after r (events.Swapped b) → k ≡ added j (told_of tables s (events.Swapped b)) → (took : TookPlace tables s others (at old machine r j) (at new machine q k)) × (took.entry ≡ Recovers s (events.Swapped b))
 swapped_place tables s others machine old new r q j k b asked gate detached none itself stores leads tells =
     let due : next_action r ≡ actions.Swap b = swapped_due (next_action r) b asked in
-    proceeded tables s others (events.Swapped b) (at old machine r j) (at old machine r j) (at new machine q k) (inl refl) due
+    proceeded tables s others (events.Swapped b) (at old machine r j) (at new machine q k) due
     (λ machines recoveries own stands fits.
     let free : (o : SessionId) → ¬ (IsAt b (session_action (machines o))) = λ o. nobody_at others s o b machine machines recoveries own fits none itself (o.number == s.number) refl in
     let still : (o : SessionId) → ¬ (RecoversAt b (next_action (recoveries o))) = λ o. no_recovery_at others s o b r machines recoveries stands fits none due (o.number == s.number) refl in
@@ -205,14 +189,14 @@ pub ordered_place : (tables : List TableDef) (s : SessionId) (others : ℕ) (mac
     → k ≡ added j (told_of tables s (events.Ordered (record { moment = moment; body = orders.Recover number }))) → (took : TookPlace tables s others (at old machine r j) (at new machine q k)) × (took.entry ≡ Recovers s (events.Ordered (recovering moment number)))
 ordered_place tables s others machine old new r q j k layout made moment number rests same outside kept leads tells =
     let event = events.Ordered (record { moment = moment; body = orders.Recover number }) in
-    proceeded tables s others event (at old machine r j) (at old machine r j) (at new machine q k) (inl refl) (subst (λ (z : Standing). MayHappen z event) (sym rests) refl)
+    proceeded tables s others event (at old machine r j) (at new machine q k) (subst (λ (z : Standing). MayHappen z event) (sym rests) refl)
     (λ machines recoveries own stands fits. apart (machines s) machine own outside) (ap (λ (z : Shared). z.gate) kept) (tt, ap (λ (z : Shared). z.stores) kept) refl
     (leads ∙ (ap (λ (l : Layout). after (new_standing s l) event) same ∙ ap (λ (z : Standing). after z event) (sym rests))) tells
 
 pub replied_place : (tables : List TableDef) (s : SessionId) (others : ℕ) (machine next : Machine) (old new : Shared) (r q : Standing) (j k : Journal) (outcome : Outcome) (status : Status) → MayHappen r (events.Replied outcome status)
     → next ≡ machine → new ≡ old → q ≡ after r (events.Replied outcome status) → k ≡ added j (told_of tables s (events.Replied outcome status)) → (took : TookPlace tables s others (at old machine r j) (at new next q k)) × (took.entry ≡ Recovers s (events.Replied outcome status))
 replied_place tables s others machine next old new r q j k outcome status may same kept leads tells =
-    proceeded tables s others (events.Replied outcome status) (at old machine r j) (at old machine r j) (at new next q k) (inl refl) may (λ machines recoveries own stands fits. tt)
+    proceeded tables s others (events.Replied outcome status) (at old machine r j) (at new next q k) may (λ machines recoveries own stands fits. tt)
     (ap (λ (z : Shared). z.gate) kept) (ap (λ (z : Shared). z.stores) kept) same leads tells
 
 -- behind a reply a recovery is as before its order

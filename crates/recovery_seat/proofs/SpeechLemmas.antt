@@ -1,7 +1,6 @@
 -- What was told in a step, by the event that took place.
-use Rattle.std.proofs.Common.{◌≡◌, ◌≢◌, ◌++◌, ℕ, List, [], Result, Ok, Err, refl, sym, ap, ◌∙◌, subst}
+use Rattle.std.proofs.Common.{◌≡◌, ◌≢◌, ◌++◌, ℕ, List, Result, Ok, Err, refl, sym, ap, ◌∙◌, subst}
 use Rattle.std.specs.Prelude.{ℤ, IfOk}
-use Rattle.std.proofs.lemmas.List.{append-nil}
 use Rattle.pool_base.specs.declared.session_id.SessionId.{SessionId}
 use Rattle.pool_config.specs.declared.config.Node.{Node}
 use Rattle.schema.specs.declared.catalogue.TableDef.{TableDef}
@@ -9,7 +8,6 @@ use Rattle.session_machine.specs.declared.action.Cause.{Cause}
 use Rattle.session_machine.specs.declared.action.SessionEvent.{SessionEvent}
 use Rattle.session_machine.specs.declared.action.SessionEvent.TheVariants as events
 use Rattle.session_machine.specs.declared.machine.ReadPolicy.{ReadPolicy}
-use Rattle.session_wire.specs.declared.wire.WireStep.TheVariants as wires
 use Rattle.online_recovery.specs.declared.action.RecoveryAction.{RecoveryAction}
 use Rattle.online_recovery.specs.declared.action.RecoveryAction.TheVariants as actions
 use Rattle.online_recovery.specs.declared.layout.Layout.{Layout}
@@ -21,8 +19,8 @@ use Rattle.session_seat.specs.declared.step.Step.TheVariants as steps
 use Rattle.session_seat.specs.Steps as seats
 use Rattle.session_seat.specs.Speech as told
 use Rattle.session_seat.specs.Speech.{Speech, recovering}
-use Rattle.recovery_seat.specs.Schedule.{Entry, Of, Recovers}
-use Rattle.recovery_seat.specs.Steps.{Stand, Stays, TookPlace, GoesOn, at}
+use Rattle.recovery_seat.specs.Schedule.{Entry, Recovers}
+use Rattle.recovery_seat.specs.Steps.{Stand, TookPlace, GoesOn}
 use Rattle.recovery_seat.specs.Speech.{DidAs, RecoverySays, SaysAt, Speaks, SpeaksOn}
 use Rattle.recovery_seat.proofs.StepLemmas.{beside, own_place, own_stays, stand_same}
 

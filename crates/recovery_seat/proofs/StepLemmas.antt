@@ -1,10 +1,9 @@
 -- What a step did, wherever the other sessions stand.
-use Rattle.std.proofs.Common.{◌≡◌, ◌≢◌, ℕ, List, Result, Ok, Err, Option, Some, None, refl, sym, ap, ◌∙◌, subst, inl, inr}
-use Rattle.std.specs.Prelude.{ℤ, ◌⊎◌, IfOk}
+use Rattle.std.proofs.Common.{◌≡◌, ◌≢◌, ℕ, List, Result, Ok, Err, Option, Some, None, refl, sym, ap, ◌∙◌, subst}
+use Rattle.std.specs.Prelude.{ℤ, IfOk}
 use Rattle.pool_base.specs.declared.session_id.SessionId.{SessionId}
 use Rattle.schema.specs.declared.catalogue.TableDef.{TableDef}
 use Rattle.session_machine.specs.declared.action.SessionEvent.{SessionEvent}
-use Rattle.session_machine.specs.declared.action.SessionEvent.TheVariants as events
 use Rattle.session_machine.specs.declared.machine.Machine.{Machine}
 use Rattle.session_machine.specs.declared.machine.ReadPolicy.{ReadPolicy}
 use Rattle.online_recovery.specs.declared.layout.Layout.{Layout}
@@ -22,7 +21,7 @@ use Rattle.session_seat.specs.Schedule.{Moves, IsAnswered, with_machine}
 use Rattle.session_seat.specs.Steps as seats
 use Rattle.recovery_seat.specs.Schedule.{Of, Recovers, LetsRecovery, ServesRecovery, with_standing}
 use Rattle.recovery_seat.specs.Places.{standing_at}
-use Rattle.recovery_seat.specs.Steps.{Stand, at, state, Fits, IsSeen, TookPlace, Stays, GoesOn, IsStep}
+use Rattle.recovery_seat.specs.Steps.{Stand, at, state, Fits, TookPlace, Stays, GoesOn, IsStep}
 use Rattle.recovery_seat.proofs.Among.{machine_self, machine_here, standing_self}
 
 -- where a session stands beside its recovery
@@ -31,33 +30,17 @@ beside rest stand = at stand.shared stand.machine rest stand.journal
 
 -- A step of the session.
 
-own_first : (s : SessionId) (event : SessionEvent) (rest : Standing) (old mid : seats.Stand) → seats.IsBefore event old mid
-    → (beside rest mid ≡ beside rest old) ⊎ IsSeen (Of s event) (beside rest old) (beside rest mid)
-own_first s (events.Ordered order) rest old mid same = inl (ap (beside rest) same)
-own_first s (events.Called call answer) rest old mid same = inl (ap (beside rest) same)
-own_first s (events.Posted b request) rest old mid same = inl (ap (beside rest) same)
-own_first s (events.Taken b answer) rest old mid same = inl (ap (beside rest) same)
-own_first s (events.Faulted b before later) rest old mid (inl same) = inl (ap (beside rest) same)
-own_first s (events.Faulted b before later) rest old mid (inr (loss, (machine, lost))) =
-    inr (record { b = b; fault = refl; loss = loss; machine = machine; standing = refl; tells = lost })
-own_first s (events.Detached b cause answer) rest old mid same = inl (ap (beside rest) same)
-own_first s (events.Swapped b) rest old mid same = inl (ap (beside rest) same)
-own_first s (events.Replied outcome status) rest old mid same = inl (ap (beside rest) same)
-own_first s events.Ended rest old mid same = inl (ap (beside rest) same)
-
 pub own_place : (tables : List TableDef) (s : SessionId) (others : ℕ) (rest : Standing) (old new : seats.Stand) → rest.due ≡ Resting → (is : seats.TookPlace tables s old new)
     → (took : TookPlace tables s others (beside rest old) (beside rest new)) × (took.entry ≡ Of s is.event)
 own_place tables s others rest old new resting is = (
   record {
     entry = Of s is.event;
-    between = beside rest is.between;
-    first = own_first s is.event rest old is.between is.first;
     comes = λ machines recoveries own stands fits.
         let here : with_machine machines s new.machine s ≡ new.machine = machine_here machines s new.machine in
         record {
           rests = ap (λ (r : Standing). r.due) stands ∙ resting;
-          moves = subst (λ (m : Machine). Moves tables s is.between.shared m is.event new.shared (with_machine machines s new.machine s)) (sym own)
-              (subst (λ (m : Machine). Moves tables s is.between.shared is.between.machine is.event new.shared m) (sym here) is.moves);
+          moves = subst (λ (m : Machine). Moves tables s old.shared m is.event new.shared (with_machine machines s new.machine s)) (sym own)
+              (subst (λ (m : Machine). Moves tables s old.shared old.machine is.event new.shared m) (sym here) is.moves);
           machines = ap (with_machine machines s) (sym here);
           recoveries = standing_self recoveries s rest stands;
         };
@@ -89,16 +72,14 @@ went_on tables policy layout s others old new steps.Closed is = absurd is
 went_on tables policy layout s others old new (steps.Recovers moment number) is = absurd is
 
 -- an event of it took place
-pub proceeded : (tables : List TableDef) (s : SessionId) (others : ℕ) (event : SessionEvent) (old mid new : Stand) → (mid ≡ old) ⊎ IsSeen (Recovers s event) old mid → RecoveryMay mid.standing event
-    → ((machines : SessionId → Machine) (recoveries : SessionId → Standing) → machines s ≡ mid.machine → recoveries s ≡ mid.standing → Fits others s machines recoveries
-    → LetsRecovery (state mid.shared machines recoveries) s event)
-    → IsAnswered mid.shared.gate event new.shared.gate → ServesRecovery tables mid.shared.stores s.number event new.shared.stores → new.machine ≡ mid.machine → new.standing ≡ after mid.standing event
-    → new.journal ≡ added mid.journal (told_of tables s event) → (took : TookPlace tables s others old new) × (took.entry ≡ Recovers s event)
-proceeded tables s others event old mid new first may lets answered serves same leads tells = (
+pub proceeded : (tables : List TableDef) (s : SessionId) (others : ℕ) (event : SessionEvent) (old new : Stand) → RecoveryMay old.standing event
+    → ((machines : SessionId → Machine) (recoveries : SessionId → Standing) → machines s ≡ old.machine → recoveries s ≡ old.standing → Fits others s machines recoveries
+    → LetsRecovery (state old.shared machines recoveries) s event)
+    → IsAnswered old.shared.gate event new.shared.gate → ServesRecovery tables old.shared.stores s.number event new.shared.stores → new.machine ≡ old.machine → new.standing ≡ after old.standing event
+    → new.journal ≡ added old.journal (told_of tables s event) → (took : TookPlace tables s others old new) × (took.entry ≡ Recovers s event)
+proceeded tables s others event old new may lets answered serves same leads tells = (
   record {
     entry = Recovers s event;
-    between = mid;
-    first = first;
     comes = λ machines recoveries own stands fits. record {
       may = subst (λ (r : Standing). RecoveryMay r event) (sym stands) may;
       lets = lets machines recoveries own stands fits;

@@ -1,13 +1,11 @@
 -- What a step of a session did, whose client may have ordered a recovery.
-use Rattle.std.specs.Prelude.{◌≡◌, ◌==◌, ◌⊎◌, ℕ, true, false, List, Option, Some, None}
+use Rattle.std.specs.Prelude.{◌≡◌, ◌==◌, ℕ, true, false, List}
 use Rattle.pool_base.specs.Sets.{has}
 use Rattle.pool_base.specs.declared.backend_id.BackendId.{BackendId}
 use Rattle.pool_base.specs.declared.session_id.SessionId.{SessionId}
 use Rattle.schema.specs.declared.catalogue.TableDef.{TableDef}
 use Rattle.session_machine.specs.declared.action.Action.{Action}
 use Rattle.session_machine.specs.declared.action.Action.TheVariants as actions
-use Rattle.session_machine.specs.declared.action.SessionEvent.{SessionEvent}
-use Rattle.session_machine.specs.declared.action.SessionEvent.TheVariants as events
 use Rattle.session_machine.specs.declared.machine.Machine.{Machine}
 use Rattle.session_machine.specs.declared.machine.ReadPolicy.{ReadPolicy}
 use Rattle.session_machine.specs.Rules.{new_machine, next_action}
@@ -20,10 +18,10 @@ use Rattle.online_recovery.specs.Rules.{next_action as recovery_action}
 use Rattle.session_seat.specs.declared.book.Journal.{Journal}
 use Rattle.session_seat.specs.declared.step.Step.{Step}
 use Rattle.session_seat.specs.declared.step.Step.TheVariants as step
-use Rattle.session_seat.specs.Told.{added, told_lost}
-use Rattle.session_seat.specs.Shared.{Shared, IsLoss}
+use Rattle.session_seat.specs.Told.{added}
+use Rattle.session_seat.specs.Shared.{Shared}
 use Rattle.session_seat.specs.Schedule.{with_machine}
-use Rattle.recovery_seat.specs.Schedule.{Entry, Of, Recovers, Loses, State, Comes, told, with_standing}
+use Rattle.recovery_seat.specs.Schedule.{Entry, State, Comes, told, with_standing}
 
 -- where what is shared, the machine of a session and its recovery stand, and what the journal has
 pub record Stand : Type 0 where
@@ -55,34 +53,13 @@ pub record Fits (others : ℕ) (s : SessionId) (machines : SessionId → Machine
   pub sessions : (o : SessionId) (b : BackendId) → (o.number == s.number) ≡ false → IsAt b (next_action (machines o)) → has others b.number ≡ true
   pub recovers : (o : SessionId) (b : BackendId) → (o.number == s.number) ≡ false → RecoversAt b (recovery_action (recoveries o)) → has others b.number ≡ true
 
--- the backend whose fault an entry tells of
-abbrev pub fault_in : SessionEvent → Option BackendId
-fault_in (events.Faulted b before later) = Some b
-fault_in event = None
-
-abbrev pub fault_of : Entry → Option BackendId
-fault_of (Of s event) = fault_in event
-fault_of (Recovers s event) = fault_in event
-fault_of (Loses b) = None
-
--- the backend is lost, which no session has seen before, and the journal tells of that
-pub record IsSeen (entry : Entry) (old mid : Stand) : Type 0 where
-  pub b : BackendId
-  pub fault : fault_of entry ≡ Some b
-  pub loss : IsLoss old.shared b mid.shared
-  pub machine : mid.machine ≡ old.machine
-  pub standing : mid.standing ≡ old.standing
-  pub tells : mid.journal ≡ added old.journal (told_lost b)
-
 -- one event of session s or of its recovery took place, where it may, wherever the other sessions stand that fit the set, and the journal
 -- tells of it
 pub record TookPlace (tables : List TableDef) (s : SessionId) (others : ℕ) (old new : Stand) : Type 0 where
   pub entry : Entry
-  pub between : Stand
-  pub first : (between ≡ old) ⊎ IsSeen entry old between
-  pub comes : (machines : SessionId → Machine) (recoveries : SessionId → Standing) → machines s ≡ between.machine → recoveries s ≡ between.standing → Fits others s machines recoveries
-      → Comes tables (state between.shared machines recoveries) entry (state new.shared (with_machine machines s new.machine) (with_standing recoveries s new.standing))
-  pub tells : new.journal ≡ added between.journal (told tables entry)
+  pub comes : (machines : SessionId → Machine) (recoveries : SessionId → Standing) → machines s ≡ old.machine → recoveries s ≡ old.standing → Fits others s machines recoveries
+      → Comes tables (state old.shared machines recoveries) entry (state new.shared (with_machine machines s new.machine) (with_standing recoveries s new.standing))
+  pub tells : new.journal ≡ added old.journal (told tables entry)
 
 -- nothing took place
 pub record Stays (old new : Stand) : Type 0 where

@@ -17,7 +17,7 @@ use journal::Event;
 use online_recovery::Recovery;
 use pgproto::Mark;
 use pool_base::{BackendId, SessionId};
-use session_seat::{Book, Looked, Setting, Step, StepFault, World, note_loss};
+use session_seat::{Book, Looked, Setting, Step, StepFault, World};
 
 /// Looks for the answer of the backend that is waited for.
 pub(crate) fn hear<B: Backend>(
@@ -52,16 +52,12 @@ pub(crate) fn hear<B: Backend>(
         before,
         after,
         polled,
-        is_new,
     } = world.poll(s, b)?;
     match polled {
         Polled::NotYet => Ok(Step::Waits),
         Polled::NoMemory => Err(StepFault::NoMemory),
         Polled::Answered(answer) => take(setting, s, recovery, b, answer, book),
-        Polled::Lost => {
-            note_loss(setting, b, is_new, book)?;
-            miss(setting, s, recovery, b, before, after, book)
-        }
+        Polled::Lost => miss(setting, s, recovery, b, before, after, book),
     }
 }
 

@@ -14,7 +14,7 @@
 //!
 //! Where the copy is due to start and there is no spare box, the reply that says so comes
 //! in its place. An event is noted before it takes place.
-ghost use Rattle.std.specs.Prelude.{◌≡◌, ◌<◌, ◌≤◌, ℕ, None, length, IfOk, OnOk};
+ghost use Rattle.std.specs.Prelude.{◌≡◌, ◌<◌, ◌≤◌, ℕ, None, length, take, IfOk, OnOk};
 ghost use Rattle.schema.specs.Allowed.{AreAllowed};
 ghost use Rattle.schema.specs.Ranges.{AreInRange};
 ghost use Rattle.session_engine.specs.Cores.{machine_in};
@@ -90,7 +90,8 @@ pub fn take_step<B: Backend>(
     // Which step it is, of a session that has no recovery under way.
     ensures due { (layout : Layout) → next_action (standing_of layout place.old) ≡ Rest
         → IfOk result (λ step. IsOwn B.meaning B.is_prompt setting.entry.tables.now
-        setting.entry.moment place.old.seat world.old.gate.state world.old.shelf.items step) }
+        setting.entry.moment place.old.seat world.old.gate.state
+        (take world.old.count world.old.shelf.items) step) }
     // An event is counted, so that a run of steps ends.
     ensures did { IfOk result (λ step. IsDid step → book.old.events < book.new.events) }
     ensures events { book.old.events ≤ book.new.events }
@@ -155,7 +156,7 @@ fn take_own<B: Backend>(
         book.new.journal) (speech place.new.seat book.new.lines)) }
     ensures due { IfOk result (λ step. IsOwn B.meaning B.is_prompt
         setting.entry.tables.now setting.entry.moment place.old.seat world.old.gate.state
-        world.old.shelf.items step) }
+        (take world.old.count world.old.shelf.items) step) }
     ensures did { IfOk result (λ step. IsDid step → book.old.events < book.new.events) }
     ensures events { book.old.events ≤ book.new.events }
     ensures s { place.new.seat.s ≡ place.old.seat.s }

@@ -215,8 +215,6 @@ pub called_place : (tables : List TableDef) (s : SessionId) (m n : Machine) (old
 called_place tables s m n old new j k call answer asked may is stores free leads tells = (
   record {
     event = events.Called call answer;
-    between = at old m j;
-    first = refl;
     moves = record {
       may = called_as m old.gate new.gate call answer asked is free;
       answered = (may, is);
@@ -274,8 +272,6 @@ detached_place tables s m n old new j k b answer asked is stores leads tells =
     let due : next_action m ≡ actions.Detach b tells.0 = detached_due (next_action m) b tells.0 asked tells.1 in (
       record {
         event = events.Detached b tells.0 answer;
-        between = at old m j;
-        first = refl;
         moves = record {
           may = (due, detached_answer old.gate new.gate b answer is);
           answered = is;
@@ -328,9 +324,9 @@ unfit_stop {X} {T} meaning is_prompt shelf m s b found answer count P r looks is
       | inr unfit ↦ inr (inr (record { answer = answer; came = subst (LooksAt meaning is_prompt shelf s.number b.number) is looks; unfit = unfit }))
     ])
 
-pub lost_stop : {T : Type 0} (old mid : ℕ) (P : Type 0) (r : Result T StepFault) → mid ≤ old + 1 → IfErr r (λ e. e ≡ Stopped → 18446744073709551615 ≤ mid)
+pub lost_stop : {T : Type 0} (old : ℕ) (P : Type 0) (r : Result T StepFault) → IfErr r (λ e. e ≡ Stopped → 18446744073709551615 ≤ old)
     → IfErr r (λ e. e ≡ Stopped → IsFull old ⊎ P)
-lost_stop {T} old mid P r one = where_err r (λ e why same. let full : 18446744073709551615 ≤ mid = why same in inl (omega (arith, full, one)))
+lost_stop {T} old P r = where_err r (λ e why same. let full : 18446744073709551615 ≤ old = why same in inl (omega (arith, full)))
 
 pub full_stop : {T : Type 0} (events : ℕ) (P : Type 0) (r : Result T StepFault) → IfErr r (λ e. e ≡ Stopped → IsFull events) → IfErr r (λ e. e ≡ Stopped → IsFull events ⊎ P)
 full_stop {T} events P r = where_err r (λ e why same. inl (why same))

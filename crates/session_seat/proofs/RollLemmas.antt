@@ -1,18 +1,15 @@
 -- The rolls of the backends: one is read, and one is changed with its backend. And which are honest, count, are blank, and are lost.
-use Rattle.std.proofs.Common.{◌≡◌, ◌≢◌, ℕ, ◌<◌, ◌≤◌, ◌-◌, Bool, true, false, List, length, get_or, set, take, drop, replicate, zero, suc, refl, sym, ap, ◌∙◌, subst, arith, inl, inr}
-use Rattle.std.specs.Prelude.{All, Some, ◌==◌, ◌%◌, ◌^◌, slice_get, if◌then◌else◌}
+use Rattle.std.proofs.Common.{Result, Ok, Err, ◌≡◌, ◌≢◌, ℕ, ◌<◌, ◌≤◌, ◌-◌, Bool, true, false, List, length, get_or, set, take, drop, replicate, zero, suc, refl, sym, ap, ◌∙◌, subst, arith, inl, inr}
+use Rattle.std.specs.Prelude.{All, IfOk, OnErr, Some, ◌==◌, ◌%◌, ◌^◌, slice_get, if◌then◌else◌}
 use Rattle.std.proofs.Math.Nat.{zero-div}
 use Rattle.std.proofs.lemmas.Bool.Decides.{eqb_tells}
 use Rattle.std.proofs.lemmas.List.{get_or-set_same, get_or-set_other, length-set, length-take-le, length-drop, get_or-take, get_or-drop}
 use Rattle.std.proofs.lemmas.Option.{slice_get-get_or, slice_get_read, slice_get_within, get_or_from_slice_get}
 use Rattle.pool_base.specs.Sets.{has, Gains}
-use Rattle.pool_base.specs.declared.backend_set.BackendSet.{BackendSet}
 use Rattle.schema.specs.declared.catalogue.TableDef.{TableDef}
 use Rattle.backend_trait.specs.Rows.{with_at}
+use Rattle.backend_trait.specs.Acts.{Acts}
 use Rattle.backend_trait.specs.Store.{Store, blank, prepared, lost_by}
-use Rattle.backend_trait.specs.Acts.{InForm}
-use Rattle.backend_trait.specs.declared.answer.Polled.{Polled}
-use Rattle.backend_trait.specs.declared.answer.Polled.TheVariants as polls
 use Rattle.backend_rolls.specs.declared.roll.Roll.{Roll}
 use Rattle.backend_rolls.specs.Known.{Counts, Knows, nothing_known}
 use Rattle.backend_rolls.specs.declared.spares.Spare.{Spare}
@@ -20,8 +17,10 @@ use Rattle.backend_rolls.specs.declared.spares.Spare.TheVariants.{Spent}
 use Rattle.backend_rolls.specs.declared.spares.Spares.{Spares}
 use Rattle.backend_rolls.specs.Rolls.{known_in, roll_at, no_roll}
 use Rattle.backend_rolls.specs.Spares.{spare_at}
-use Rattle.backend_rolls.proofs.CountLemmas.{counts_first}
+use Rattle.backend_rolls.proofs.CountLemmas.{counts_acts, counts_first, counts_same}
 use Rattle.backend_rolls.proofs.KnownLemmas.{prepared_known, lost_known}
+use Rattle.session_seat.specs.declared.fault.StepFault.{StepFault}
+use Rattle.session_seat.specs.declared.posting.Looked.{Looked}
 use Rattle.session_seat.proofs.BlankLemmas.{blank_is}
 use Rattle.session_seat.specs.Rolls.{IsTrueOf, AreTrue, AreHonest, AreTold, AllCount, AreBlank}
 
@@ -185,18 +184,7 @@ told_lost meaning lost next count shelf at own y told same inside gains is b z f
       ∙ told b z few under (set_other shelf at b y z (λ e. p.1 (e ∙ same)) there)
 ]
 
--- behind a poll, where the set has one more if it was a loss
-pub told_polled : {X : Type 0} (meaning : X → Store) (lost next : BackendSet) (count : ℕ) (shelf : List X) (at own s : ℕ) (x y : X) (polled : Polled) (before after : ℕ)
-    → AreTold meaning lost.bits count shelf → at ≡ own → at < count → count ≤ length shelf → x ≡ get_or shelf at x → InForm (meaning x) s polled before after (meaning y)
-    → (polled ≡ polls.Lost → Gains lost.bits next.bits own) → ((polled ≡ polls.Lost → ⊥) → next ≡ lost) → AreTold meaning next.bits count (set shelf at y)
-told_polled {X} meaning lost next count shelf at own s x y polled before after told same below enough read form gains stays = by_polled polled form gains stays
-  where
-    kept : next ≡ lost → (meaning y).lost ≡ (meaning x).lost → AreTold meaning next.bits count (set shelf at y)
-    kept is alike = subst (λ (l : BackendSet). AreTold meaning l.bits count (set shelf at y)) (sym is) (told_next meaning lost.bits count shelf at x y told below enough read alike)
-
-    by_polled : (p : Polled) → InForm (meaning x) s p before after (meaning y) → (p ≡ polls.Lost → Gains lost.bits next.bits own) → ((p ≡ polls.Lost → ⊥) → next ≡ lost)
-        → AreTold meaning next.bits count (set shelf at y)
-    by_polled (polls.Answered answer) found more none = kept (none (λ e. absurd (cc))) (found.stays ∙ sym found.not_lost)
-    by_polled polls.NotYet found more none = kept (none (λ e. absurd (cc))) found.1
-    by_polled polls.Lost found more none = told_lost meaning lost.bits next.bits count shelf at own y told same (omega (arith, below, enough)) (more refl) found.1
-    by_polled polls.NoMemory found more none = kept (none (λ e. absurd (cc))) found.1
+-- each number is there behind a poll, whatever it finds
+pub counts_polled : (tables : List TableDef) (x y : Store) (s : ℕ) (P : Type 0) (r : Result Looked StepFault) → P → OnErr r (y ≡ x) → IfOk r (λ looked. P → Acts x s looked.polled y) → Counts tables x → Counts tables y
+counts_polled tables x y s P (Ok looked) holds same acts = counts_acts tables x y s looked.polled (acts holds)
+counts_polled tables x y s P (Err fault) holds same acts = counts_same tables x y (ap (λ (st : Store). st.next) same)

@@ -1,7 +1,7 @@
 -- What a look at a backend and a call of the gate leave of what is shared.
 use Rattle.std.proofs.Common.{◌≡◌, ℕ, ◌==◌, Bool, true, false, List, refl, sym, ap, ◌∙◌, subst, inl, inr}
 use Rattle.std.proofs.Math.Path.{fun_ext}
-use Rattle.std.specs.Prelude.{not, IsSome, is_some, nat_lt, nat_le, ◌||◌, ◌+◌, ◌^◌, if◌then◌else◌}
+use Rattle.std.specs.Prelude.{IsSome, is_some, nat_lt, nat_le, ◌||◌, ◌+◌, ◌^◌, if◌then◌else◌}
 use Rattle.std.proofs.lemmas.Bool.Decides.{eqb_tells}
 use Rattle.pool_base.specs.Sets.{has}
 use Rattle.pool_base.specs.declared.backend_id.BackendId.{BackendId}
@@ -80,43 +80,17 @@ pub served : (tables : List TableDef) (old new : ℕ → Store) (b : BackendId) 
     → new ≡ with_at old b.number (new b.number) → Serves tables old s (events.Taken b answer) new
 served tables old new b s polled answer is acts alone = (subst (λ (p : Polled). Acts (old b.number) s p (new b.number)) is acts, alone)
 
--- the backend is lost, and was so before or not
-pub record IsLostAt (old : ℕ → Store) (b s : ℕ) (is_new : Bool) (new : ℕ → Store) : Type 0 where
-  pub fresh : is_new ≡ not (old b).lost
-  pub waits : is_some ((old b).pending s) ≡ true
-  pub lost : new b ≡ lost_by (old b)
-  pub alone : new ≡ with_at old b (new b)
-
-pub lost_at : (old new : ℕ → Store) (b s : ℕ) (polled : Polled) (is_new : Bool) → polled ≡ polls.Lost → Acts (old b) s polled (new b) → new ≡ with_at old b (new b) → IsSome ((old b).pending s)
-    → (polled ≡ polls.Lost → is_new ≡ not (old b).lost) → IsLostAt old b s is_new new
-lost_at old new b s polled is_new is acts alone waits fresh =
-    record { fresh = fresh is; waits = waits; lost = subst (λ (p : Polled). Acts (old b) s p (new b)) is acts; alone = alone }
-
-is_false : (b : Bool) → true ≡ not b → b ≡ false
-is_false true is = absurd (let never : true ≡ false = is in cc)
-is_false false is = refl
-
-is_true : (b : Bool) → false ≡ not b → b ≡ true
-is_true true is = refl
-is_true false is = absurd (let never : false ≡ true = is in cc)
-
-pub not_lost : (old new : ℕ → Store) (b s : ℕ) → IsLostAt old b s true new → (old b).lost ≡ false
-not_lost old new b s it = is_false (old b).lost it.fresh
-
-pub lost_before : (old new : ℕ → Store) (b s : ℕ) → IsLostAt old b s false new → (old b).lost ≡ true
-lost_before old new b s it = is_true (old b).lost it.fresh
-
-pub stores_lost : (old new : ℕ → Store) (b s : ℕ) (is_new : Bool) → IsLostAt old b s is_new new → new ≡ with_at old b (lost_by (old b))
-stores_lost old new b s is_new it = it.alone ∙ ap (with_at old b) it.lost
-
-pub lost_now : (old new : ℕ → Store) (b s : ℕ) (is_new : Bool) → IsLostAt old b s is_new new → (new b).lost ≡ true
-lost_now old new b s is_new it = ap (λ (st : Store). st.lost) it.lost
-
-pub still_waits : (old new : ℕ → Store) (b s : ℕ) (is_new : Bool) → IsLostAt old b s is_new new → is_some ((new b).pending s) ≡ true
-still_waits old new b s is_new it = ap (λ (st : Store). is_some (st.pending s)) it.lost ∙ it.waits
-
 lost_twice : (st : Store) → st.lost ≡ true → lost_by st ≡ st
 lost_twice st is = ap (λ (lost : Bool). record st { lost = lost }) (sym is)
 
-pub lost_again : (old new : ℕ → Store) (b s : ℕ) → IsLostAt old b s false new → new ≡ old
-lost_again old new b s it = stores_lost old new b s false it ∙ (ap (with_at old b) (lost_twice (old b) (lost_before old new b s it)) ∙ unchanged old b)
+-- the backend is lost, and the look for an answer moves nothing
+pub record IsLostAt (old : ℕ → Store) (b s : ℕ) (new : ℕ → Store) : Type 0 where
+  pub lost : (old b).lost ≡ true
+  pub waits : is_some ((old b).pending s) ≡ true
+  pub same : new ≡ old
+
+pub lost_at : (old new : ℕ → Store) (b s : ℕ) (polled : Polled) → polled ≡ polls.Lost → Acts (old b) s polled (new b) → new ≡ with_at old b (new b) → IsSome ((old b).pending s)
+    → (polled ≡ polls.Lost → (old b).lost ≡ true) → IsLostAt old b s new
+lost_at old new b s polled is acts alone waits lost =
+    let left : new b ≡ lost_by (old b) = subst (λ (p : Polled). Acts (old b) s p (new b)) is acts in
+    record { lost = lost is; waits = waits; same = alone ∙ (ap (with_at old b) (left ∙ lost_twice (old b) (lost is)) ∙ unchanged old b) }

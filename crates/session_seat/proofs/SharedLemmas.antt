@@ -1,6 +1,6 @@
 -- The stores of the backends: before a play, and where one box of a shelf is new.
 use Rattle.std.proofs.Common.{Result, Ok, Err, ◌≡◌, ◌≢◌, ℕ, ◌<◌, ◌≤◌, Bool, true, false, ◌||◌, List, length, get_or, set, take, refl, sym, ap, ◌∙◌, subst, arith, inl, inr}
-use Rattle.std.specs.Prelude.{All, OnOk, ◌⊎◌, Option, Some, None, ◌==◌, is_some, not, slice_get, if◌then◌else◌}
+use Rattle.std.specs.Prelude.{All, OnOk, ◌⊎◌, Option, Some, None, ◌==◌, is_some, slice_get, if◌then◌else◌}
 use Rattle.std.proofs.Math.Seq.{take-set-lt}
 use Rattle.std.proofs.lemmas.Bool.Decides.{eqb_tells}
 use Rattle.std.proofs.lemmas.List.{get_or-set_same, get_or-set_other, length-set, length-take-le, get_or-take}
@@ -11,8 +11,9 @@ use Rattle.pool_base.specs.declared.backend_set.BackendSet.{BackendSet}
 use Rattle.schema.specs.declared.catalogue.TableDef.{TableDef}
 use Rattle.backend_trait.specs.Rows.{with_at}
 use Rattle.backend_trait.specs.Store.{Store, prepared, lost_by}
-use Rattle.backend_trait.specs.Acts.{Acts}
+use Rattle.backend_trait.specs.Acts.{Acts, InForm}
 use Rattle.backend_trait.specs.declared.answer.Polled.{Polled}
+use Rattle.backend_trait.specs.declared.answer.Polled.TheVariants as polls
 use Rattle.snapshot_gate.specs.declared.state.GateState.{GateState}
 use Rattle.snapshot_gate.specs.Function.{first as first_gate}
 use Rattle.session_seat.specs.Rolls.{AreTold}
@@ -106,10 +107,11 @@ module _ {X : Type 0} (meaning : X → Store) (tables : List TableDef) (count : 
   told_at : (lost : ℕ) → AreTold meaning lost count shelf → b < 8 → has lost b ≡ (meaning x).lost
   told_at lost told few = told b x few (omega (arith, same, below)) (ap (slice_get shelf) (sym same) ∙ slice_get_read shelf (length shelf) at x refl (omega (arith, below, enough)) read)
 
-  -- and so whether a loss of it is new
-  pub new_at : (lost : ℕ) (is_new : Bool) → AreTold meaning lost count shelf → b < 8 → is_new ≡ not (has lost b) → is_new ≡ not (stores_of meaning tables count shelf b).lost
-  new_at lost is_new told few made =
-      made ∙ ap not (told_at lost told few) ∙ ap (λ (st : Store). not st.lost) (sym store_at)
+  -- a steady one that is found lost was lost
+  pub found_lost : (s before after : ℕ) (polled : Polled) → InForm (meaning x) s polled before after (meaning y) → (meaning y).lost ≡ (meaning x).lost → polled ≡ polls.Lost → (stores_of meaning tables count shelf b).lost ≡ true
+  found_lost s before after polled form stays is =
+      let told : InForm (meaning x) s polls.Lost before after (meaning y) = subst (λ (p : Polled). InForm (meaning x) s p before after (meaning y)) is form in
+      ap (λ (st : Store). st.lost) store_at ∙ (sym stays ∙ told.1)
 
 -- a backend is lost that was not
 pub loss_at : {X : Type 0} (meaning : X → Store) (gate : GateState) (tables : List TableDef) (count : ℕ) (shelf : List X) (at : ℕ) (b : BackendId) (x y : X) (lost : ℕ) → at ≡ b.number → at < count

@@ -1,6 +1,6 @@
 -- What the client of a session is told, one message behind another and step by step.
 use Rattle.std.proofs.Common.{Result, Ok, Err, ◌≡◌, ◌<◌, ℕ, Bool, true, false, List, [], ◌∷◌, ◌++◌, length, drop, refl, sym, ap, ◌∙◌, subst, append_assoc, inl, inr, arith}
-use Rattle.std.specs.Prelude.{ℤ, Option, Some, None, IfOk, OnOk, ◌⊎◌}
+use Rattle.std.specs.Prelude.{ℤ, Option, Some, None, IfOk, OnOk}
 use Rattle.std.proofs.lemmas.List.{append-nil}
 use Rattle.pool_base.specs.declared.session_id.SessionId.{SessionId}
 use Rattle.pool_base.specs.declared.backend_id.BackendId.{BackendId}
@@ -22,7 +22,7 @@ use Rattle.session_machine.specs.declared.action.SessionEvent.{SessionEvent}
 use Rattle.session_machine.specs.declared.action.SessionEvent.TheVariants as events
 use Rattle.session_machine.specs.declared.machine.Machine.{Machine}
 use Rattle.session_machine.specs.declared.machine.ReadPolicy.{ReadPolicy}
-use Rattle.session_machine.specs.Rules.{new_machine, status_byte}
+use Rattle.session_machine.specs.Rules.{status_byte}
 use Rattle.session_engine.specs.Handing.{Detaches}
 use Rattle.wire_session.specs.Kept.{HasNone}
 use Rattle.session_wire.specs.declared.due.Due.{Due}
@@ -30,15 +30,15 @@ use Rattle.session_wire.specs.declared.due.Due.TheVariants as dues
 use Rattle.session_wire.specs.declared.wire.WireStep.{WireStep}
 use Rattle.session_wire.specs.declared.wire.WireStep.TheVariants as wires
 use Rattle.session_wire.specs.Answers.{IsHeard, IsHeardAt, Says as SaysOutcome, ends_block, implicit_after, keeps_portals, left_after, skips}
-use Rattle.session_wire.specs.Shown.{View, frame_of, with_written}
+use Rattle.session_wire.specs.Shown.{View, frame_of}
 use Rattle.session_wire.specs.Steps.{IsNext}
 use Rattle.session_seat.specs.declared.book.Journal.{Journal}
 use Rattle.session_seat.specs.declared.step.Step.{Step}
 use Rattle.session_seat.specs.declared.step.Step.TheVariants as steps
 use Rattle.session_seat.specs.Shared.{Shared}
-use Rattle.session_seat.specs.Steps.{IsOutside, IsStep, Stand, Stays, TookPlace, at}
+use Rattle.session_seat.specs.Steps.{IsStep, Stand, TookPlace, at}
 use Rattle.session_seat.specs.Dues.{recovery_in}
-use Rattle.session_seat.specs.Speech.{AreShown, Asks, Closes, Hears, IsOrdered, IsQuiet, IsQuietStep, IsShown, IsWritten, Says, Speaks, Speech, closed_line, message_line, recovering, saying, told_detached}
+use Rattle.session_seat.specs.Speech.{AreShown, Asks, Closes, IsOrdered, IsQuiet, IsQuietStep, IsShown, IsWritten, Says, Speaks, Speech, closed_line, message_line, recovering, saying, told_detached}
 
 -- One message behind another.
 

@@ -1,7 +1,7 @@
 -- What is due of a session and what comes of it, and where a step leads.
 use mathlib.Core.HLevel.{is_prop→PathP}
 use native.Mathlib.Bridge.{le_prop}
-use Rattle.std.proofs.Common.{◌≡◌, ◌≤◌, ℕ, Bool, true, false, List, Result, Ok, Err, refl, sym, ap, ◌∙◌, inl, inr}
+use Rattle.std.proofs.Common.{◌≡◌, ◌≤◌, ℕ, List, Result, Ok, Err, refl, sym, ap, ◌∙◌}
 use Rattle.std.specs.Prelude.{IfOk, OnOk, if◌then◌else◌}
 use Rattle.pool_base.specs.declared.backend_id.BackendId.{BackendId}
 use Rattle.pool_base.specs.declared.session_id.SessionId.{SessionId}
@@ -21,15 +21,14 @@ use Rattle.session_machine.specs.Allowed.{MayHappen}
 use Rattle.session_machine.specs.Rules.{due, new_machine, action_at, next_action, after_at}
 use Rattle.session_engine.specs.declared.ask.Ask.TheVariants as asks
 use Rattle.session_engine.specs.Handing.{asked_of, handed, Posts}
-use Rattle.session_seat.specs.declared.book.Journal.{Journal}
 use Rattle.session_seat.specs.declared.step.Step.{Step}
 use Rattle.session_seat.specs.declared.step.Step.TheVariants as steps
-use Rattle.session_seat.specs.Told.{added, told_of, told_lost}
+use Rattle.session_seat.specs.Told.{added, told_of}
 use Rattle.session_seat.specs.Shared.{Serves}
 use Rattle.session_seat.specs.Schedule.{led}
-use Rattle.session_seat.specs.Steps.{IsDid, Stand, at, TookPlace, IsStep}
+use Rattle.session_seat.specs.Steps.{IsDid, Stand, TookPlace, IsStep}
 use Rattle.session_seat.specs.Speech.{IsQuiet, IsQuietStep}
-use Rattle.session_seat.proofs.ServedLemmas.{IsLostAt, not_lost, lost_before, stores_lost, lost_now, still_waits, lost_again}
+use Rattle.session_seat.proofs.ServedLemmas.{IsLostAt}
 
 -- What is asked for is the post of a request.
 pub post_due : (action : Action) (b : BackendId) (request : Request) → asked_of action ≡ asks.Post b → Posts action request → action ≡ actions.Post b request
@@ -116,41 +115,18 @@ pub posted_step : {E : Type 0} (tables : List TableDef) (s : SessionId) (old new
     → added old.journal text ≡ added old.journal (told_of tables s (events.Posted b request)) → IfOk result (λ step. IsQuietStep tables s old step new)
 posted_step tables s old new b request text (Ok step) is leads line gate serves may same =
     took tables s old new step is
-    (record { event = events.Posted b request; between = old; first = refl; moves = record { may = may; answered = gate; serves = serves; leads = leads }; tells = line ∙ same }, tt)
+    (record { event = events.Posted b request; moves = record { may = may; answered = gate; serves = serves; leads = leads }; tells = line ∙ same }, tt)
 posted_step tables s old new b request text (Err fault) is leads line gate serves may same = tt
 
--- a backend was found lost; where no session has seen it before, it is lost first, and the journal tells of that
-pub missed_step : {E : Type 0} (tables : List TableDef) (s : SessionId) (old new : Stand) (mid : Journal) (b : BackendId) (before later : ℕ) (is_new : Bool) (result : Result Step E)
-    → mid ≡ (if is_new then added old.journal (told_lost b) else old.journal) → IfOk result IsDid → MayHappen old.machine (events.Faulted b before later)
-    → OnOk result (new.machine ≡ led old.machine (events.Faulted b before later)) → OnOk result (new.journal ≡ added mid (told_of tables s (events.Faulted b before later)))
-    → new.shared.gate ≡ old.shared.gate → IsLostAt old.shared.stores b.number s.number is_new new.shared.stores → IfOk result (λ step. IsQuietStep tables s old step new)
-missed_step tables s old new mid b before later true (Ok step) seen is may leads line gate lost =
-    let was = old.shared.stores in
-    let now = new.shared.stores in
-    took tables s old new step is (
-      record {
-        event = events.Faulted b before later;
-        between = at new.shared old.machine mid;
-        first = inr (record { not_lost = not_lost was now b.number s.number lost; gate = gate; stores = stores_lost was now b.number s.number true lost }, (refl, seen));
-        moves = record { may = may; answered = refl; serves = (lost_now was now b.number s.number true lost, (still_waits was now b.number s.number true lost, refl)); leads = leads };
-        tells = line;
-      },
-      tt,
-    )
-missed_step tables s old new mid b before later false (Ok step) seen is may leads line gate lost =
-    let was = old.shared.stores in
-    let now = new.shared.stores in
-    took tables s old new step is (
-      record {
-        event = events.Faulted b before later;
-        between = old;
-        first = inl refl;
-        moves = record { may = may; answered = gate; serves = (lost_before was now b.number s.number lost, (lost.waits, lost_again was now b.number s.number lost)); leads = leads };
-        tells = line ∙ ap (λ (j : Journal). added j (told_of tables s (events.Faulted b before later))) seen;
-      },
-      tt,
-    )
-missed_step tables s old new mid b before later is_new (Err fault) seen is may leads line gate lost = tt
+-- a backend was found lost
+pub missed_step : {E : Type 0} (tables : List TableDef) (s : SessionId) (old new : Stand) (b : BackendId) (before later : ℕ) (result : Result Step E)
+    → IfOk result IsDid → MayHappen old.machine (events.Faulted b before later)
+    → OnOk result (new.machine ≡ led old.machine (events.Faulted b before later)) → OnOk result (new.journal ≡ added old.journal (told_of tables s (events.Faulted b before later)))
+    → new.shared.gate ≡ old.shared.gate → IsLostAt old.shared.stores b.number s.number new.shared.stores → IfOk result (λ step. IsQuietStep tables s old step new)
+missed_step tables s old new b before later (Ok step) is may leads line gate lost =
+    took tables s old new step is
+    (record { event = events.Faulted b before later; moves = record { may = may; answered = gate; serves = (lost.lost, (lost.waits, lost.same)); leads = leads }; tells = line }, tt)
+missed_step tables s old new b before later (Err fault) is may leads line gate lost = tt
 
 -- A session is its number.
 

@@ -62,7 +62,7 @@ called call Spent = step.Did None
 
 -- A backend.
 
--- a look for the answer to a request of session s finds that, at the backend with that number: what it leaves is as the contract
+-- a look for the answer to a request of session s finds that, at the backend with that number, which is one of these boxes: what it leaves is as the contract
 -- of backends says, and a prompt one has no answer yet only where the request has to wait for another session
 pub record LooksAt {X : Type 0} (meaning : X → Store) (is_prompt : X → Bool) (shelf : List X) (s b : ℕ) (polled : Polled) : Type 0 where
   pub backend : X

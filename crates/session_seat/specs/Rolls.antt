@@ -1,5 +1,5 @@
--- The rolls of the backends: each says of its backend what is so. Which of the boxes are honest, which of the backends are lost or count,
--- and which boxes are blank.
+-- The rolls of the backends: each says of its backend what is so. Which of the boxes are honest, prompt and steady, which of the backends are lost
+-- or count, and which boxes are blank.
 use Rattle.std.specs.Prelude.{◌≡◌, ◌≢◌, ℕ, ◌<◌, ◌≤◌, Bool, true, false, is_some, List, [], None, Some, slice_get}
 use Rattle.std.specs.FinMap as fin
 use Rattle.std.specs.Coded.{×_prop, Π_prop}
@@ -35,6 +35,20 @@ AreHonest {X} is_honest shelf = (b : ℕ) (x : X) → slice_get shelf b ≡ Some
 
 pub honest_prop : {X : Type 0} (is_honest : X → Bool) (shelf : List X) → IsProp (AreHonest is_honest shelf)
 honest_prop is_honest shelf = Π_prop (λ b. Π_prop (λ x. Π_prop (λ there. Prim.hlevel props)))
+
+-- and prompt
+abbrev pub ArePrompt : {X : Type 0} → (X → Bool) → List X → Type 0
+ArePrompt {X} is_prompt shelf = (b : ℕ) (x : X) → slice_get shelf b ≡ Some x → is_prompt x ≡ true
+
+pub prompt_prop : {X : Type 0} (is_prompt : X → Bool) (shelf : List X) → IsProp (ArePrompt is_prompt shelf)
+prompt_prop is_prompt shelf = Π_prop (λ b. Π_prop (λ x. Π_prop (λ there. Prim.hlevel props)))
+
+-- and steady
+abbrev pub AreSteady : {X : Type 0} → (X → Bool) → List X → Type 0
+AreSteady {X} is_steady shelf = (b : ℕ) (x : X) → slice_get shelf b ≡ Some x → is_steady x ≡ true
+
+pub steady_prop : {X : Type 0} (is_steady : X → Bool) (shelf : List X) → IsProp (AreSteady is_steady shelf)
+steady_prop is_steady shelf = Π_prop (λ b. Π_prop (λ x. Π_prop (λ there. Prim.hlevel props)))
 
 -- of the first, so many, those are lost that a set has
 abbrev pub AreTold : {X : Type 0} → (X → Store) → ℕ → ℕ → List X → Type 0

@@ -1,9 +1,8 @@
 -- What a step did.
-use Rattle.std.specs.Prelude.{◌≡◌, ◌⊎◌, List}
+use Rattle.std.specs.Prelude.{◌≡◌, List}
 use Rattle.pool_base.specs.declared.session_id.SessionId.{SessionId}
 use Rattle.schema.specs.declared.catalogue.TableDef.{TableDef}
 use Rattle.session_machine.specs.declared.action.SessionEvent.{SessionEvent}
-use Rattle.session_machine.specs.declared.action.SessionEvent.TheVariants as events
 use Rattle.session_machine.specs.declared.machine.GatePhase.TheVariants.{Out}
 use Rattle.session_machine.specs.declared.machine.Machine.{Machine}
 use Rattle.session_machine.specs.declared.machine.Point.TheVariants.{Resting}
@@ -13,8 +12,8 @@ use Rattle.session_machine.specs.Rules.{new_machine}
 use Rattle.session_seat.specs.declared.book.Journal.{Journal}
 use Rattle.session_seat.specs.declared.step.Step.{Step}
 use Rattle.session_seat.specs.declared.step.Step.TheVariants as step
-use Rattle.session_seat.specs.Told.{added, told_of, told_lost}
-use Rattle.session_seat.specs.Shared.{Shared, IsLoss}
+use Rattle.session_seat.specs.Told.{added, told_of}
+use Rattle.session_seat.specs.Shared.{Shared}
 use Rattle.session_seat.specs.Schedule.{Moves}
 
 -- an event took place
@@ -38,19 +37,11 @@ pub record Stand : Type 0 where
 abbrev pub at : Shared → Machine → Journal → Stand
 at shared machine journal = record { shared = shared; machine = machine; journal = journal }
 
--- before a session sees a fault, the backend may be lost, where no session has seen it before: the journal tells of that first
-abbrev pub IsBefore : SessionEvent → Stand → Stand → Type 0
-IsBefore (events.Faulted b before later) old mid =
-    (mid ≡ old) ⊎ (IsLoss old.shared b mid.shared × ((mid.machine ≡ old.machine) × (mid.journal ≡ added old.journal (told_lost b))))
-IsBefore event old mid = mid ≡ old
-
 -- one event of session s took place, where it may, and the journal tells of it
 pub record TookPlace (tables : List TableDef) (s : SessionId) (old new : Stand) : Type 0 where
   pub event : SessionEvent
-  pub between : Stand
-  pub first : IsBefore event old between
-  pub moves : Moves tables s between.shared between.machine event new.shared new.machine
-  pub tells : new.journal ≡ added between.journal (told_of tables s event)
+  pub moves : Moves tables s old.shared old.machine event new.shared new.machine
+  pub tells : new.journal ≡ added old.journal (told_of tables s event)
 
 -- nothing took place
 pub record Stays (old new : Stand) : Type 0 where

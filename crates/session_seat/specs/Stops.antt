@@ -1,5 +1,5 @@
 -- Which test has failed where a step is stopped.
-use Rattle.std.specs.Prelude.{◌≡◌, ◌≢◌, ◌<◌, ◌≤◌, ◌⊎◌, ℕ, ℤ, Bool, true, false, List, [], ◌++◌, Option, Some, None}
+use Rattle.std.specs.Prelude.{◌≡◌, ◌≢◌, ◌<◌, ◌≤◌, ◌⊎◌, ℕ, ℤ, Bool, true, false, List, [], ◌++◌, Option, Some, None, take}
 use Rattle.pool_base.specs.declared.backend_id.BackendId.{BackendId}
 use Rattle.pool_base.specs.declared.session_id.SessionId.{SessionId}
 use Rattle.pool_base.specs.Sets.{has}
@@ -139,7 +139,7 @@ StopsAsked {X} meaning is_prompt tables moment policy seat world asks.Rest = Sto
 StopsAsked {X} meaning is_prompt tables moment policy seat world (asks.Gate call) = MayCall world.gate call → ⊥
 StopsAsked {X} meaning is_prompt tables moment policy seat world (asks.Post b) = StopsAtPost world.tables world.count world.rolls (machine_in seat.core) seat.s.number b.number
 StopsAsked {X} meaning is_prompt tables moment policy seat world (asks.WaitFor b) =
-    (MayLookAt world.count world.rolls seat.s.number b.number → ⊥) ⊎ IsUnfit meaning is_prompt world.shelf (machine_in seat.core) seat.s b
+    (MayLookAt world.count world.rolls seat.s.number b.number → ⊥) ⊎ IsUnfit meaning is_prompt (take world.count world.shelf) (machine_in seat.core) seat.s b
 StopsAsked {X} meaning is_prompt tables moment policy seat world (asks.Detach b) = ⊥
 StopsAsked {X} meaning is_prompt tables moment policy seat world asks.Reply = StopsAtReply world.nodes (machine_in seat.core) (shown seat.wire)
 StopsAsked {X} meaning is_prompt tables moment policy seat world asks.End = ⊥

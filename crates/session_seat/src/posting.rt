@@ -1,9 +1,7 @@
 //! One post and one poll at a backend, by its roll.
 ghost use Rattle.std.specs.Prelude.{◌≡◌, true, IfOk, IfErr, None, OnErr, OnOk, is_some};
-ghost use Rattle.pool_base.specs.Sets.{Gains};
 ghost use Rattle.backend_trait.specs.Acts.{Acts, InForm, IsPromptly};
 ghost use Rattle.backend_trait.specs.Store.{posted};
-ghost use Rattle.backend_trait.specs.declared.answer.Polled.TheVariants.{Lost};
 ghost use Rattle.backend_rolls.specs.Known.{Counts, Knows, MayPostBy};
 ghost use Rattle.backend_rolls.specs.Rolls.{known_in};
 ghost use Rattle.session_seat.specs.declared.fault.StepFault.TheVariants.{Stopped};
@@ -12,16 +10,14 @@ ghost use Rattle.backend_rolls.specs.declared.known.Awaits.TheVariants as awaiti
 use crate::fault::StepFault;
 use backend_rolls::Roll;
 use backend_trait::{Backend, Catalogue, Polled, Posted, Request};
-use pool_base::{BackendId, BackendSet, SessionId};
+use pool_base::SessionId;
 
-/// What a poll finds, with the backend's counts of faults before and behind it, and whether no
-/// loss of the backend was found or made before.
+/// What a poll finds, with the backend's counts of faults before and behind it.
 #[derive(Drop)]
 pub struct Looked {
     pub before: u64,
     pub after: u64,
     pub polled: Polled,
-    pub is_new: bool,
 }
 
 /// Posts a request of a session, where the roll says that it may.
@@ -39,6 +35,8 @@ pub(crate) fn post_at<B: Backend>(
     ensures known { Knows (known_in roll.new) (B.meaning store.new) }
     ensures next { (B.meaning store.new).next ≡ (B.meaning store.old).next }
     ensures honest { B.is_honest store.new ≡ B.is_honest store.old }
+    ensures prompt { B.is_prompt store.new ≡ B.is_prompt store.old }
+    ensures steady { B.is_steady store.new ≡ B.is_steady store.old }
     ensures lost { (B.meaning store.new).lost ≡ (B.meaning store.old).lost }
     ensures idle { OnOk result ((B.meaning store.old).pending s.number ≡ None) }
     ensures posted { OnOk result (B.meaning store.new ≡
@@ -69,12 +67,13 @@ pub(crate) fn poll_at<B: Backend>(
     roll: &mut Roll,
     store: &mut B,
     s: SessionId,
-    is_new: bool,
 ) -> Result<Looked, StepFault>
     requires known { Knows (known_in roll.old) (B.meaning store.old) }
     ensures tables { (B.meaning store.new).tables ≡ (B.meaning store.old).tables }
     ensures known { Knows (known_in roll.new) (B.meaning store.new) }
     ensures honest { B.is_honest store.new ≡ B.is_honest store.old }
+    ensures prompt { B.is_prompt store.new ≡ B.is_prompt store.old }
+    ensures steady { B.is_steady store.new ≡ B.is_steady store.old }
     ensures pending { IfOk result (λ looked.
         is_some ((B.meaning store.old).pending s.number) ≡ true) }
     ensures form { IfOk result (λ looked. InForm (B.meaning store.old) s.number looked.polled
@@ -83,7 +82,8 @@ pub(crate) fn poll_at<B: Backend>(
         → Acts (B.meaning store.old) s.number looked.polled (B.meaning store.new)) }
     ensures promptly { IfOk result (λ looked. B.is_prompt store.old ≡ true
         → IsPromptly (B.meaning store.old) s.number looked.polled) }
-    ensures is_new { IfOk result (λ looked. looked.is_new ≡ is_new) }
+    ensures lost { B.is_steady store.old ≡ true
+        → (B.meaning store.new).lost ≡ (B.meaning store.old).lost }
     ensures stopped { OnErr result ((known_in roll.old s.number).awaits ≡ awaiting.Nothing) }
     ensures stays { OnErr result (B.meaning store.new ≡ B.meaning store.old) }
 {
@@ -99,18 +99,5 @@ pub(crate) fn poll_at<B: Backend>(
         before,
         after,
         polled,
-        is_new,
     })
-}
-
-/// The backends that are lost behind a poll of one.
-pub(crate) fn lost_behind(lost: BackendSet, b: BackendId, polled: &Polled) -> BackendSet
-    ensures gains { polled.now ≡ Lost → Gains lost.bits result.bits b.number }
-    ensures same { (polled.now ≡ Lost → ⊥) → result ≡ lost }
-{
-    if let Polled::Lost = polled {
-        lost.with(b)
-    } else {
-        lost
-    }
 }

@@ -13,7 +13,7 @@
 //! ```
 //!
 //! An event is noted before it takes place, but for a post, which is noted behind it.
-ghost use Rattle.std.specs.Prelude.{◌≡◌, ◌≢◌, ◌<◌, ◌≤◌, ◌++◌, ◌⊎◌, length, false, Some, None, IfOk, IfErr, OnOk, List};
+ghost use Rattle.std.specs.Prelude.{◌≡◌, ◌≢◌, ◌<◌, ◌≤◌, ◌++◌, ◌⊎◌, length, false, Some, None, IfOk, IfErr, OnOk, List, take};
 ghost use Rattle.schema.specs.Grammar.{IsWithin};
 ghost use Rattle.schema.specs.declared.catalogue.TableDef.{TableDef};
 ghost use Rattle.pgproto.specs.declared.line.Mark.TheVariants as marks;
@@ -102,7 +102,8 @@ pub fn take_step<B: Backend>(
         (speech seat.new book.new.lines)) }
     // Which step it is, by what is asked for: it waits, has nothing to do or is closed there alone.
     ensures due { IfOk result (λ step. IsDue B.meaning B.is_prompt setting.entry.tables.now
-        setting.entry.moment seat.old world.old.gate.state world.old.shelf.items step) }
+        setting.entry.moment seat.old world.old.gate.state
+        (take world.old.count world.old.shelf.items) step) }
     // Where it is stopped, which test has failed.
     ensures stopped { IfErr result (λ e. e ≡ Stopped → Stops B.meaning B.is_prompt
         setting.entry.tables.now setting.entry.moment (policy_in setting.entry.config.now)

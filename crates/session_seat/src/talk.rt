@@ -1,5 +1,5 @@
 //! What a session hears of a backend, and its detachment.
-ghost use Rattle.std.specs.Prelude.{◌≡◌, ◌+◌, ◌++◌, ◌<◌, ◌≤◌, ◌⊎◌, length, string_bytes, Some, None, IfOk, IfErr, OnOk, if◌then◌else◌};
+ghost use Rattle.std.specs.Prelude.{◌≡◌, ◌+◌, ◌++◌, ◌<◌, ◌≤◌, ◌⊎◌, length, string_bytes, Some, None, IfOk, IfErr, OnOk, if◌then◌else◌, take as front};
 ghost use Rattle.pgproto.specs.declared.line.Mark.TheVariants as marks;
 ghost use Rattle.session_machine.specs.Allowed.{MayHappen};
 ghost use Rattle.session_machine.specs.Rules.{next_action};
@@ -57,27 +57,23 @@ pub(crate) fn hear<B: Backend>(
     ensures wire { seat.new.wire ≡ seat.old.wire }
     ensures over { seat.new.over ≡ seat.old.over }
     ensures lines { book.new.lines ≡ book.old.lines }
-    ensures due { IfOk result (λ step. WaitsFor B.meaning B.is_prompt world.old.shelf.items
-        seat.old.s b step) }
+    ensures due { IfOk result (λ step. WaitsFor B.meaning B.is_prompt
+        (front world.old.count world.old.shelf.items) seat.old.s b step) }
     ensures stopped { IfErr result (λ e. e ≡ Stopped → IsFull book.old.events
         ⊎ ((MayLookAt world.old.count world.old.rolls seat.old.s.number b.number → ⊥)
-        ⊎ IsUnfit B.meaning B.is_prompt world.old.shelf.items (machine_in seat.old.core)
-        seat.old.s b)) }
+        ⊎ IsUnfit B.meaning B.is_prompt (front world.old.count world.old.shelf.items)
+        (machine_in seat.old.core) seat.old.s b)) }
 {
     let Looked {
         before,
         after,
         polled,
-        is_new,
     } = world.poll(seat.s, b)?;
     match polled {
         Polled::NotYet => Ok(Step::Waits),
         Polled::NoMemory => Err(StepFault::NoMemory),
         Polled::Answered(answer) => take(setting, seat, b, answer, book),
-        Polled::Lost => {
-            note_loss(setting, b, is_new, book)?;
-            miss(setting, seat, b, before, after, book)
-        }
+        Polled::Lost => miss(setting, seat, b, before, after, book),
     }
 }
 
@@ -138,7 +134,7 @@ fn note_answer(
     book.note(setting, Event::Take { s, b, answer })
 }
 
-/// Notes the loss of a backend, where it is new: a line has lost it, or the first session sees it.
+/// Notes the loss of a backend, where it is new.
 pub fn note_loss(
     setting: Setting,
     b: BackendId,

@@ -1,6 +1,6 @@
 //! The gate and the backends, which all sessions share.
 ghost use Rattle.std.specs.Prelude.{◌≡◌, ◌==◌, ◌||◌, ◌↔◌, ◌<◌, ◌≤◌, IfOk, IfErr, IsTrue, OnErr, OnOk, None};
-ghost use Rattle.std.specs.Prelude.{All, ℕ, drop, false, is_some, length, not, take, true};
+ghost use Rattle.std.specs.Prelude.{All, ℕ, drop, false, is_some, length, take, true};
 ghost use Rattle.pool_base.specs.Outside.{Rose};
 ghost use Rattle.pool_base.specs.Sets.{has};
 ghost use Rattle.backend_trait.specs.Acts.{Acts};
@@ -8,8 +8,8 @@ ghost use Rattle.backend_trait.specs.Rows.{with_at};
 ghost use Rattle.backend_trait.specs.Store.{blank, posted, prepared};
 ghost use Rattle.backend_trait.specs.declared.answer.Polled.TheVariants.{Lost};
 ghost use Rattle.snapshot_gate.specs.Function.{step, MayCall};
-ghost use Rattle.session_seat.specs.Rolls.{AreBlank, AllCount, AreHonest, AreTold, AreTrue};
-ghost use Rattle.session_seat.specs.Rolls.{blank_prop, count_prop, honest_prop, prop, told_prop};
+ghost use Rattle.session_seat.specs.Rolls.{AreBlank, AllCount, AreHonest, ArePrompt, AreSteady, AreTold, AreTrue};
+ghost use Rattle.session_seat.specs.Rolls.{blank_prop, count_prop, honest_prop, prompt_prop, prop, steady_prop, told_prop};
 ghost use Rattle.session_seat.specs.Shared.{AreFirst, IsFirst, IsLoss, shared_of, stores_of};
 ghost use Rattle.session_seat.specs.Dues.{LooksAt};
 ghost use Rattle.session_seat.specs.Stops.{MayLookAt, MayPostAt};
@@ -17,7 +17,7 @@ ghost use Rattle.session_seat.specs.declared.fault.StepFault.TheVariants.{Stoppe
 
 use crate::calls::may_call;
 use crate::fault::StepFault;
-use crate::posting::{Looked, lost_behind, poll_at, post_at};
+use crate::posting::{Looked, poll_at, post_at};
 use backend_rolls::{Roll, Spares};
 use backend_trait::{Backend, Catalogue, Request};
 use pool_base::{BackendId, BackendSet, GateAnswer, GateCall, SessionId};
@@ -32,7 +32,7 @@ pub struct World<B: Backend> {
     pub tables: Catalogue,
     pub shelf: Vec<B>,
     pub count: usize,
-    /// The backends that are lost.
+    /// The backends that were lost by `lose`, and by nothing else.
     pub(crate) lost: BackendSet,
     /// The roll of each backend.
     pub(crate) rolls: [Roll; 8],
@@ -41,6 +41,8 @@ pub struct World<B: Backend> {
     // The rolls are true, and each backend has the tables.
     ghost known: { AreTrue B.meaning tables count shelf.items rolls } by { prop B.meaning _ _ _ _ },
     ghost honest: { AreHonest B.is_honest shelf.items } by { honest_prop B.is_honest _ },
+    ghost prompt: { ArePrompt B.is_prompt shelf.items } by { prompt_prop B.is_prompt _ },
+    ghost steady: { AreSteady B.is_steady shelf.items } by { steady_prop B.is_steady _ },
     ghost told: { AreTold B.meaning lost.bits count shelf.items } by { told_prop B.meaning _ _ _ },
     ghost counts: { AllCount B.meaning tables count shelf.items } by { count_prop B.meaning _ _ _ },
     ghost blank: { AreBlank B.meaning count shelf.items spares } by { blank_prop B.meaning _ _ _ },
@@ -54,6 +56,8 @@ impl<B: Backend> World<B> {
         requires prepared { All (λ b. B.meaning b ≡ prepared tables) (take count shelf.items) }
         requires spare { All (λ b. B.meaning b ≡ blank) (drop count shelf.items) }
         requires honest { All (λ b. B.is_honest b ≡ true) shelf.items }
+        requires prompt { All (λ b. B.is_prompt b ≡ true) shelf.items }
+        requires steady { All (λ b. B.is_steady b ≡ true) shelf.items }
         ensures tables { result.tables ≡ tables }
         ensures count { result.count ≡ count }
         ensures boxes { result.shelf.items ≡ shelf.items }
@@ -137,11 +141,10 @@ impl<B: Backend> World<B> {
             self.new.shelf.items ≡ with_at (stores_of B.meaning self.old.tables self.old.count
             self.old.shelf.items) b.number (stores_of B.meaning self.new.tables self.new.count
             self.new.shelf.items b.number)) }
-        ensures new_loss { IfOk result (λ looked. looked.polled ≡ Lost → looked.is_new ≡
-            not (stores_of B.meaning self.old.tables self.old.count self.old.shelf.items
-            b.number).lost) }
-        ensures looks { IfOk result (λ looked. LooksAt B.meaning B.is_prompt self.old.shelf.items
-            s.number b.number looked.polled) }
+        ensures lost { IfOk result (λ looked. looked.polled ≡ Lost → (stores_of B.meaning
+            self.old.tables self.old.count self.old.shelf.items b.number).lost ≡ true) }
+        ensures looks { IfOk result (λ looked. LooksAt B.meaning B.is_prompt
+            (take self.old.count self.old.shelf.items) s.number b.number looked.polled) }
         ensures rose { IfOk result (λ looked. looked.polled ≡ Lost
             → Rose looked.before looked.after) }
         ensures stopped { OnErr result (MayLookAt self.old.count self.old.rolls s.number b.number
@@ -151,10 +154,8 @@ impl<B: Backend> World<B> {
         if at >= self.count {
             return Err(StepFault::Stopped);
         }
-        let is_new = !self.lost.has(b);
         let roll = &mut self.rolls[at];
-        let looked = poll_at(roll, &mut self.shelf[at], s, is_new)?;
-        self.lost = lost_behind(self.lost, b, &looked.polled);
+        let looked = poll_at(roll, &mut self.shelf[at], s)?;
         Ok(looked)
     }
 

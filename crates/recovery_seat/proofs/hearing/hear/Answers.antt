@@ -1,4 +1,4 @@
-use Rattle.std.proofs.Common.{ap, refl, ◌∙◌}
+use Rattle.std.proofs.Common.{ap, refl}
 use Rattle.session_machine.specs.declared.action.SessionEvent.TheVariants as events
 use Rattle.snapshot_gate.specs.declared.gate.Gate.{Gate}
 use Rattle.online_recovery.specs.Asking.{standing_in}
@@ -45,8 +45,8 @@ returns-in-Answered-clause-speaks g c = λ machine others was same.
     (served c.args.setting.tables.now (stores_of g.B.Backend.meaning world.tables world.count world.shelf.items) (stores_of g.B.Backend.meaning new.tables new.count new.shelf.items) c.args.b c.args.s.number
     c.in_ok-before.field-0.polled c.in-Answered.answer c.in-Answered.is c.in_ok-before.ensures.acts c.in_ok-before.ensures.alone) same
 
-pub returns-in_ok-note_loss-in-Lost-clause-noted : goal.returns-in_ok-note_loss-in-Lost-clause-noted
-returns-in_ok-note_loss-in-Lost-clause-noted g c = λ machine others.
+pub returns-in-Lost-clause-noted : goal.returns-in-Lost-clause-noted
+returns-in-Lost-clause-noted g c = λ machine others.
     let world = c.args.world.now in
     let new = c.poll.new.self in
     let looked = c.in_ok-before.field-0 in
@@ -56,15 +56,15 @@ returns-in_ok-note_loss-in-Lost-clause-noted g c = λ machine others.
     c.miss.result
     (missed_place c.args.setting.tables.now c.args.s others machine
     (shared_of g.B.Backend.meaning world.gate.state world.tables world.count world.shelf.items) (shared_of g.B.Backend.meaning new.gate.state new.tables new.count new.shelf.items)
-    (standing_in c.args.recovery.now) (standing_in c.miss.new.recovery) c.args.book.now.journal c.note_loss.new.book.journal c.miss.new.book.journal
-    c.args.b looked.before looked.after looked.is_new c.miss.result
-    c.in_ok-note_loss-in-Lost.ensures.line c.miss.ensures.is c.miss.ensures.may c.miss.ensures.leads c.miss.ensures.line
+    (standing_in c.args.recovery.now) (standing_in c.miss.new.recovery) c.args.book.now.journal c.miss.new.book.journal
+    c.args.b looked.before looked.after c.miss.result
+    c.miss.ensures.is c.miss.ensures.may c.miss.ensures.leads c.miss.ensures.line
     (ap (λ (gate : Gate). gate.state) c.poll.ensures.gate)
-    (lost_at (stores_of g.B.Backend.meaning world.tables world.count world.shelf.items) (stores_of g.B.Backend.meaning new.tables new.count new.shelf.items) c.args.b.number c.args.s.number looked.polled looked.is_new
-    c.in-Lost.is c.in_ok-before.ensures.acts c.in_ok-before.ensures.alone c.in_ok-before.ensures.pending c.in_ok-before.ensures.new_loss))
+    (lost_at (stores_of g.B.Backend.meaning world.tables world.count world.shelf.items) (stores_of g.B.Backend.meaning new.tables new.count new.shelf.items) c.args.b.number c.args.s.number looked.polled
+    c.in-Lost.is c.in_ok-before.ensures.acts c.in_ok-before.ensures.alone c.in_ok-before.ensures.pending c.in_ok-before.ensures.lost))
 
-pub returns-in_ok-note_loss-in-Lost-clause-speaks : goal.returns-in_ok-note_loss-in-Lost-clause-speaks
-returns-in_ok-note_loss-in-Lost-clause-speaks g c = λ machine others was same.
+pub returns-in-Lost-clause-speaks : goal.returns-in-Lost-clause-speaks
+returns-in-Lost-clause-speaks g c = λ machine others was same.
     let world = c.args.world.now in
     let new = c.poll.new.self in
     let looked = c.in_ok-before.field-0 in
@@ -74,10 +74,10 @@ returns-in_ok-note_loss-in-Lost-clause-speaks g c = λ machine others was same.
     was (record was { lines = c.miss.new.book.lines }) c.miss.result
     (missed_place c.args.setting.tables.now c.args.s others machine
     (shared_of g.B.Backend.meaning world.gate.state world.tables world.count world.shelf.items) (shared_of g.B.Backend.meaning new.gate.state new.tables new.count new.shelf.items)
-    (standing_in c.args.recovery.now) (standing_in c.miss.new.recovery) c.args.book.now.journal c.note_loss.new.book.journal c.miss.new.book.journal
-    c.args.b looked.before looked.after looked.is_new c.miss.result
-    c.in_ok-note_loss-in-Lost.ensures.line c.miss.ensures.is c.miss.ensures.may c.miss.ensures.leads c.miss.ensures.line
+    (standing_in c.args.recovery.now) (standing_in c.miss.new.recovery) c.args.book.now.journal c.miss.new.book.journal
+    c.args.b looked.before looked.after c.miss.result
+    c.miss.ensures.is c.miss.ensures.may c.miss.ensures.leads c.miss.ensures.line
     (ap (λ (gate : Gate). gate.state) c.poll.ensures.gate)
-    (lost_at (stores_of g.B.Backend.meaning world.tables world.count world.shelf.items) (stores_of g.B.Backend.meaning new.tables new.count new.shelf.items) c.args.b.number c.args.s.number looked.polled looked.is_new
-    c.in-Lost.is c.in_ok-before.ensures.acts c.in_ok-before.ensures.alone c.in_ok-before.ensures.pending c.in_ok-before.ensures.new_loss))
-    (same_lines was c.args.book.now.lines c.miss.new.book.lines same (c.miss.ensures.still ∙ c.note_loss.ensures.lines))
+    (lost_at (stores_of g.B.Backend.meaning world.tables world.count world.shelf.items) (stores_of g.B.Backend.meaning new.tables new.count new.shelf.items) c.args.b.number c.args.s.number looked.polled
+    c.in-Lost.is c.in_ok-before.ensures.acts c.in_ok-before.ensures.alone c.in_ok-before.ensures.pending c.in_ok-before.ensures.lost))
+    (same_lines was c.args.book.now.lines c.miss.new.book.lines same c.miss.ensures.still)

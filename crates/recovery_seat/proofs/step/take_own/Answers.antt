@@ -1,4 +1,4 @@
-use Rattle.std.proofs.Common.{◌≡◌, ◌∙◌, ap, sym, subst, w64, rules}
+use Rattle.std.proofs.Common.{◌≡◌, ◌∙◌, ap, sym, subst, take, w64, rules}
 use Rattle.std.specs.Prelude.{ℤ, IfOk}
 use Rattle.std.proofs.lemmas.Int.{to_z-of_z}
 use Rattle.session_machine.specs.declared.action.SessionEvent.TheVariants as events
@@ -47,13 +47,13 @@ returns-in_default-clause-noted g c = λ layout others is.
 pub returns-in-Recovers-clause-due : goal.returns-in-Recovers-clause-due
 returns-in-Recovers-clause-due g c =
     let world = c.args.world.now in
-    order_due g.B.Backend.meaning g.B.Backend.is_prompt c.args.setting.tables.now c.args.setting.moment c.args.place.now.seat world.gate.state world.shelf.items
+    order_due g.B.Backend.meaning g.B.Backend.is_prompt c.args.setting.tables.now c.args.setting.moment c.args.place.now.seat world.gate.state (take world.count world.shelf.items)
     c.in_ok-step.step c.in-Recovers.moment c.in-Recovers.number c.begin.result c.in-Recovers.is c.in_ok-step.ensures.due c.begin.ensures.due
 
 pub returns-in_default-clause-due : goal.returns-in_default-clause-due
 returns-in_default-clause-due g c =
     let world = c.args.world.now in
-    own_due g.B.Backend.meaning g.B.Backend.is_prompt c.args.setting.tables.now c.args.setting.moment c.args.place.now.seat world.gate.state world.shelf.items
+    own_due g.B.Backend.meaning g.B.Backend.is_prompt c.args.setting.tables.now c.args.setting.moment c.args.place.now.seat world.gate.state (take world.count world.shelf.items)
     c.in_ok-step.step c.in_default.not-Recovers c.in_ok-step.ensures.due
 
 pub returns-in-Recovers-clause-speaks : goal.returns-in-Recovers-clause-speaks

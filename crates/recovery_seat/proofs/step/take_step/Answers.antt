@@ -1,4 +1,4 @@
-use Rattle.std.proofs.Common.{refl}
+use Rattle.std.proofs.Common.{refl, take}
 use Rattle.session_engine.specs.Cores.{machine_in}
 use Rattle.session_seat.specs.Policy.{policy_in}
 use Rattle.session_seat.specs.Shared.{shared_of}
@@ -68,5 +68,5 @@ returns-in-Ends-clause-due g c = λ layout rests. absurd (c.pace_of.ensures.busy
 
 pub returns-in-GoesOn-clause-due : goal.returns-in-GoesOn-clause-due
 returns-in-GoesOn-clause-due g c = λ layout rests.
-    never_ok (λ step. IsOwn g.B.Backend.meaning g.B.Backend.is_prompt c.args.setting.tables.now c.args.setting.moment c.args.place.now.seat c.args.world.now.gate.state c.args.world.now.shelf.items step) c.go_on.result
+    never_ok (λ step. IsOwn g.B.Backend.meaning g.B.Backend.is_prompt c.args.setting.tables.now c.args.setting.moment c.args.place.now.seat c.args.world.now.gate.state (take c.args.world.now.count c.args.world.now.shelf.items) step) c.go_on.result
     (c.go_on.ensures.busy layout rests)

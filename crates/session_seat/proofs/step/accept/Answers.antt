@@ -4,15 +4,12 @@ use Rattle.session_machine.specs.Allowed.{MayHappen}
 use Rattle.session_machine.specs.Rules.{after}
 use Rattle.session_engine.specs.declared.session.Core.{Core}
 use Rattle.session_engine.specs.Cores.{machine_in}
-use Rattle.session_seat.specs.Steps.{at}
 use Rattle.session_seat.proofs.step.accept.Goals as goal
 
 pub returns-clause-ordered : goal.returns-clause-ordered
 returns-clause-ordered c = λ shared. (
   record {
     event = events.Ordered c.args.order;
-    between = at shared (machine_in c.args.seat.now.core) c.args.book.now.journal;
-    first = refl;
     moves = record {
       may = subst (λ (core : Core). MayHappen (machine_in core) (events.Ordered c.args.order)) c.note_order.ensures.core c.in_default.ensures.may;
       answered = refl;

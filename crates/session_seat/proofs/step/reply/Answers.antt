@@ -6,7 +6,6 @@ use Rattle.session_seat.specs.Stops.{IsFull, StopsTelling}
 use Rattle.session_machine.specs.declared.action.SessionEvent.TheVariants as events
 use Rattle.session_engine.specs.declared.session.Core.{Core}
 use Rattle.session_engine.specs.Cores.{machine_in}
-use Rattle.session_seat.specs.Steps.{at}
 use Rattle.session_seat.proofs.DueLemmas.{reply_stop}
 use Rattle.session_seat.proofs.StepLemmas.{replied}
 use Rattle.session_seat.proofs.step.reply.Goals as goal
@@ -21,8 +20,6 @@ pub returns-clause-speaks : goal.returns-clause-speaks
 returns-clause-speaks c = λ shared. (
   record {
     event = events.Replied c.reply-outcome.result.0 c.reply-outcome.result.1;
-    between = at shared (machine_in c.args.seat.now.core) c.args.book.now.journal;
-    first = refl;
     moves = record {
       may = sym c.reply-outcome.ensures.reply;
       answered = refl;

@@ -1,4 +1,4 @@
-use Rattle.std.proofs.Common.{◌∙◌, sym}
+use Rattle.std.proofs.Common.{◌∙◌, sym, take}
 use Rattle.session_engine.specs.declared.ask.Ask.TheVariants as asks
 use Rattle.session_seat.specs.Policy.{policy_in}
 use Rattle.session_seat.specs.Stops.{world_view}
@@ -14,7 +14,7 @@ use Rattle.session_seat.proofs.step.take_step.Goals as goal
 
 pub returns-then-seat-clause-due : goal.returns-then-seat-clause-due
 returns-then-seat-clause-due g c =
-    due_over g.B.Backend.meaning g.B.Backend.is_prompt c.args.setting.tables.now c.args.setting.moment c.args.seat.now c.args.world.now.gate.state c.args.world.now.shelf.items c.close.result c.if-seat.true c.close.ensures.closed
+    due_over g.B.Backend.meaning g.B.Backend.is_prompt c.args.setting.tables.now c.args.setting.moment c.args.seat.now c.args.world.now.gate.state (take c.args.world.now.count c.args.world.now.shelf.items) c.close.result c.if-seat.true c.close.ensures.closed
 
 pub returns-then-seat-clause-stopped : goal.returns-then-seat-clause-stopped
 returns-then-seat-clause-stopped g c =
@@ -23,7 +23,7 @@ returns-then-seat-clause-stopped g c =
 
 pub returns-in-Rest-clause-due : goal.returns-in-Rest-clause-due
 returns-in-Rest-clause-due g c =
-    due_by g.B.Backend.meaning g.B.Backend.is_prompt c.args.setting.tables.now c.args.setting.moment c.args.seat.now c.args.world.now.gate.state c.args.world.now.shelf.items asks.Rest c.take_order.result c.if-seat.false
+    due_by g.B.Backend.meaning g.B.Backend.is_prompt c.args.setting.tables.now c.args.setting.moment c.args.seat.now c.args.world.now.gate.state (take c.args.world.now.count c.args.world.now.shelf.items) asks.Rest c.take_order.result c.if-seat.false
     (sym c.asks.ensures.is ∙ c.in-Rest.is) c.take_order.ensures.due
 
 pub returns-in-Rest-clause-stopped : goal.returns-in-Rest-clause-stopped
@@ -34,7 +34,7 @@ returns-in-Rest-clause-stopped g c =
 
 pub returns-in-Gate-clause-due : goal.returns-in-Gate-clause-due
 returns-in-Gate-clause-due g c =
-    due_by g.B.Backend.meaning g.B.Backend.is_prompt c.args.setting.tables.now c.args.setting.moment c.args.seat.now c.args.world.now.gate.state c.args.world.now.shelf.items (asks.Gate c.in-Gate.call) c.call_gate.result c.if-seat.false
+    due_by g.B.Backend.meaning g.B.Backend.is_prompt c.args.setting.tables.now c.args.setting.moment c.args.seat.now c.args.world.now.gate.state (take c.args.world.now.count c.args.world.now.shelf.items) (asks.Gate c.in-Gate.call) c.call_gate.result c.if-seat.false
     (sym c.asks.ensures.is ∙ c.in-Gate.is) c.call_gate.ensures.due
 
 pub returns-in-Gate-clause-stopped : goal.returns-in-Gate-clause-stopped
@@ -45,7 +45,7 @@ returns-in-Gate-clause-stopped g c =
 
 pub returns-in-Post-clause-due : goal.returns-in-Post-clause-due
 returns-in-Post-clause-due g c =
-    due_by g.B.Backend.meaning g.B.Backend.is_prompt c.args.setting.tables.now c.args.setting.moment c.args.seat.now c.args.world.now.gate.state c.args.world.now.shelf.items (asks.Post c.in-Post.b) c.post.result c.if-seat.false
+    due_by g.B.Backend.meaning g.B.Backend.is_prompt c.args.setting.tables.now c.args.setting.moment c.args.seat.now c.args.world.now.gate.state (take c.args.world.now.count c.args.world.now.shelf.items) (asks.Post c.in-Post.b) c.post.result c.if-seat.false
     (sym c.asks.ensures.is ∙ c.in-Post.is) c.post.ensures.due
 
 pub returns-in-Post-clause-stopped : goal.returns-in-Post-clause-stopped
@@ -56,7 +56,7 @@ returns-in-Post-clause-stopped g c =
 
 pub returns-in-WaitFor-clause-due : goal.returns-in-WaitFor-clause-due
 returns-in-WaitFor-clause-due g c =
-    due_by g.B.Backend.meaning g.B.Backend.is_prompt c.args.setting.tables.now c.args.setting.moment c.args.seat.now c.args.world.now.gate.state c.args.world.now.shelf.items (asks.WaitFor c.in-WaitFor.b) c.hear.result c.if-seat.false
+    due_by g.B.Backend.meaning g.B.Backend.is_prompt c.args.setting.tables.now c.args.setting.moment c.args.seat.now c.args.world.now.gate.state (take c.args.world.now.count c.args.world.now.shelf.items) (asks.WaitFor c.in-WaitFor.b) c.hear.result c.if-seat.false
     (sym c.asks.ensures.is ∙ c.in-WaitFor.is) c.hear.ensures.due
 
 pub returns-in-WaitFor-clause-stopped : goal.returns-in-WaitFor-clause-stopped
@@ -67,7 +67,7 @@ returns-in-WaitFor-clause-stopped g c =
 
 pub returns-in-Detach-clause-due : goal.returns-in-Detach-clause-due
 returns-in-Detach-clause-due g c =
-    due_by g.B.Backend.meaning g.B.Backend.is_prompt c.args.setting.tables.now c.args.setting.moment c.args.seat.now c.args.world.now.gate.state c.args.world.now.shelf.items (asks.Detach c.in-Detach.b) c.detach.result c.if-seat.false
+    due_by g.B.Backend.meaning g.B.Backend.is_prompt c.args.setting.tables.now c.args.setting.moment c.args.seat.now c.args.world.now.gate.state (take c.args.world.now.count c.args.world.now.shelf.items) (asks.Detach c.in-Detach.b) c.detach.result c.if-seat.false
     (sym c.asks.ensures.is ∙ c.in-Detach.is) c.detach.ensures.due
 
 pub returns-in-Detach-clause-stopped : goal.returns-in-Detach-clause-stopped
@@ -78,7 +78,7 @@ returns-in-Detach-clause-stopped g c =
 
 pub returns-in-Reply-clause-due : goal.returns-in-Reply-clause-due
 returns-in-Reply-clause-due g c =
-    due_by g.B.Backend.meaning g.B.Backend.is_prompt c.args.setting.tables.now c.args.setting.moment c.args.seat.now c.args.world.now.gate.state c.args.world.now.shelf.items asks.Reply c.reply.result c.if-seat.false
+    due_by g.B.Backend.meaning g.B.Backend.is_prompt c.args.setting.tables.now c.args.setting.moment c.args.seat.now c.args.world.now.gate.state (take c.args.world.now.count c.args.world.now.shelf.items) asks.Reply c.reply.result c.if-seat.false
     (sym c.asks.ensures.is ∙ c.in-Reply.is) c.reply.ensures.due
 
 pub returns-in-Reply-clause-stopped : goal.returns-in-Reply-clause-stopped
@@ -89,7 +89,7 @@ returns-in-Reply-clause-stopped g c =
 
 pub returns-in-End-clause-due : goal.returns-in-End-clause-due
 returns-in-End-clause-due g c =
-    due_by g.B.Backend.meaning g.B.Backend.is_prompt c.args.setting.tables.now c.args.setting.moment c.args.seat.now c.args.world.now.gate.state c.args.world.now.shelf.items asks.End c.end.result c.if-seat.false
+    due_by g.B.Backend.meaning g.B.Backend.is_prompt c.args.setting.tables.now c.args.setting.moment c.args.seat.now c.args.world.now.gate.state (take c.args.world.now.count c.args.world.now.shelf.items) asks.End c.end.result c.if-seat.false
     (sym c.asks.ensures.is ∙ c.in-End.is) c.end.ensures.due
 
 pub returns-in-End-clause-stopped : goal.returns-in-End-clause-stopped

@@ -14,6 +14,8 @@ invariant_of-self g c =
       known = known_lost g.B.Backend.meaning world.tables world.count world.shelf.items world.rolls c.from-at.result c.index_mut.result.now c.lose.new.self world.known (omega arith) world.enough c.index_mut.ensures.value
           c.lose.ensures.lost;
       honest = honest_next g.B.Backend.is_honest world.shelf.items c.from-at.result c.index_mut.result.now c.lose.new.self world.honest (omega (arith, world.enough)) c.index_mut.ensures.value c.lose.ensures.honest;
+      prompt = honest_next g.B.Backend.is_prompt world.shelf.items c.from-at.result c.index_mut.result.now c.lose.new.self world.prompt (omega (arith, world.enough)) c.index_mut.ensures.value c.lose.ensures.prompt;
+      steady = honest_next g.B.Backend.is_steady world.shelf.items c.from-at.result c.index_mut.result.now c.lose.new.self world.steady (omega (arith, world.enough)) c.index_mut.ensures.value c.lose.ensures.steady;
       told = told_lost g.B.Backend.meaning world.lost.bits c.with-self.result.bits world.count world.shelf.items c.from-at.result c.args.b.number c.lose.new.self world.told (omega arith) (omega (arith, world.enough))
           c.with-self.ensures.members (ap (λ (st : Store). st.lost) c.lose.ensures.lost);
       counts = counting_next g.B.Backend.meaning world.tables world.count world.shelf.items c.from-at.result c.index_mut.result.now c.lose.new.self world.counts (omega arith) world.enough c.index_mut.ensures.value

@@ -14,6 +14,8 @@ invariant_of-self g c =
       known = known_next g.B.Backend.meaning world.tables world.count world.shelf.items world.rolls c.from-at.result c.index_mut.result.now c.post_at.new.store c.post_at.new.roll world.known (omega arith) world.enough (omega arith)
           c.index_mut.ensures.value c.post_at.ensures.tables c.post_at.ensures.known;
       honest = honest_next g.B.Backend.is_honest world.shelf.items c.from-at.result c.index_mut.result.now c.post_at.new.store world.honest (omega (arith, world.enough)) c.index_mut.ensures.value c.post_at.ensures.honest;
+      prompt = honest_next g.B.Backend.is_prompt world.shelf.items c.from-at.result c.index_mut.result.now c.post_at.new.store world.prompt (omega (arith, world.enough)) c.index_mut.ensures.value c.post_at.ensures.prompt;
+      steady = honest_next g.B.Backend.is_steady world.shelf.items c.from-at.result c.index_mut.result.now c.post_at.new.store world.steady (omega (arith, world.enough)) c.index_mut.ensures.value c.post_at.ensures.steady;
       told = told_next g.B.Backend.meaning world.lost.bits world.count world.shelf.items c.from-at.result c.index_mut.result.now c.post_at.new.store world.told (omega arith) world.enough c.index_mut.ensures.value c.post_at.ensures.lost;
       counts = counting_next g.B.Backend.meaning world.tables world.count world.shelf.items c.from-at.result c.index_mut.result.now c.post_at.new.store world.counts (omega arith) world.enough c.index_mut.ensures.value
           (counts_same world.tables (g.B.Backend.meaning c.index_mut.result.now) (g.B.Backend.meaning c.post_at.new.store) c.post_at.ensures.next);

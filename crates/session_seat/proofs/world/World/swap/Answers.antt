@@ -1,6 +1,6 @@
 use Rattle.std.proofs.Common.{◌∙◌, List, set, sym, ap, subst, arith}
 use Rattle.std.proofs.lemmas.List.{length-set}
-use Rattle.session_seat.specs.Rolls.{AreBlank, AllCount, AreHonest, AreTold, AreTrue, IsBlank}
+use Rattle.session_seat.specs.Rolls.{AreBlank, AllCount, AreHonest, ArePrompt, AreSteady, AreTold, AreTrue, IsBlank}
 use Rattle.session_seat.specs.Shared.{stores_of}
 use Rattle.session_seat.proofs.BlankLemmas.{is_blank}
 use Rattle.session_seat.proofs.RollLemmas.{honest_next}
@@ -22,6 +22,8 @@ invariant_of-self g c =
       enough = omega (arith, length-set world.shelf.items c.args.spare c.prepare.new.self, world.enough);
       known = known_front world.count world.shelf.items c.args.spare c.prepare.new.self may.behind may.there g.B.Backend.meaning world.tables world.rolls world.known;
       honest = honest_next g.B.Backend.is_honest world.shelf.items c.args.spare c.index_mut.result.now c.prepare.new.self world.honest may.there c.index_mut.ensures.value c.prepare.ensures.honest;
+      prompt = honest_next g.B.Backend.is_prompt world.shelf.items c.args.spare c.index_mut.result.now c.prepare.new.self world.prompt may.there c.index_mut.ensures.value c.prepare.ensures.prompt;
+      steady = honest_next g.B.Backend.is_steady world.shelf.items c.args.spare c.index_mut.result.now c.prepare.new.self world.steady may.there c.index_mut.ensures.value c.prepare.ensures.steady;
       told = told_front world.count world.shelf.items c.args.spare c.prepare.new.self may.behind may.there g.B.Backend.meaning world.lost.bits world.told;
       counts = counting_front world.count world.shelf.items c.args.spare c.prepare.new.self may.behind may.there g.B.Backend.meaning world.tables world.counts;
       blank = blank_front world.count world.shelf.items c.args.spare c.prepare.new.self may.behind may.there g.B.Backend.meaning world.spares world.blank
@@ -52,6 +54,12 @@ invariant_of-self-2 g c =
       honest = subst (λ (xs : List g.row.B.Denot). AreHonest g.B.Backend.is_honest xs) (sym is)
           (honest_swap world.count world.shelf.items at c.args.spare c.prepare.new.self (omega (arith, may.configured)) may.behind may.there g.B.Backend.is_honest c.index_mut.result.now world.honest c.index_mut.ensures.value
           c.prepare.ensures.honest);
+      prompt = subst (λ (xs : List g.row.B.Denot). ArePrompt g.B.Backend.is_prompt xs) (sym is)
+          (honest_swap world.count world.shelf.items at c.args.spare c.prepare.new.self (omega (arith, may.configured)) may.behind may.there g.B.Backend.is_prompt c.index_mut.result.now world.prompt c.index_mut.ensures.value
+          c.prepare.ensures.prompt);
+      steady = subst (λ (xs : List g.row.B.Denot). AreSteady g.B.Backend.is_steady xs) (sym is)
+          (honest_swap world.count world.shelf.items at c.args.spare c.prepare.new.self (omega (arith, may.configured)) may.behind may.there g.B.Backend.is_steady c.index_mut.result.now world.steady c.index_mut.ensures.value
+          c.prepare.ensures.steady);
       told = subst (λ (xs : List g.row.B.Denot). AreTold g.B.Backend.meaning c.without-self.result.bits world.count xs) (sym is)
           (told_swap world.count world.shelf.items at c.args.spare c.prepare.new.self (omega (arith, may.configured)) may.behind may.there g.B.Backend.meaning world.tables world.lost.bits c.without-self.result.bits c.args.b.number
           (omega arith) world.told c.without-self.ensures.members c.in_ok-prepare.ensures.prepared);
