@@ -3,7 +3,7 @@ use Rattle.std.proofs.Common.{Result, Ok, Err, ◌≡◌, ℕ, List, [], ◌∷�
 use Rattle.std.specs.Prelude.{ℤ, Option, OnErr, ◌⊎◌}
 use Rattle.std.proofs.lemmas.List.{append-nil}
 use Rattle.pool_base.specs.Outside.{Appends, AppendsFront}
-use Rattle.pool_base.proofs.Sinking.{front_nothing, front_of_all, front_of_more, front_on}
+use Rattle.pool_base.proofs.Sinking.{front_of_more, front_on}
 use Rattle.pool_config.specs.declared.config.Config.{Config}
 use Rattle.pool_config.specs.declared.config.Node.{Node}
 use Rattle.schema.specs.declared.catalogue.TableDef.{TableDef}
@@ -15,9 +15,9 @@ use Rattle.session_seat.specs.declared.book.Journal.TheVariants.{On}
 use Rattle.session_seat.specs.Shared.{Shared}
 use Rattle.recovery_seat.specs.Schedule.{Entry}
 use Rattle.session_player.specs.Written.{echo_of}
-use Rattle.session_player.specs.Speaking.{AllHappen, Board, Happening, entries_of}
+use Rattle.session_player.specs.Speaking.{AllHappen, Board, Happening, LoseNone, entries_of}
 use Rattle.session_player.specs.Stillness.{AllStill}
-use Rattle.session_player.specs.Transcript.{AreTold, IsEnd, Part, Scene, all_ended, first_scene}
+use Rattle.session_player.specs.Transcript.{AreTold, Part, Scene, all_ended, first_scene}
 use Rattle.session_player.specs.BrokenOff.{AreTellingOn, HasEndFront, HasPartFront, IsBrokenOff, IsCutShort, IsEndFront, IsJournalFront, IsPartFront, at_end, before_all, before_end, in_part, of_echo, of_end, of_journal, of_part}
 use Rattle.session_player.proofs.Parts.{Tracks, all_tracks, entries_on, part_tracks, told_tracks, tracks_at, tracks_none_of, tracks_on}
 
@@ -78,16 +78,16 @@ end_none config tables old a = ([], old.board, before_end refl refl refl)
 
 -- the rounds of the end
 abbrev pub HasEnded : Config → List TableDef → Scene → Board → Type 0
-HasEnded config tables old last = (happenings : List Happening) × AllHappen tables old.moment config.nodes (all_ended old.board) happenings last
+HasEnded config tables old last = (happenings : List Happening) × AllHappen tables old.moment config.nodes (all_ended old.board) happenings last × LoseNone happenings
 
 pub end_told : (config : Config) (tables : List TableDef) (old : Scene) (last : Board) (a b : Option (List ℕ)) → HasEnded config tables old last → AppendsFront a b last.lines → HasEndFront config tables old a b
-end_told config tables old last a b (happenings, rounds) front = (happenings, last, of_end rounds front)
+end_told config tables old last a b (happenings, rounds, kept) front = (happenings, last, of_end rounds kept front)
 
 pub end_put : (config : Config) (tables : List TableDef) (old : Scene) (last : Board) (a b c : Option (List ℕ)) → HasEnded config tables old last → AllStill last → Appends a b last.lines → IsJournalFront config tables last.journal b c ⊎ (c ≡ b)
     → HasEndFront config tables old a c
-end_put config tables old last a b c (happenings, rounds) still wrote (inl front) = (happenings, last, of_journal b (record { rounds = rounds; still = still; wrote = wrote }) front)
-end_put config tables old last a b c (happenings, rounds) still wrote (inr same) =
-    (happenings, last, of_end rounds (subst (λ (z : Option (List ℕ)). AppendsFront a z last.lines) (sym same) (whole_front a b last.lines wrote)))
+end_put config tables old last a b c (happenings, rounds, kept) still wrote (inl front) = (happenings, last, of_journal b (record { rounds = rounds; kept = kept; still = still; wrote = wrote }) front)
+end_put config tables old last a b c (happenings, rounds, kept) still wrote (inr same) =
+    (happenings, last, of_end rounds kept (subst (λ (z : Option (List ℕ)). AppendsFront a z last.lines) (sym same) (whole_front a b last.lines wrote)))
 
 -- All of a play.
 
@@ -101,7 +101,7 @@ end_front_tracks : (config : Config) (tables : List TableDef) (old : Scene) (las
     → Tracks tables old.board (entries_of happenings) last
 end_front_tracks config tables old last a b happenings (before_end none same kept) =
     tracks_none_of tables old.board last happenings none (ap (λ (z : Board). z.state) same) (ap (λ (z : Board). z.journal) same)
-end_front_tracks config tables old last a b happenings (of_end rounds front) =
+end_front_tracks config tables old last a b happenings (of_end rounds kept front) =
     tracks_at tables old.board (all_ended old.board) last (entries_of happenings) refl refl (all_tracks tables old.moment config.nodes (all_ended old.board) last happenings rounds)
 end_front_tracks config tables old last a b happenings (of_journal c ends front) =
     tracks_at tables old.board (all_ended old.board) last (entries_of happenings) refl refl (all_tracks tables old.moment config.nodes (all_ended old.board) last happenings ends.rounds)

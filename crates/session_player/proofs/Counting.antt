@@ -1,5 +1,5 @@
 -- How many clients are connected, and what a line does of them.
-use Rattle.std.proofs.Common.{◌≡◌, ℕ, zero, suc, ◌+◌, ◌<◌, ◌≤◌, Bool, true, false, List, [], ◌++◌, length, get_or, set, refl, sym, ap, ◌∙◌, subst, inl, inr, arith}
+use Rattle.std.proofs.Common.{◌≡◌, ℕ, zero, suc, ◌+◌, ◌<◌, ◌≤◌, Bool, true, false, List, ◌++◌, length, get_or, set, refl, sym, ap, ◌∙◌, subst, inl, inr, arith}
 use Rattle.std.specs.Prelude.{Option, Some, None, is_some, codes, if◌then◌else◌}
 use Rattle.std.proofs.lemmas.Bool.Decides.{eqb_tells, leb_tells}
 use Rattle.std.proofs.lemmas.List.{get_or-set_same, get_or-set_other, get_or_past}
@@ -7,13 +7,13 @@ use Rattle.pool_base.specs.declared.session_id.SessionId.{SessionId}
 use Rattle.backend_trait.specs.Rows.{with_at}
 use Rattle.session_wire.specs.Shown.{View, IsFresh}
 use Rattle.session_seat.specs.Speech.{closed_line, message_line, no_place, word_line}
-use Rattle.session_player.specs.declared.slots.Client.{Client}
+use Rattle.session_player.specs.declared.client.Client.{Client}
 use Rattle.session_player.specs.declared.slots.Slot.{Slot}
 use Rattle.session_player.specs.declared.slots.Slot.TheVariants.{Free, Taken}
 use Rattle.session_player.specs.declared.deed.Wish.{Wish}
 use Rattle.session_player.specs.Slots.{is_taken}
 use Rattle.session_player.specs.Speaking.{Hearer, hearer_in, hearer_of, hearers_of}
-use Rattle.session_player.specs.Transcript.{Addresses, Connects, IsGranted, busy, count_to, full, gone, heard, input_ended, joined, joins, wished}
+use Rattle.session_player.specs.Transcript.{Addresses, Connects, IsGranted, busy, count_to, full, gone, heard, input_ended, joined, joins}
 use Rattle.session_player.proofs.Going.{slot_read}
 use Rattle.session_player.proofs.Speaking.{hears_at, hears_self, hears_set}
 

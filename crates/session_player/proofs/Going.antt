@@ -2,7 +2,7 @@
 use mathlib.Core.HLevel.{is_prop→PathP}
 use native.Mathlib.Bridge.{le_prop}
 use Rattle.std.proofs.Common.{Result, Ok, Err, ◌≡◌, ℕ, suc, ◌<◌, ◌≤◌, ◌-◌, ◌==◌, Bool, true, false, List, [], ◌∷◌, ◌++◌, length, take, get_or, set, refl, sym, ap, ◌∙◌, subst, inl, inr, append_assoc, arith}
-use Rattle.std.specs.Prelude.{Option, Some, OnOk, ◌⊎◌, if◌then◌else◌}
+use Rattle.std.specs.Prelude.{Option, Some, OnOk, if◌then◌else◌}
 use Rattle.std.proofs.lemmas.Bool.Decides.{eqb_tells}
 use Rattle.std.proofs.lemmas.List.{append-nil, take-append-le, get_or-set_same, get_or-set_other}
 use Rattle.std.proofs.lemmas.Option.{slice_get_read, get_or_from_slice_get}
@@ -29,8 +29,8 @@ use Rattle.session_seat.specs.Told.{added}
 use Rattle.session_seat.specs.Schedule.{with_machine}
 use Rattle.recovery_seat.specs.Places.{IsLayout, standing_of}
 use Rattle.recovery_seat.specs.Schedule.{Entry, State, Comes, IsSchedule, told, lines, with_standing}
-use Rattle.recovery_seat.specs.Steps.{Fits, IsAt, IsStep, RecoversAt, Stand, at, state}
-use Rattle.session_player.specs.declared.slots.Client.{Client}
+use Rattle.recovery_seat.specs.Steps.{Fits, IsAt, IsStep, RecoversAt, Stand, state}
+use Rattle.session_player.specs.declared.client.Client.{Client}
 use Rattle.session_player.specs.declared.slots.Slot.{Slot}
 use Rattle.session_player.specs.declared.slots.Slot.TheVariants.{Free, Taken}
 use Rattle.session_player.specs.Slots.{is_taken}

@@ -10,3 +10,4 @@ pub mod Counting
 pub mod Losing
 pub mod Breaking
 pub mod Stilling
+pub mod Resting

@@ -5,7 +5,6 @@ use Rattle.std.proofs.lemmas.List.{append-nil}
 use Rattle.pool_base.specs.Outside.{Appends}
 use Rattle.pool_base.proofs.Sinking.{appends_on}
 use Rattle.pool_base.specs.declared.backend_id.BackendId.{BackendId}
-use Rattle.pool_base.specs.declared.session_id.SessionId.{SessionId}
 use Rattle.pool_config.specs.declared.config.Config.{Config}
 use Rattle.pool_config.specs.declared.config.Node.{Node}
 use Rattle.schema.specs.declared.catalogue.TableDef.{TableDef}
@@ -26,7 +25,7 @@ use Rattle.session_player.specs.Deeds.{IsDeedOf}
 use Rattle.session_player.specs.Journals.{IsPut, IsShort, machine_in_slot, machines_of, standing_in_slot, standings_of, state_of}
 use Rattle.session_player.specs.Written.{ArePlayed, AreParts, echo_of}
 use Rattle.session_player.specs.Stillness.{AllStill, goes_round}
-use Rattle.session_player.specs.Speaking.{AllHappen, Board, Event, Happening, Rest, Close, Spoke, board_of, entries_of, hearer_in, hearers_of}
+use Rattle.session_player.specs.Speaking.{AllHappen, Board, Event, Happening, LoseNone, Rest, Close, Spoke, board_of, entries_of, hearer_in, hearers_of}
 use Rattle.session_player.specs.Transcript.{AreTold, Does, IsEnd, IsTold, IsTranscript, LosesOne, Part, Scene, again, all_ended, cleared, first_scene, input_ended, lost, scene_of, unknown}
 use Rattle.session_player.proofs.Going.{added_none, added_on, lines_on, schedule_on}
 
@@ -185,13 +184,13 @@ Did tables nodes children count line old mid = (deed : Deed) × IsDeedOf line de
 pub part_alone : (tables : List TableDef) (nodes : List Node) (children count : ℕ) (line : Line) (old mid : Scene) → Did tables nodes children count line old mid → (goes_round line ≡ true → AllStill mid.board)
     → (happenings : List Happening) × Part tables nodes children count line old happenings mid
 part_alone tables nodes children count line old mid (deed, is, before, does) still =
-    (before, record { deed = deed; is = is; before = before; mid = mid; does = does; behind = []; rounds = refl; moment = refl; all = sym (append-nil before); still = still })
+    (before, record { deed = deed; is = is; before = before; mid = mid; does = does; behind = []; rounds = refl; kept = tt; moment = refl; all = sym (append-nil before); still = still })
 
 part_then : (tables : List TableDef) (nodes : List Node) (children count : ℕ) (line : Line) (old mid : Scene) (last : Board) → Did tables nodes children count line old mid → Spoke tables mid.moment nodes mid.board last
     → (goes_round line ≡ true → AllStill last)
     → (happenings : List Happening) × Part tables nodes children count line old happenings (record { moment = mid.moment; board = last })
-part_then tables nodes children count line old mid last (deed, is, before, does) (behind, rounds) still =
-    (before ++ behind, record { deed = deed; is = is; before = before; mid = mid; does = does; behind = behind; rounds = rounds; moment = refl; all = refl; still = still })
+part_then tables nodes children count line old mid last (deed, is, before, does) (behind, rounds, kept) still =
+    (before ++ behind, record { deed = deed; is = is; before = before; mid = mid; does = does; behind = behind; rounds = rounds; kept = kept; moment = refl; all = refl; still = still })
 
 -- what is played behind something reads the same tables and configuration
 pub part_rounds : (tables used : List TableDef) (config read : Config) (layout : Layout) (count : ℕ) (line : Line) (old : Scene) (g h : Shared) (moment shown : ℤ) (xs ys : List Slot) (before last : Book) → used ≡ tables → read ≡ config
@@ -239,7 +238,7 @@ scene_first config layout shared moment journal free book none begins empty = λ
 pub end_rounds : (tables used : List TableDef) (config read : Config) (layout : Layout) (g h : Shared) (moment shown : ℤ) (xs ys zs : List Slot) (before last : Book) → used ≡ tables → read ≡ config → shown ≡ moment
     → machines_of (policy_in config) ys ≡ machines_of (policy_in config) xs → standings_of layout ys ≡ standings_of layout xs → ((n : ℕ) → hearers_of ys n ≡ input_ended (hearers_of xs n))
     → Spoke used shown read.nodes (board_of (policy_in read) layout g ys before) (board_of (policy_in read) layout h zs last)
-    → (happenings : List Happening) × AllHappen tables moment config.nodes (all_ended (board_of (policy_in config) layout g xs before)) happenings (board_of (policy_in config) layout h zs last)
+    → (happenings : List Happening) × AllHappen tables moment config.nodes (all_ended (board_of (policy_in config) layout g xs before)) happenings (board_of (policy_in config) layout h zs last) × LoseNone happenings
 end_rounds tables used config read layout g h moment shown xs ys zs before last same own clock machines standings hearers spoke =
     let policy = policy_in config in
     let freed : board_of policy layout g ys before ≡ all_ended (board_of policy layout g xs before) = (λ i. record {

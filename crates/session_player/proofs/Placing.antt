@@ -11,6 +11,17 @@ placed_at before (first ∷ slots) zero slot are below is =
 placed_at before (first ∷ slots) (suc i) slot are below is =
     let next : suc before + i ≡ before + suc i = omega arith in subst (λ n. IsPlaced n slot) next (placed_at (suc before) slots i slot are.1 (omega arith) is)
 
+placed_from : (before i : ℕ) (slots : List Slot) → ArePlaced before slots → IsPlaced (before + i) (get_or slots i Free)
+placed_from before i [] are = tt
+placed_from before zero (first ∷ slots) are =
+    let here : before ≡ before + zero = omega arith in subst (λ n. IsPlaced n first) here are.0
+placed_from before (suc i) (first ∷ slots) are =
+    let next : suc before + i ≡ before + suc i = omega arith in subst (λ n. IsPlaced n (get_or slots i Free)) next (placed_from (suc before) i slots are.1)
+
+-- behind the last slot none is taken
+pub placed_or : (slots : List Slot) (i : ℕ) → ArePlaced 0 slots → IsPlaced i (get_or slots i Free)
+placed_or slots i are = let here : 0 + i ≡ i = omega arith in subst (λ n. IsPlaced n (get_or slots i Free)) here (placed_from 0 i slots are)
+
 placed_set : (before : ℕ) (slots : List Slot) (i : ℕ) (slot : Slot) → ArePlaced before slots → IsPlaced (before + i) slot → ArePlaced before (set slots i slot)
 placed_set before [] i slot are at = tt
 placed_set before (first ∷ slots) zero slot are at =

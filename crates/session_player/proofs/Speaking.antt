@@ -1,6 +1,6 @@
 -- What clients are told, one thing behind another: of one session wherever the others stand, and of all.
 use Rattle.std.proofs.Common.{◌≡◌, ◌≢◌, ℕ, suc, zero, ◌<◌, ◌-◌, ◌==◌, Bool, true, false, List, [], ◌∷◌, ◌++◌, length, get_or, set, refl, sym, ap, ◌∙◌, subst, inl, inr, arith}
-use Rattle.std.specs.Prelude.{ℤ, Option, Some, None, ◌⊎◌, if◌then◌else◌}
+use Rattle.std.specs.Prelude.{ℤ, Option, Some, None, if◌then◌else◌}
 use Rattle.std.proofs.lemmas.Bool.Decides.{eqb_tells}
 use Rattle.std.proofs.lemmas.List.{get_or-set_same, get_or-set_other}
 use Rattle.pool_base.specs.declared.session_id.SessionId.{SessionId}
@@ -23,19 +23,19 @@ use Rattle.session_seat.specs.Shared.{Shared}
 use Rattle.session_seat.specs.Schedule.{with_machine}
 use Rattle.session_seat.specs.Speech as spoken
 use Rattle.session_seat.specs.Speech.{Speech}
-use Rattle.recovery_seat.specs.Schedule.{Entry, State, Of, Recovers, Loses, Comes, told, with_standing}
+use Rattle.recovery_seat.specs.Schedule.{Entry, Of, Recovers, Loses, told, with_standing}
 use Rattle.recovery_seat.specs.Places.{standing_of}
-use Rattle.recovery_seat.specs.Steps.{Fits, IsSeen, Stand, Stays, TookPlace, at, state}
+use Rattle.recovery_seat.specs.Steps.{Fits, Stand, Stays, at, state}
 use Rattle.recovery_seat.specs.Speech.{RecoverySays, SaysAt, Speaks}
 use Rattle.session_player.specs.declared.round.TurnEnd.{TurnEnd}
 use Rattle.session_player.specs.declared.round.TurnEnd.TheVariants as ends
-use Rattle.session_player.specs.declared.slots.Client.{Client}
+use Rattle.session_player.specs.declared.client.Client.{Client}
 use Rattle.session_player.specs.declared.slots.Slot.{Slot}
 use Rattle.session_player.specs.declared.slots.Slot.TheVariants.{Free, Taken}
 use Rattle.session_player.specs.Slots.{IsPlaced}
 use Rattle.session_player.specs.Turns.{EndsBehind}
 use Rattle.session_player.specs.Journals.{machine_in_slot, machines_of, standing_in_slot, standings_of, state_of}
-use Rattle.session_player.specs.Speaking.{AllHappen, Board, Event, Happening, Happens, Hearer, Rest, Close, SpokeAlone, Spoke, Spot, Tells, TellsOf, board, hearer_by, hearer_in, hearer_of, hearers_of, left_at, left_by, spot}
+use Rattle.session_player.specs.Speaking.{AllHappen, Board, Event, Happening, Hearer, IsNoLoss, LoseNone, Rest, Close, SpokeAlone, Spoke, Spot, Tells, TellsOf, board, hearer_by, hearer_in, hearer_of, hearers_of, left_at, left_by, spot}
 use Rattle.session_player.proofs.Going.{ComesAlone, fits_on, own_here, same_session, set_at, slot_read, with_here, with_self, with_twice}
 
 -- One thing behind another.
@@ -44,11 +44,15 @@ all_on : (tables : List TableDef) (moment : ℤ) (nodes : List Node) (a b c : Bo
 all_on tables moment nodes a b c [] ys is more = subst (λ z. AllHappen tables moment nodes z ys c) is more
 all_on tables moment nodes a b c (x ∷ xs) ys (mid, here, is) more = (mid, here, all_on tables moment nodes mid b c xs ys is more)
 
+none_on : (xs ys : List Happening) → LoseNone xs → LoseNone ys → LoseNone (xs ++ ys)
+none_on [] ys kept left = left
+none_on (x ∷ xs) ys kept left = (kept.0, none_on xs ys kept.1 left)
+
 pub spoke_none : (tables : List TableDef) (moment : ℤ) (nodes : List Node) (a b : Board) → b ≡ a → Spoke tables moment nodes a b
-spoke_none tables moment nodes a b same = ([], same)
+spoke_none tables moment nodes a b same = ([], same, tt)
 
 pub spoke_on : (tables : List TableDef) (moment : ℤ) (nodes : List Node) (a b c : Board) → Spoke tables moment nodes a b → Spoke tables moment nodes b c → Spoke tables moment nodes a c
-spoke_on tables moment nodes a b c (xs, is) (ys, more) = (xs ++ ys, all_on tables moment nodes a b c xs ys is more)
+spoke_on tables moment nodes a b c (xs, is, kept) (ys, more, left) = (xs ++ ys, all_on tables moment nodes a b c xs ys is more, none_on xs ys kept left)
 
 -- One client among all.
 
@@ -90,6 +94,7 @@ module _ (tables : List TableDef) (moment : ℤ) (nodes : List Node) (s : Sessio
   alone_stays old new hearer had has stays same machines recoveries hearers is stands hears fits = (
     [],
     λ i. record { state = same_state old new machines recoveries stays is stands i; hearers = hears_self hearers s.number hearer hears i; journal = stays.journal i; lines = same i },
+    tt,
   )
 
   pub alone_none : (stand : Stand) (hearer : Option Hearer) (lines : List ℕ) → SpokeAlone tables moment nodes s others (spot stand hearer lines) (spot stand hearer lines)
@@ -114,27 +119,6 @@ module _ (tables : List TableDef) (moment : ℤ) (nodes : List Node) (s : Sessio
       (board (state c.stand.shared (with_machine machines s c.stand.machine) (with_standing recoveries s c.stand.standing)) (with_at hearers s.number c.hearer) c.stand.journal c.lines)
       (one machines recoveries hearers is stands hears fits) (subst (Spoke tables moment nodes first) same last)
 
-  -- a backend is lost before
-  alone_seen : (entry : Entry) (old new : Stand) (hearer : Option Hearer) (lines : List ℕ) → IsSeen entry old new → SpokeAlone tables moment nodes s others (spot old hearer lines) (spot new hearer lines)
-  alone_seen entry old new hearer lines seen machines recoveries hearers own stands hears fits = (
-    Event (Loses seen.b) ∷ [],
-    (
-      board (state new.shared (with_machine machines s new.machine) (with_standing recoveries s new.standing)) (with_at hearers s.number hearer) new.journal lines,
-      (
-        record {
-          comes = record {
-            loss = seen.loss;
-            machines = ap (with_machine machines s) seen.machine ∙ with_self machines s old.machine own;
-            recoveries = ap (with_standing recoveries s) seen.standing ∙ with_self recoveries s old.standing stands;
-          };
-          tells = seen.tells;
-        },
-        (hears_self hearers s.number hearer hears, refl),
-      ),
-      refl,
-    ),
-  )
-
 module _ (tables : List TableDef) (moment : ℤ) (nodes : List Node) (s : SessionId) (others : ℕ) (turn : Turn) where
   -- it has nothing to do
   alone_rests : (old new : Stand) (was is : Speech) → Stays old new → spoken.Asks tables moment s.number was wires.NeedInput is
@@ -149,6 +133,7 @@ module _ (tables : List TableDef) (moment : ℤ) (nodes : List Node) (s : Sessio
       ),
       refl,
     ),
+    (tt, tt),
   )
 
   -- it is closed
@@ -164,6 +149,7 @@ module _ (tables : List TableDef) (moment : ℤ) (nodes : List Node) (s : Sessio
       ),
       refl,
     ),
+    (tt, tt),
   )
 
   -- an entry comes
@@ -193,24 +179,21 @@ module _ (tables : List TableDef) (moment : ℤ) (nodes : List Node) (s : Sessio
       })
   tells_of (Loses b) was is old new says hears had has hearers = absurd says
 
+  no_loss : (entry : Entry) (was is : Speech) → SaysAt tables moment nodes s was entry is → IsNoLoss (Event entry)
+  no_loss (Of t event) was is says = tt
+  no_loss (Recovers t event) was is says = tt
+  no_loss (Loses b) was is says = absurd says
+
   alone_told : (entry : Entry) (old new : Stand) (was is : Speech) → ComesAlone tables s others old entry new → new.journal ≡ added old.journal (told tables entry) → SaysAt tables moment nodes s was entry is
       → SpokeAlone tables moment nodes s others (spot old (Some (hearer_by turn was)) was.lines) (spot new (Some (hearer_by turn is)) is.lines)
   alone_told entry old new was is comes tells says machines recoveries hearers own stands hears fits =
       let first : Board = board (state old.shared machines recoveries) hearers old.journal was.lines in
       let last : Board = board (state new.shared (with_machine machines s new.machine) (with_standing recoveries s new.standing)) (with_at hearers s.number (Some (hearer_by turn is))) new.journal is.lines in
-      (Event entry ∷ [], (last, (record { comes = comes machines recoveries own stands fits; tells = tells }, tells_of entry was is first last says hears refl refl refl), refl))
-
-  alone_from : (old mid new : Stand) (was is : Speech) (entry : Entry) → (mid ≡ old) ⊎ IsSeen entry old mid → ComesAlone tables s others mid entry new → new.journal ≡ added mid.journal (told tables entry)
-      → SaysAt tables moment nodes s was entry is → SpokeAlone tables moment nodes s others (spot old (Some (hearer_by turn was)) was.lines) (spot new (Some (hearer_by turn is)) is.lines)
-  alone_from old mid new was is entry (inl same) comes tells says =
-      subst (λ (z : Stand). SpokeAlone tables moment nodes s others (spot z (Some (hearer_by turn was)) was.lines) (spot new (Some (hearer_by turn is)) is.lines)) same (alone_told entry mid new was is comes tells says)
-  alone_from old mid new was is entry (inr seen) comes tells says =
-      alone_on tables moment nodes s others (spot old (Some (hearer_by turn was)) was.lines) (spot mid (Some (hearer_by turn was)) was.lines) (spot new (Some (hearer_by turn is)) is.lines) (alone_seen tables moment nodes s others entry old mid (Some (hearer_by turn was)) was.lines seen)
-      (alone_told entry mid new was is comes tells says)
+      (Event entry ∷ [], (last, (record { comes = comes machines recoveries own stands fits; tells = tells }, tells_of entry was is first last says hears refl refl refl), refl), (no_loss entry was is says, tt))
 
   pub alone_step : (policy : ReadPolicy) (layout : Layout) (old new : Stand) (was is : Speech) (step : Step) → Speaks tables moment nodes policy layout s others old was step new is
       → SpokeAlone tables moment nodes s others (spot old (Some (hearer_by turn was)) was.lines) (spot new (left_by step (hearer_by turn is)) is.lines)
-  alone_step policy layout old new was is (steps.Did mark) speaks = alone_from old speaks.0.between new was is speaks.0.entry speaks.0.first speaks.0.comes speaks.0.tells speaks.1
+  alone_step policy layout old new was is (steps.Did mark) speaks = alone_told speaks.0.entry old new was is speaks.0.comes speaks.0.tells speaks.1
   alone_step policy layout old new was is steps.Waits speaks =
       subst (λ (z : Speech). SpokeAlone tables moment nodes s others (spot old (Some (hearer_by turn was)) was.lines) (spot new (Some (hearer_by turn z)) z.lines)) (sym speaks.1)
       (alone_stays tables moment nodes s others old new (Some (hearer_by turn was)) was.lines was.lines speaks.0 refl)

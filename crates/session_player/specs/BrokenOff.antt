@@ -13,7 +13,7 @@ use Rattle.session_seat.specs.Policy.{policy_in}
 use Rattle.session_seat.specs.Shared.{Shared}
 use Rattle.recovery_seat.specs.Schedule.{IsSchedule, first_state}
 use Rattle.session_player.specs.Written.{echo_of}
-use Rattle.session_player.specs.Speaking.{AllHappen, Board, Happening, entries_of}
+use Rattle.session_player.specs.Speaking.{AllHappen, Board, Happening, LoseNone, entries_of}
 use Rattle.session_player.specs.Transcript.{AreTold, IsEnd, Part, Scene, all_ended, first_scene}
 
 -- of the part of a line a front was written: of its echo; or of its echo and what is told in it
@@ -46,7 +46,7 @@ IsJournalFront config tables (On kept) old new = (header : List ℕ) × IsHeader
 -- behind all parts a front was written of what is told at the end; or this, and a front of the journal
 pub data IsEndFront (config : Config) (tables : List TableDef) (old : Scene) (a : Option (List ℕ)) (happenings : List Happening) (last : Board) (b : Option (List ℕ)) : Type 0 where
   before_end : happenings ≡ [] → last ≡ old.board → b ≡ a → IsEndFront config tables old a happenings last b
-  of_end : AllHappen tables old.moment config.nodes (all_ended old.board) happenings last → AppendsFront a b last.lines → IsEndFront config tables old a happenings last b
+  of_end : AllHappen tables old.moment config.nodes (all_ended old.board) happenings last → LoseNone happenings → AppendsFront a b last.lines → IsEndFront config tables old a happenings last b
   of_journal : (c : Option (List ℕ)) → IsEnd tables config.nodes old a happenings last c → IsJournalFront config tables last.journal c b → IsEndFront config tables old a happenings last b
 
 abbrev pub HasEndFront : Config → List TableDef → Scene → Option (List ℕ) → Option (List ℕ) → Type 0

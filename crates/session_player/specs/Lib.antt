@@ -4,6 +4,7 @@ pub mod Times
 pub mod Sent
 pub mod Marks
 pub mod Slots
+pub mod Resting
 pub mod Turns
 pub mod Written
 pub mod Journals

@@ -32,8 +32,3 @@ ArePlaced-prop before (slot ∷ slots) = ×_prop (IsPlaced-prop before slot) (Ar
 abbrev pub IsHeld : Slot → Type 0
 IsHeld Free = ⊥
 IsHeld (Taken client) = client.place.seat.turn ≡ Held
-
--- the slot is free, or of a session that is held
-abbrev pub IsHeldOrFree : Slot → Type 0
-IsHeldOrFree Free = Unit {0}
-IsHeldOrFree (Taken client) = client.place.seat.turn ≡ Held

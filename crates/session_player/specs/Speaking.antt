@@ -127,8 +127,21 @@ abbrev pub AllHappen : List TableDef → ℤ → List Node → Board → List Ha
 AllHappen tables moment nodes old [] new = new ≡ old
 AllHappen tables moment nodes old (happening ∷ more) new = (mid : Board) × Happens tables moment nodes happening old mid × AllHappen tables moment nodes mid more new
 
+-- no backend is lost
+abbrev pub IsNoLoss : Happening → Type 0
+IsNoLoss (Event (Of s event)) = Unit {0}
+IsNoLoss (Event (Recovers s event)) = Unit {0}
+IsNoLoss (Event (Loses b)) = ⊥
+IsNoLoss (Rest s) = Unit {0}
+IsNoLoss (Close s) = Unit {0}
+
+abbrev pub LoseNone : List Happening → Type 0
+LoseNone [] = Unit {0}
+LoseNone (happening ∷ more) = IsNoLoss happening × LoseNone more
+
+-- steps of sessions lose no backend
 abbrev pub Spoke : List TableDef → ℤ → List Node → Board → Board → Type 0
-Spoke tables moment nodes old new = (happenings : List Happening) × AllHappen tables moment nodes old happenings new
+Spoke tables moment nodes old new = (happenings : List Happening) × AllHappen tables moment nodes old happenings new × LoseNone happenings
 
 -- One session.
 

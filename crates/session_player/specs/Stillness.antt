@@ -4,7 +4,8 @@ use Rattle.pool_base.specs.declared.session_id.SessionId.{SessionId}
 use Rattle.pool_base.specs.declared.gate_call.GateAnswer.TheVariants as answers
 use Rattle.pgproto.specs.Line.{Line, hold, until}
 use Rattle.pgproto.specs.declared.line.Mark.{Mark}
-use Rattle.snapshot_gate.specs.declared.state.GateState.{GateState}
+use Rattle.backend_trait.specs.declared.answer.Polled.TheVariants as polls
+use Rattle.backend_trait.specs.Acts.{IsPromptly}
 use Rattle.snapshot_gate.specs.Function as gates
 use Rattle.session_machine.specs.declared.machine.Machine.{Machine}
 use Rattle.session_machine.specs.Rules.{next_action}
@@ -19,6 +20,7 @@ use Rattle.online_recovery.specs.declared.layout.Layout.{Layout}
 use Rattle.online_recovery.specs.declared.standing.Standing.{Standing}
 use Rattle.online_recovery.specs.Rules.{next_action as recovery_action}
 use Rattle.session_seat.specs.declared.seat.Turn.TheVariants.{Held}
+use Rattle.session_seat.specs.Shared.{Shared}
 use Rattle.recovery_seat.specs.Places.{standing_of}
 use Rattle.session_player.specs.declared.round.TurnEnd.{TurnEnd}
 use Rattle.session_player.specs.declared.round.TurnEnd.TheVariants as ends
@@ -26,21 +28,22 @@ use Rattle.session_player.specs.declared.slots.Slot.{Slot}
 use Rattle.session_player.specs.declared.slots.Slot.TheVariants.{Free, Taken}
 use Rattle.session_player.specs.Speaking.{Board, Hearer}
 
--- a session that rests has no whole message of its client left, one that calls the gate is held off, and one may wait for the answer of a
--- backend. What else it asks for is done at once
-abbrev pub IsStill : GateState → View → Ask → Type 0
-IsStill gate view asks.Rest = IsWaiting view
-IsStill gate view (asks.Gate call) = (count : ℕ) × ((gates.step gate call).1 ≡ answers.Held count)
-IsStill gate view (asks.WaitFor b) = Unit {0}
-IsStill gate view (asks.Post b) = ⊥
-IsStill gate view (asks.Detach b) = ⊥
-IsStill gate view asks.Reply = ⊥
-IsStill gate view asks.End = ⊥
+-- a session that rests has no whole message of its client left, and one that calls the gate is held off. One that waits for a backend has
+-- there a statement, or the lock of a table, that has to wait for what another session holds; the backend is not lost, and the waiting
+-- closes no cycle. What else it asks for is done at once
+abbrev pub IsStill : Shared → ℕ → View → Ask → Type 0
+IsStill shared s view asks.Rest = IsWaiting view
+IsStill shared s view (asks.Gate call) = (count : ℕ) × ((gates.step shared.gate call).1 ≡ answers.Held count)
+IsStill shared s view (asks.WaitFor b) = IsPromptly (shared.stores b.number) s polls.NotYet
+IsStill shared s view (asks.Post b) = ⊥
+IsStill shared s view (asks.Detach b) = ⊥
+IsStill shared s view asks.Reply = ⊥
+IsStill shared s view asks.End = ⊥
 
 -- a session whose recovery is not under way is not over, and stands still
-abbrev pub StandsStill : GateState → Machine → Standing → View → Bool → Type 0
-StandsStill gate machine standing view over =
-    recovery_action standing ≡ recoveries.Rest → (over ≡ false) × IsStill gate view (asked_of (next_action machine))
+abbrev pub StandsStill : Shared → ℕ → Machine → Standing → View → Bool → Type 0
+StandsStill shared s machine standing view over =
+    recovery_action standing ≡ recoveries.Rest → (over ≡ false) × IsStill shared s view (asked_of (next_action machine))
 
 -- where a turn without a mark ends a session stands still or is closed
 abbrev pub EndsStill : Option Mark → TurnEnd → Type 0 → Type 0
@@ -50,19 +53,19 @@ EndsStill asked ends.Rests Still = Still
 EndsStill asked ends.Closed Still = Unit {0}
 
 -- the session of a slot is held, or stands still
-abbrev pub IsSlotStill : GateState → Layout → Slot → Type 0
-IsSlotStill gate layout Free = Unit {0}
-IsSlotStill gate layout (Taken client) =
+abbrev pub IsSlotStill : Shared → Layout → Slot → Type 0
+IsSlotStill shared layout Free = Unit {0}
+IsSlotStill shared layout (Taken client) =
     (client.place.seat.turn ≡ Held)
-    ⊎ StandsStill gate (machine_in client.place.seat.core) (standing_of layout client.place) (shown client.place.seat.wire) client.place.seat.over
+    ⊎ StandsStill shared client.place.seat.s.number (machine_in client.place.seat.core) (standing_of layout client.place) (shown client.place.seat.wire) client.place.seat.over
 
-abbrev pub AreStill : GateState → Layout → List Slot → Type 0
-AreStill gate layout slots = (j : ℕ) → IsSlotStill gate layout (slice_index_or slots j Free)
+abbrev pub AreStill : Shared → Layout → List Slot → Type 0
+AreStill shared layout slots = (j : ℕ) → IsSlotStill shared layout (slice_index_or slots j Free)
 
 -- each client that is connected and not held has a session that stands still
 abbrev pub AllStill : Board → Type 0
 AllStill b = (s : SessionId) (hearer : Hearer) → b.hearers s.number ≡ Some hearer
-    → (hearer.turn ≡ Held) ⊎ StandsStill b.state.shared.gate (b.state.machines s) (b.state.recoveries s) hearer.view hearer.over
+    → (hearer.turn ≡ Held) ⊎ StandsStill b.state.shared s.number (b.state.machines s) (b.state.recoveries s) hearer.view hearer.over
 
 -- behind a line rounds are made, but behind `hold` and `until`
 abbrev pub goes_round : Line → Bool

@@ -3,17 +3,14 @@ use Rattle.std.specs.Prelude.{◌≡◌, ◌<◌, ◌≤◌, ◌+◌, ◌⊎◌,
 use Rattle.std.specs.Fmt.{decimal}
 use Rattle.pool_base.specs.Outside.{Appends}
 use Rattle.pool_base.specs.declared.backend_id.BackendId.{BackendId}
-use Rattle.pool_base.specs.declared.session_id.SessionId.{SessionId}
 use Rattle.pool_config.specs.declared.config.Config.{Config}
 use Rattle.pool_config.specs.declared.config.Node.{Node}
 use Rattle.schema.specs.declared.catalogue.TableDef.{TableDef}
 use Rattle.pgproto.specs.Line.{Line, line_of}
 use Rattle.backend_trait.specs.Rows.{with_at}
-use Rattle.session_machine.specs.declared.machine.Machine.{Machine}
 use Rattle.session_machine.specs.declared.machine.ReadPolicy.{ReadPolicy}
 use Rattle.session_wire.specs.Shown.{View, IsFresh, with_end, with_piece}
 use Rattle.online_recovery.specs.declared.layout.Layout.{Layout}
-use Rattle.online_recovery.specs.declared.standing.Standing.{Standing}
 use Rattle.session_seat.specs.declared.book.Book.{Book}
 use Rattle.session_seat.specs.declared.book.Journal.{Journal}
 use Rattle.session_seat.specs.declared.seat.Turn.TheVariants as turns
@@ -34,7 +31,7 @@ use Rattle.session_player.specs.Times.{IsMomentOf}
 use Rattle.session_player.specs.Written.{echo_of}
 use Rattle.session_player.specs.Journals.{IsPut, IsShort}
 use Rattle.session_player.specs.Stillness.{AllStill, goes_round}
-use Rattle.session_player.specs.Speaking.{AllHappen, Board, Event, Happening, Happens, Hearer, board, board_of, entries_of, hearer_in}
+use Rattle.session_player.specs.Speaking.{AllHappen, Board, Event, Happening, Happens, Hearer, LoseNone, board, board_of, entries_of, hearer_in}
 
 -- where a play stands between two lines: the moment that the clock shows, and all else
 pub record Scene : Type 0 where
@@ -114,7 +111,7 @@ Does tables nodes children count (SetMoment text) old happenings new = (happenin
 Does tables nodes children count (Of s wish) old happenings new =
     Keeps old happenings new × Addresses s.number wish old.board.hearers old.board.lines new.board.hearers new.board.lines
 
--- The part of a line: what it does, and the rounds behind it, up to where all stand still.
+-- The part of a line: what it does, and the rounds behind it, up to where all stand still. No backend is lost in them.
 
 pub record Part (tables : List TableDef) (nodes : List Node) (children count : ℕ) (line : Line) (old : Scene) (happenings : List Happening) (new : Scene) : Type 0 where
   pub deed : Deed
@@ -124,6 +121,7 @@ pub record Part (tables : List TableDef) (nodes : List Node) (children count : �
   pub does : Does tables nodes children count deed old before mid
   pub behind : List Happening
   pub rounds : AllHappen tables mid.moment nodes mid.board behind new.board
+  pub kept : LoseNone behind
   pub moment : new.moment ≡ mid.moment
   pub all : happenings ≡ before ++ behind
   pub still : goes_round line ≡ true → AllStill new.board
@@ -155,9 +153,10 @@ input_ended (Some hearer) = Some (record hearer { view = with_end hearer.view; t
 abbrev pub all_ended : Board → Board
 all_ended b = record b { hearers = λ n. input_ended (b.hearers n) }
 
--- rounds are made, and what is told is written
+-- rounds are made, in which no backend is lost, and what is told is written
 pub record IsEnd (tables : List TableDef) (nodes : List Node) (old : Scene) (a : Option (List ℕ)) (happenings : List Happening) (last : Board) (b : Option (List ℕ)) : Type 0 where
   pub rounds : AllHappen tables old.moment nodes (all_ended old.board) happenings last
+  pub kept : LoseNone happenings
   pub still : AllStill last
   pub wrote : Appends a b last.lines
 

@@ -25,9 +25,10 @@ ghost use Rattle.session_player.specs.Slots.{IsPlaced};
 ghost use Rattle.session_player.specs.Speaking.{Happening, Hearer, board, hearer_of, hearers_of};
 ghost use Rattle.session_player.specs.Transcript.{Addresses, Connects, IsGranted, LosesOne, count_to, joined, none_line, wished};
 
+use crate::client::Client;
 use crate::deed::Wish;
 use crate::feeding::{Cut, feed, sent_of};
-use crate::slots::{Client, Seats, Slot, is_taken, place_of, put};
+use crate::slots::{Seats, Slot, is_taken, place_of, put};
 use backend_trait::Backend;
 use pgproto::{Mark, ScriptLine};
 use pool_base::{BackendId, NoMemory, SessionId};
@@ -125,7 +126,10 @@ fn client_of(setting: Setting, s: SessionId, cut: Cut) -> Result<Client, StepFau
 {
     let mut place = Place::new(setting.alloc, s, policy_of(setting.config))?;
     match feed(&mut place.seat.wire, cut, &START) {
-        Ok(()) => Ok(Client { place }),
+        Ok(()) => Ok(Client {
+            place,
+            rests: false,
+        }),
         Err(fault) => {
             drop(place);
             Err(StepFault::from(fault))
@@ -229,6 +233,7 @@ fn send(alloc: Global, client: &mut Client, line: &ScriptLine, cut: Cut) -> Resu
         ≡ standing_of layout client.old.place }
 {
     let bytes = sent_of(alloc, line)?;
+    client.rests = false;
     feed(&mut client.place.seat.wire, cut, bytes.as_slice())
 }
 

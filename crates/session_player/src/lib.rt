@@ -2,6 +2,7 @@
 //! has the echo of each line in order, and whatever happens the shelf keeps as many boxes.
 #![tactic(auto)]
 
+mod client;
 mod connecting;
 mod deed;
 mod fault;

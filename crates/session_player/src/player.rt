@@ -402,6 +402,7 @@ fn end_input(slot: &mut Slot)
     match slot {
         Slot::Free => {}
         Slot::Taken(client) => {
+            client.rests = false;
             client.place.seat.turn = Turn::Free;
             client.place.seat.wire.end_input();
         }

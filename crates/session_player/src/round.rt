@@ -2,13 +2,13 @@
 //!
 //! ```text
 //! turn      steps of one session, until it waits, rests, is closed, or has come to the mark
-//! round     a turn of each session in the order of numbers, but of those that are held
+//! round     a turn of each session in the order of numbers, but of those that are held or rest
 //! rounds    round after round, up to the first without an event
 //! ```
 //!
 //! A turn goes on behind an event alone, and rounds go on behind a round with an event. A play has
 //! fewer than 2^64 events, so turns and rounds end.
-ghost use Rattle.std.specs.Prelude.{◌≡◌, ◌↔◌, ◌<◌, ◌≤◌, ℕ, suc, length, None, Some, IsTrue, IfOk, OnOk, false, slice_index_or};
+ghost use Rattle.std.specs.Prelude.{◌≡◌, ◌↔◌, ◌<◌, ◌≤◌, ◌⊎◌, ℕ, suc, length, None, Some, IsTrue, IfOk, OnOk, false, true, slice_index_or};
 ghost use Rattle.pool_base.specs.declared.session_id.SessionId.{SessionId};
 ghost use Rattle.schema.specs.Allowed.{AreAllowed};
 ghost use Rattle.schema.specs.Ranges.{AreInRange};
@@ -16,23 +16,25 @@ ghost use Rattle.session_machine.specs.Rules.{new_machine};
 ghost use Rattle.session_engine.specs.Cores.{machine_in};
 ghost use Rattle.session_seat.specs.declared.seat.Turn.TheVariants.{Held};
 ghost use Rattle.session_seat.specs.Policy.{policy_in};
-ghost use Rattle.session_seat.specs.Shared.{shared_of};
+ghost use Rattle.session_seat.specs.Shared.{Shared, shared_of};
 ghost use Rattle.online_recovery.specs.declared.layout.Layout.{Layout};
 ghost use Rattle.online_recovery.specs.State.{new_standing};
 ghost use Rattle.recovery_seat.specs.Places.{IsLayout, standing_of};
 ghost use Rattle.recovery_seat.specs.Steps.{at};
-ghost use Rattle.session_player.specs.declared.round.TurnEnd.TheVariants.{Closed};
+ghost use Rattle.session_player.specs.declared.round.TurnEnd.TheVariants.{Closed, Rests};
 ghost use Rattle.session_player.specs.declared.slots.Slot.TheVariants.{Free};
 ghost use Rattle.session_player.specs.Journals.{machine_in_slot, standing_in_slot};
-ghost use Rattle.session_player.specs.Slots.{ArePlaced, IsPlaced, IsHeld, IsHeldOrFree};
+ghost use Rattle.session_player.specs.Slots.{ArePlaced, IsPlaced, IsHeld};
+ghost use Rattle.session_player.specs.Resting.{IsResting};
 ghost use Rattle.session_player.specs.Stillness.{AreStill, EndsStill, IsSlotStill, StandsStill};
 ghost use Rattle.session_wire.specs.Shown.{shown};
 ghost use Rattle.session_player.specs.Speaking.{Spoke, SpokeAlone, board_of, hearer_in, hearer_of, left_at, spot};
 ghost use Rattle.session_player.specs.Turns.{EndsBehind, IsTaken};
 
+use crate::client::Client;
 use crate::marks::stops;
 use crate::others::others_of;
-use crate::slots::{Client, Seats, Slot, free, place_of};
+use crate::slots::{Seats, Slot, free, place_of};
 use backend_trait::Backend;
 use pgproto::Mark;
 use pool_base::{BackendSet, SessionId};
@@ -101,8 +103,10 @@ fn take_steps<B: Backend>(
         → standing_of layout place.new ≡ new_standing place.old.seat.s layout) }
     ensures still { (layout : Layout) → IsLayout setting.entry.config.now setting.entry.tables.now
         layout → IfOk result (λ end. EndsStill until end
-        (StandsStill world.new.gate.state (machine_in place.new.seat.core)
+        (StandsStill (shared_of B.meaning world.new.gate.state world.new.tables world.new.count
+        world.new.shelf.items) place.new.seat.s.number (machine_in place.new.seat.core)
         (standing_of layout place.new) (shown place.new.seat.wire) place.new.seat.over)) }
+    ensures resting { IfOk result (λ end. end ≡ Rests → IsResting place.new) }
     ensures unmoved { OnOk result (book.new.events ≤ book.old.events → shared_of B.meaning
         world.new.gate.state world.new.tables world.new.count world.new.shelf.items
         ≡ shared_of B.meaning world.old.gate.state world.old.tables world.old.count
@@ -136,11 +140,22 @@ fn is_held(turn: Turn) -> bool
     }
 }
 
-/// The turn of a session in a round.
+/// Whether a turn ended because there is nothing to do.
+fn is_rest(end: TurnEnd) -> bool
+    ensures { result ≡ true → end ≡ Rests }
+{
+    match end {
+        TurnEnd::Rests => true,
+        TurnEnd::Marked | TurnEnd::Waits | TurnEnd::Closed => false,
+    }
+}
+
+/// The turn of a session, up to the mark, if there is one.
 fn turn_of<B: Backend>(
     setting: Setting,
     client: &mut Client,
     others: BackendSet,
+    until: Option<Mark>,
     world: &mut World<B>,
     book: &mut Book,
 ) -> Result<TurnEnd, StepFault>
@@ -163,8 +178,10 @@ fn turn_of<B: Backend>(
         setting.entry.tables.now layout → IfOk result (λ end. end ≡ Closed
         → standing_of layout client.new.place ≡ new_standing client.old.place.seat.s layout) }
     ensures still { (layout : Layout) → IsLayout setting.entry.config.now setting.entry.tables.now
-        layout → IfOk result (λ end. EndsStill None end
-        (StandsStill world.new.gate.state (machine_in client.new.place.seat.core)
+        layout → IfOk result (λ end. EndsStill until end
+        (StandsStill (shared_of B.meaning world.new.gate.state world.new.tables world.new.count
+        world.new.shelf.items) client.new.place.seat.s.number
+        (machine_in client.new.place.seat.core)
         (standing_of layout client.new.place) (shown client.new.place.seat.wire)
         client.new.place.seat.over)) }
     ensures unmoved { OnOk result (book.new.events ≤ book.old.events → shared_of B.meaning
@@ -177,7 +194,10 @@ fn turn_of<B: Backend>(
     ensures count { world.new.count ≡ world.old.count }
     ensures boxes { length world.new.shelf.items ≡ length world.old.shelf.items }
 {
-    take_steps(setting, &mut client.place, others, None, world, book)
+    client.rests = false;
+    let end = take_steps(setting, &mut client.place, others, until, world, book)?;
+    client.rests = is_rest(end);
+    Ok(end)
 }
 
 /// The turn of a slot in a round.
@@ -203,7 +223,8 @@ fn turn<B: Backend>(
         (standing_in_slot layout s slot.new) book.new.journal) (hearer_in slot.new)
         book.new.lines)) }
     ensures still { (layout : Layout) → IsLayout setting.entry.config.now setting.entry.tables.now
-        layout → OnOk result (IsSlotStill world.new.gate.state layout
+        layout → OnOk result (IsSlotStill (shared_of B.meaning world.new.gate.state
+        world.new.tables world.new.count world.new.shelf.items) layout
         slot.new) }
     ensures unmoved { OnOk result (book.new.events ≤ book.old.events → shared_of B.meaning
         world.new.gate.state world.new.tables world.new.count world.new.shelf.items
@@ -217,7 +238,7 @@ fn turn<B: Backend>(
 {
     let end = match slot {
         Slot::Free => return Ok(()),
-        Slot::Taken(client) => turn_of(setting, client, others, world, book)?,
+        Slot::Taken(client) => turn_of(setting, client, others, None, world, book)?,
     };
     if let TurnEnd::Closed = end {
         free(slot);
@@ -225,14 +246,28 @@ fn turn<B: Backend>(
     Ok(())
 }
 
-/// Whether the session of a slot takes a turn. One that is held takes no step.
+/// Whether a session takes a turn. One that is held takes no step, and one that rests has none to
+/// take.
+fn is_to_go(client: &Client) -> bool
+    ensures held { client.now.place.seat.turn ≡ Held → result ≡ false }
+    ensures others { result ≡ false → (client.now.place.seat.turn ≡ Held)
+        ⊎ IsResting client.now.place }
+{
+    if client.rests {
+        return false;
+    }
+    !is_held(client.place.seat.turn)
+}
+
+/// Whether the session of a slot takes a turn. Where it does not, it stands still.
 fn is_due(slot: &Slot) -> bool
     ensures held { IsHeld slot.now → result ≡ false }
-    ensures others { result ≡ false → IsHeldOrFree slot.now }
+    ensures others { result ≡ false → (shared : Shared) → (layout : Layout)
+        → IsSlotStill shared layout slot.now }
 {
     match slot {
         Slot::Free => false,
-        Slot::Taken(client) => !is_held(client.place.seat.turn),
+        Slot::Taken(client) => is_to_go(client),
     }
 }
 
@@ -260,7 +295,8 @@ fn turn_at<B: Backend>(
         world.new.gate.state world.new.tables world.new.count
         world.new.shelf.items) slots.new book.new)) }
     ensures still { (layout : Layout) → IsLayout setting.entry.config.now setting.entry.tables.now
-        layout → OnOk result (IsSlotStill world.new.gate.state layout
+        layout → OnOk result (IsSlotStill (shared_of B.meaning world.new.gate.state
+        world.new.tables world.new.count world.new.shelf.items) layout
         (slice_index_or slots.new at Free)) }
     ensures others { (j : ℕ) → (j ≡ at → ⊥) → slice_index_or slots.new j Free
         ≡ slice_index_or slots.old j Free }
@@ -307,7 +343,8 @@ fn round<B: Backend>(
         world.new.shelf.items) slots.new book.new)) }
     ensures still { (layout : Layout) → IsLayout setting.entry.config.now setting.entry.tables.now
         layout → OnOk result (book.new.events ≤ book.old.events
-        → AreStill world.new.gate.state layout slots.new) }
+        → AreStill (shared_of B.meaning world.new.gate.state world.new.tables world.new.count
+        world.new.shelf.items) layout slots.new) }
     ensures events { book.old.events ≤ book.new.events }
     ensures placed { ArePlaced 0 slots.new }
     ensures slots { length slots.new ≡ length slots.old }
@@ -341,7 +378,8 @@ pub(crate) fn rounds<B: Backend>(
         world.new.gate.state world.new.tables world.new.count
         world.new.shelf.items) seats.new.slots.items book.new)) }
     ensures still { (layout : Layout) → IsLayout setting.entry.config.now setting.entry.tables.now
-        layout → OnOk result (AreStill world.new.gate.state layout
+        layout → OnOk result (AreStill (shared_of B.meaning world.new.gate.state
+        world.new.tables world.new.count world.new.shelf.items) layout
         seats.new.slots.items) }
     ensures tables { world.new.tables ≡ world.old.tables }
     ensures count { world.new.count ≡ world.old.count }
@@ -386,9 +424,7 @@ fn turn_until<B: Backend>(
 {
     let end = match slot {
         Slot::Free => return Ok(()),
-        Slot::Taken(client) => {
-            take_steps(setting, &mut client.place, others, Some(mark), world, book)?
-        }
+        Slot::Taken(client) => turn_of(setting, client, others, Some(mark), world, book)?,
     };
     if let TurnEnd::Closed = end {
         free(slot);

@@ -5,19 +5,13 @@ ghost use Rattle.session_player.specs.Speaking.{hearers_of};
 ghost use Rattle.session_player.specs.Transcript.{count_to};
 ghost use Rattle.session_player.specs.declared.slots.Slot.TheVariants.{Free, Taken};
 
+use crate::client::Client;
 use pool_base::{NoMemory, SessionId};
-use recovery_seat::Place;
 use std::alloc::Global;
 use std::mem;
 
 /// So many sessions have a number.
 const MOST_SESSIONS: usize = 64;
-
-/// A session that is connected.
-#[derive(Drop)]
-pub(crate) struct Client {
-    pub(crate) place: Place,
-}
 
 /// A place for a session.
 #[derive(Drop)]

@@ -19,6 +19,18 @@ new-world-requires-clause-honest g c =
     subst (λ l. All (λ b. g.B.Backend.is_honest b ≡ true) l) (sym same)
     (all_of (λ b. g.B.Backend.is_honest b ≡ true) (length c.args.plan.now.config.nodes) c.args.shelf.now.items c.requires.each.honest c.requires.spares.honest)
 
+pub new-world-requires-clause-prompt : goal.new-world-requires-clause-prompt
+new-world-requires-clause-prompt g c =
+    let same : c.replace-held.result.items ≡ c.args.shelf.now.items = (let e = c.replace-held.ensures.value in cc) in
+    subst (λ l. All (λ b. g.B.Backend.is_prompt b ≡ true) l) (sym same)
+    (all_of (λ b. g.B.Backend.is_prompt b ≡ true) (length c.args.plan.now.config.nodes) c.args.shelf.now.items c.requires.each.prompt c.requires.spares.prompt)
+
+pub new-world-requires-clause-steady : goal.new-world-requires-clause-steady
+new-world-requires-clause-steady g c =
+    let same : c.replace-held.result.items ≡ c.args.shelf.now.items = (let e = c.replace-held.ensures.value in cc) in
+    subst (λ l. All (λ b. g.B.Backend.is_steady b ≡ true) l) (sym same)
+    (all_of (λ b. g.B.Backend.is_steady b ≡ true) (length c.args.plan.now.config.nodes) c.args.shelf.now.items c.requires.each.steady c.requires.spares.steady)
+
 pub play_in-status-requires-clause-tables : goal.play_in-status-requires-clause-tables
 play_in-status-requires-clause-tables g c =
     let put : is_ok c.push.result ≡ true = c.is_err.ensures.negation ∙ ap not c.if-is_err.false in

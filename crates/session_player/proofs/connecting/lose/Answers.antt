@@ -1,6 +1,6 @@
 use Rattle.std.proofs.Common.{rules}
 use Rattle.session_seat.specs.Shared.{shared_of}
-use Rattle.session_player.proofs.Losing.{loses_known, loses_none}
+use Rattle.session_player.proofs.Losing.{loses_known}
 use Rattle.session_player.proofs.connecting.lose.Goals as goal
 
 pub returns-clause-loses : goal.returns-clause-loses

@@ -5,7 +5,6 @@ use Rattle.session_player.specs.declared.deed.Deed.{Deed}
 use Rattle.session_seat.specs.Policy.{policy_in}
 use Rattle.session_seat.specs.Shared.{shared_of}
 use Rattle.session_player.specs.Journals.{machines_of, standings_of}
-use Rattle.session_player.proofs.Going.{on_ok_always}
 use Rattle.session_player.specs.Speaking.{Happening, hearers_of}
 use Rattle.session_player.specs.Transcript.{Does, Scene, Sets, scene_of}
 use Rattle.session_player.proofs.Parts.{kept_state}

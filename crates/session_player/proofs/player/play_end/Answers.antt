@@ -1,4 +1,4 @@
-use Rattle.std.proofs.Common.{◌≡◌, refl, sym, subst, ◌∙◌, w64, rules}
+use Rattle.std.proofs.Common.{◌≡◌, refl, subst, ◌∙◌, w64, rules}
 use Rattle.std.specs.Prelude.{◌⊎◌}
 use Rattle.std.proofs.lemmas.Int.{to_z-of_z}
 use Rattle.std.proofs.lemmas.Result.{on_err_weaker, on_ok_weaker}
@@ -10,7 +10,7 @@ use Rattle.session_player.specs.BrokenOff.{IsJournalFront}
 use Rattle.session_player.specs.Speaking.{board_of}
 use Rattle.session_player.specs.Transcript.{scene_of}
 use Rattle.session_player.proofs.Parts.{end_rounds}
-use Rattle.session_player.proofs.Going.{layout_there, on_ok_always}
+use Rattle.session_player.proofs.Going.{layout_there}
 use Rattle.session_player.proofs.Telling.{grew_on}
 use Rattle.session_player.proofs.Stilling.{all_still}
 use Rattle.session_player.proofs.Breaking.{end_none, end_put, end_told, on_err_always}
@@ -36,13 +36,13 @@ returns-clause-ends g c = λ layout is.
     let rounds = end_rounds tables used.tables.now config used.config.now layout old new scene.moment used.moment scene.seats.slots.items freed.slots.items c.rounds.new.seats.slots.items scene.book c.rounds.new.book
     c.at_moment-last.ensures.tables c.at_moment-last.ensures.config (c.at_moment-last.ensures.moment ∙ to_z-of_z w64 scene.moment (search rules)) (c.end_all.ensures.machines policy) (c.end_all.ensures.standings layout) c.end_all.ensures.hearers (c.in_ok-rounds.ensures.speaks layout there) in
     let last = board_of policy layout new c.rounds.new.seats.slots.items c.rounds.new.book in
-    let still = all_still policy layout new c.rounds.new.seats.slots.items c.rounds.new.book (c.in_ok-rounds.ensures.still layout there) in
+    let still = all_still policy layout new c.rounds.new.seats.slots.items c.rounds.new.book c.rounds.new.seats.placed (c.in_ok-rounds.ensures.still layout there) in
     on_ok_weaker c.put_journal.result
     (λ put. (
       rounds.0,
       last,
       had c.put_told.new.out,
-      record { rounds = rounds.1; still = still; wrote = c.in_ok-put_told.ensures.all },
+      record { rounds = rounds.1; kept = rounds.2; still = still; wrote = c.in_ok-put_told.ensures.all },
       subst (λ (j : Journal). IsPut config tables j (had c.put_told.new.out) (had c.put_journal.new.out)) c.put_told.ensures.journal put,
       subst IsShort c.put_told.ensures.journal c.is_short.ensures,
       refl,
@@ -95,5 +95,5 @@ returns-clause-front g c = λ layout is.
     c.at_moment-last.ensures.tables c.at_moment-last.ensures.config (c.at_moment-last.ensures.moment ∙ to_z-of_z w64 scene.moment (search rules)) (c.end_all.ensures.machines policy) (c.end_all.ensures.standings layout) c.end_all.ensures.hearers (c.in_ok-rounds.ensures.speaks layout there) in
     let last = board_of policy layout new c.rounds.new.seats.slots.items c.rounds.new.book in
     on_err_weaker c.put_journal.result
-    (λ front. end_put config tables first last (had c.args.out.now) (had c.put_told.new.out) (had c.put_journal.new.out) rounds (all_still policy layout new c.rounds.new.seats.slots.items c.rounds.new.book (c.in_ok-rounds.ensures.still layout there)) c.in_ok-put_told.ensures.all
+    (λ front. end_put config tables first last (had c.args.out.now) (had c.put_told.new.out) (had c.put_journal.new.out) rounds (all_still policy layout new c.rounds.new.seats.slots.items c.rounds.new.book c.rounds.new.seats.placed (c.in_ok-rounds.ensures.still layout there)) c.in_ok-put_told.ensures.all
     (subst (λ (j : Journal). IsJournalFront config tables j (had c.put_told.new.out) (had c.put_journal.new.out) ⊎ (had c.put_journal.new.out ≡ had c.put_told.new.out)) c.put_told.ensures.journal front)) c.put_journal.ensures.front

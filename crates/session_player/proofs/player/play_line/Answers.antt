@@ -28,7 +28,7 @@ returns-in-Rounds-clause-part g c = λ layout is.
     (λ made. part_rounds c.args.setting.tables.now used.tables.now config used.config.now layout c.args.world.now.count (line_of c.args.line.now) (scene_of (policy_in config) layout old scene.moment scene.seats.slots.items scene.book)
     mid new done.moment used.moment done.seats.slots.items c.rounds.new.seats.slots.items done.book c.rounds.new.book
     c.at_moment-setting.ensures.tables c.at_moment-setting.ensures.config (c.at_moment-setting.ensures.moment ∙ to_z-of_z w64 done.moment (search rules)) (c.in_ok-then.ensures.does layout is) made.0
-    (λ goes. all_still (policy_in config) layout new c.rounds.new.seats.slots.items c.rounds.new.book made.1)) (on_ok_both _ _ c.rounds.result (c.rounds.ensures.speaks layout there) (c.rounds.ensures.still layout there))
+    (λ goes. all_still (policy_in config) layout new c.rounds.new.seats.slots.items c.rounds.new.book c.rounds.new.seats.placed made.1)) (on_ok_both _ _ c.rounds.result (c.rounds.ensures.speaks layout there) (c.rounds.ensures.still layout there))
 
 pub returns-in-Alone-clause-part : goal.returns-in-Alone-clause-part
 returns-in-Alone-clause-part g c = λ layout is.

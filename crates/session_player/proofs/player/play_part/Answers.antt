@@ -1,8 +1,5 @@
-use Rattle.std.proofs.Common.{sym, subst}
-use Rattle.session_seat.specs.declared.book.Journal.{Journal}
 use Rattle.session_seat.specs.Policy.{policy_in}
 use Rattle.session_seat.specs.Shared.{shared_of}
-use Rattle.session_player.proofs.Going.{on_ok_always}
 use Rattle.pgproto.specs.Line.{line_of}
 use Rattle.std.proofs.lemmas.Result.{on_err_weaker, on_ok_weaker}
 use Rattle.session_player.proofs.Telling.{grew_on, part_of}

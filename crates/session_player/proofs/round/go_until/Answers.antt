@@ -1,9 +1,8 @@
-use Rattle.std.proofs.Common.{◌≡◌, ◌<◌, List, suc, length, arith, subst}
+use Rattle.std.proofs.Common.{◌≡◌, ◌<◌, suc, length, arith, subst}
 use Rattle.std.proofs.lemmas.Result.{on_ok_weaker}
 use Rattle.recovery_seat.specs.Steps.{Fits}
 use Rattle.session_seat.specs.Policy.{policy_in}
 use Rattle.session_seat.specs.Shared.{shared_of}
-use Rattle.session_player.specs.declared.slots.Slot.{Slot}
 use Rattle.session_player.specs.Journals.{machines_of, standings_of}
 use Rattle.session_player.specs.Others.{OthersAreAmong}
 use Rattle.session_player.proofs.Fitting.{fits_others}

@@ -1,9 +1,8 @@
-use Rattle.std.proofs.Common.{◌≤◌, length, refl, ap, ◌∙◌, arith}
+use Rattle.std.proofs.Common.{◌≤◌, length, refl, ◌∙◌, arith}
 use Rattle.session_seat.specs.Policy.{policy_in}
 use Rattle.session_seat.specs.Shared.{shared_of}
 use Rattle.session_player.specs.Speaking.{board_of}
 use Rattle.session_player.proofs.Speaking.{spoke_none, spoke_on}
-use Rattle.session_seat.specs.Shared.{Shared}
 use Rattle.session_player.proofs.Stilling.{still_on, still_past}
 use Rattle.session_player.proofs.round.round.Goals as goal
 
@@ -38,7 +37,7 @@ loop-at-preserved g c =
       still = λ layout is none.
           let a : c.args.book.now.events ≤ c.loop-at.book.events = c.loop-at.invariant.events in
           let b : c.loop-at.book.events ≤ c.turn_at.new.book.events = c.turn_at.ensures.events in
-          still_on c.loop-at.world.gate.state c.turn_at.new.world.gate.state layout c.loop-at.slots c.turn_at.new.slots c.loop-at.at (ap (λ (z : Shared). z.gate) (c.in_ok-turn_at.ensures.unmoved (omega (arith, a, none)))) c.turn_at.ensures.others
+          still_on mid new layout c.loop-at.slots c.turn_at.new.slots c.loop-at.at (c.in_ok-turn_at.ensures.unmoved (omega (arith, a, none))) c.turn_at.ensures.others
           (c.loop-at.invariant.still layout is (omega (arith, b, none))) (c.in_ok-turn_at.ensures.still layout is);
       slots = c.turn_at.ensures.slots ∙ c.loop-at.invariant.slots;
       tables = c.turn_at.ensures.tables ∙ c.loop-at.invariant.tables;
@@ -49,4 +48,4 @@ loop-at-preserved g c =
 pub returns-clause-still : goal.returns-clause-still
 returns-clause-still g c = λ layout is none.
     let past : length c.loop-at.slots ≤ c.loop-at.at = omega (arith, c.loop-at.invariant.slots, c.loop-at-test.false) in
-    still_past c.loop-at.world.gate.state layout c.loop-at.slots c.loop-at.at past (c.loop-at.invariant.still layout is none)
+    still_past (shared_of g.B.Backend.meaning c.loop-at.world.gate.state c.loop-at.world.tables c.loop-at.world.count c.loop-at.world.shelf.items) layout c.loop-at.slots c.loop-at.at past (c.loop-at.invariant.still layout is none)

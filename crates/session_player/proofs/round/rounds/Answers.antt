@@ -50,6 +50,6 @@ returns-then-book-before-clause-speaks g c = λ layout is.
 
 pub returns-then-book-before-clause-still : goal.returns-then-book-before-clause-still
 returns-then-book-before-clause-still g c = λ layout is.
-    subst (λ (z : List Slot). AreStill c.round.new.world.gate.state layout z)
+    subst (λ (z : List Slot). AreStill (shared_of g.B.Backend.meaning c.round.new.world.gate.state c.round.new.world.tables c.round.new.world.count c.round.new.world.shelf.items) layout z)
     (sym (whole_again c.rounds.seats.slots.len c.round.new.slots (drop (length c.round.new.slots) c.rounds.seats.slots.items) (omega (arith, c.as_mut_slice.ensures.len, c.round.ensures.slots))))
     (c.in_ok-round.ensures.still layout is (omega (arith, c.if-book-before.true)))

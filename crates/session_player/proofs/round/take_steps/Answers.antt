@@ -1,4 +1,4 @@
-use Rattle.std.proofs.Common.{◌≡◌, ◌<◌, ◌≤◌, refl, sym, ap, ◌∙◌, subst, arith, rules}
+use Rattle.std.proofs.Common.{◌<◌, ◌≤◌, refl, sym, ap, ◌∙◌, subst, take, arith, rules}
 use Rattle.std.specs.Prelude.{Some}
 use Rattle.session_engine.specs.Cores.{machine_in}
 use Rattle.session_seat.specs.Policy.{policy_in}
@@ -11,8 +11,11 @@ use Rattle.session_seat.specs.Speech.{speech}
 use Rattle.session_seat.specs.declared.seat.Turn.{Turn}
 use Rattle.session_player.specs.Speaking.{hearer_of, left_at, left_by, spot}
 use Rattle.session_player.proofs.Speaking.{alone_more, alone_none, left_behind, left_on}
-use Rattle.session_seat.specs.Steps.{IsDid}
-use Rattle.session_player.proofs.Stilling.{step_quiet, step_still}
+use Rattle.pool_base.specs.declared.session_id.SessionId.{SessionId}
+use Rattle.session_wire.specs.Shown.{shown}
+use Rattle.session_player.specs.Stillness.{EndsStill, StandsStill}
+use Rattle.session_player.proofs.Stilling.{prompt_at, step_quiet, step_still}
+use Rattle.session_player.proofs.Resting.{step_rests}
 use Rattle.session_player.proofs.round.take_steps.Goals as goal
 
 pub steps-init : goal.steps-init
@@ -102,9 +105,12 @@ returns-in-Some-clause-still g c = λ layout is.
     let new = shared_of g.B.Backend.meaning c.take_step.new.world.gate.state c.take_step.new.world.tables c.take_step.new.world.count c.take_step.new.world.shelf.items in
     let place = c.steps.place in
     let last = c.take_step.new.place in
-    step_still g.B.Backend.meaning g.B.Backend.is_prompt c.args.setting.tables.now c.args.setting.moment c.args.setting.config.now.nodes (policy_in c.args.setting.config.now) layout place.seat.s c.args.others.bits place.seat c.steps.world.shelf.items
+    let world = c.steps.world in
+    let prompt = prompt_at g.B.Backend.meaning g.B.Backend.is_prompt world.tables world.count world.shelf.items world.enough world.prompt in
+    subst (λ (s : SessionId). EndsStill c.args.until c.in-Some.end (StandsStill new s.number (machine_in last.seat.core) (standing_of layout last) (shown last.seat.wire) last.seat.over)) (sym c.take_step.ensures.s)
+    (step_still g.B.Backend.meaning g.B.Backend.is_prompt c.args.setting.tables.now c.args.setting.moment c.args.setting.config.now.nodes (policy_in c.args.setting.config.now) layout place.seat.s c.args.others.bits place.seat (take world.count world.shelf.items)
     mid (standing_of layout place) c.steps.book.journal c.steps.book.lines (at new (machine_in last.seat.core) (standing_of layout last) c.take_step.new.book.journal) (speech last.seat c.take_step.new.book.lines)
-    c.args.until c.in_ok-did.did c.in-Some.end (c.in_ok-did.ensures.due layout) (c.in_ok-did.ensures.speaks layout is) (subst (EndsBehind c.args.until c.in_ok-did.did) c.in-Some.is c.end_behind.ensures)
+    c.args.until c.in_ok-did.did c.in-Some.end prompt (c.in_ok-did.ensures.due layout) (c.in_ok-did.ensures.speaks layout is) (subst (EndsBehind c.args.until c.in_ok-did.did) c.in-Some.is c.end_behind.ensures))
 
 pub returns-in-Some-clause-unmoved : goal.returns-in-Some-clause-unmoved
 returns-in-Some-clause-unmoved g c = λ none.
@@ -119,3 +125,15 @@ returns-in-Some-clause-unmoved g c = λ none.
     (at new (machine_in c.take_step.new.place.seat.core) (standing_of layout c.take_step.new.place) c.take_step.new.book.journal) c.in_ok-did.did (c.in_ok-did.ensures.noted layout (is_layout config tables c.requires.allowed))
     (λ did. let more : c.steps.book.events < c.take_step.new.book.events = c.in_ok-did.ensures.did did in omega (arith, a, none, more))
     ∙ c.steps.invariant.unmoved (omega (arith, b, none))
+
+pub returns-in-Some-clause-resting : goal.returns-in-Some-clause-resting
+returns-in-Some-clause-resting g c = λ rests.
+    let config = c.args.setting.config.now in
+    let tables = c.args.setting.tables.now in
+    let layout = layout_of config tables c.requires.allowed in
+    let mid = shared_of g.B.Backend.meaning c.steps.world.gate.state c.steps.world.tables c.steps.world.count c.steps.world.shelf.items in
+    let new = shared_of g.B.Backend.meaning c.take_step.new.world.gate.state c.take_step.new.world.tables c.take_step.new.world.count c.take_step.new.world.shelf.items in
+    let place = c.steps.place in
+    step_rests g.B.Backend.meaning g.B.Backend.is_prompt tables c.args.setting.moment config.nodes (policy_in config) layout place.seat.s c.args.others.bits place c.take_step.new.place (take c.steps.world.count c.steps.world.shelf.items)
+    mid new c.steps.book.journal c.take_step.new.book.journal c.steps.book.lines c.take_step.new.book.lines c.args.until c.in_ok-did.did c.in-Some.end
+    c.in_ok-did.ensures.due (c.in_ok-did.ensures.speaks layout (is_layout config tables c.requires.allowed)) (subst (EndsBehind c.args.until c.in_ok-did.did) c.in-Some.is c.end_behind.ensures) rests

@@ -44,13 +44,13 @@ returns-in_default-clause-speaks g c = λ layout is before s own placed.
     own placed c.in-Taken.is (c.in_ok-end-in-Taken.ensures.speaks layout is) (λ same. refl) (λ same. refl) (sym (stays_there c.in_ok-end-in-Taken.end (hearer_of c.turn_of.new.client.place.seat) c.in_default.not-Closed))
 
 pub returns-in-Free-clause-still : goal.returns-in-Free-clause-still
-returns-in-Free-clause-still g c = λ layout is. free_still c.args.world.now.gate.state layout c.args.slot.now c.in-Free.is
+returns-in-Free-clause-still g c = λ layout is. free_still (shared_of g.B.Backend.meaning c.args.world.now.gate.state c.args.world.now.tables c.args.world.now.count c.args.world.now.shelf.items) layout c.args.slot.now c.in-Free.is
 
 pub returns-in-Closed-clause-still : goal.returns-in-Closed-clause-still
-returns-in-Closed-clause-still g c = λ layout is. free_still c.turn_of.new.world.gate.state layout c.free.new.slot c.free.ensures
+returns-in-Closed-clause-still g c = λ layout is. free_still (shared_of g.B.Backend.meaning c.turn_of.new.world.gate.state c.turn_of.new.world.tables c.turn_of.new.world.count c.turn_of.new.world.shelf.items) layout c.free.new.slot c.free.ensures
 
 pub returns-in_default-clause-still : goal.returns-in_default-clause-still
 returns-in_default-clause-still g c = λ layout is.
     let place = c.turn_of.new.client.place in
-    inr (ended_still c.in_ok-end-in-Taken.end (StandsStill c.turn_of.new.world.gate.state (machine_in place.seat.core) (standing_of layout place) (shown place.seat.wire) place.seat.over)
+    inr (ended_still c.in_ok-end-in-Taken.end (StandsStill (shared_of g.B.Backend.meaning c.turn_of.new.world.gate.state c.turn_of.new.world.tables c.turn_of.new.world.count c.turn_of.new.world.shelf.items) place.seat.s.number (machine_in place.seat.core) (standing_of layout place) (shown place.seat.wire) place.seat.over)
     (c.in_ok-end-in-Taken.ensures.still layout is) c.in_default.not-Closed)

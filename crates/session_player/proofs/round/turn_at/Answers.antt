@@ -7,15 +7,14 @@ use Rattle.session_seat.specs.Shared.{shared_of}
 use Rattle.recovery_seat.specs.Steps.{at}
 use Rattle.session_player.specs.declared.slots.Slot.{Slot}
 use Rattle.session_player.specs.Journals.{machine_in_slot, standing_in_slot}
-use Rattle.session_player.specs.Slots.{IsHeldOrFree, IsPlaced}
+use Rattle.session_player.specs.Slots.{IsPlaced}
 use Rattle.session_player.proofs.Fitting.{fits_others}
 use Rattle.session_player.proofs.Going.{slot_read, session_number, session_of}
 use Rattle.session_player.proofs.Placing.{placed_anew, placed_here}
 use Rattle.session_player.specs.Speaking.{SpokeAlone, hearer_in, spot}
 use Rattle.session_player.proofs.Speaking.{spoke_slot}
-use Rattle.session_player.specs.declared.slots.Slot.TheVariants.{Free}
 use Rattle.session_player.specs.Stillness.{IsSlotStill}
-use Rattle.session_player.proofs.Stilling.{held_still, set_others, set_still}
+use Rattle.session_player.proofs.Stilling.{set_others, set_still}
 use Rattle.session_player.proofs.round.turn_at.Goals as goal
 
 pub returns-clause-placed : goal.returns-clause-placed
@@ -49,12 +48,14 @@ returns-clause-speaks g c = λ layout is.
 pub returns-then-not-is_due-clause-still : goal.returns-then-not-is_due-clause-still
 returns-then-not-is_due-clause-still g c = λ layout is.
     let slot = c.index-slots-at.result in
-    subst (IsSlotStill c.args.world.now.gate.state layout) (sym (slot_read c.args.slots.now c.args.at slot c.requires.below c.index-slots-at.is))
-    (held_still c.args.world.now.gate.state layout slot (let none : c.is_due.result ≡ false = search rules in subst IsHeldOrFree (sym c.index-slots-at.is) (c.is_due.ensures.others none)))
+    let world = c.args.world.now in
+    let shared = shared_of g.B.Backend.meaning world.gate.state world.tables world.count world.shelf.items in
+    subst (IsSlotStill shared layout) (sym (slot_read c.args.slots.now c.args.at slot c.requires.below c.index-slots-at.is))
+    (let none : c.is_due.result ≡ false = search rules in subst (IsSlotStill shared layout) (sym c.index-slots-at.is) (c.is_due.ensures.others none shared layout))
 
 pub returns-clause-still : goal.returns-clause-still
 returns-clause-still g c = λ layout is.
-    on_ok_weaker c.turn.result (set_still c.turn.new.world.gate.state layout c.args.slots.now c.args.at c.turn.new.slot c.requires.below) (c.turn.ensures.still layout is)
+    on_ok_weaker c.turn.result (set_still (shared_of g.B.Backend.meaning c.turn.new.world.gate.state c.turn.new.world.tables c.turn.new.world.count c.turn.new.world.shelf.items) layout c.args.slots.now c.args.at c.turn.new.slot c.requires.below) (c.turn.ensures.still layout is)
 
 pub returns-clause-others : goal.returns-clause-others
 returns-clause-others g c = λ j other. set_others c.args.slots.now c.args.at c.turn.new.slot j other

@@ -20,22 +20,22 @@ returns-in-Free-clause-speaks g c = λ layout is before s own placed.
 pub returns-in-Closed-clause-speaks : goal.returns-in-Closed-clause-speaks
 returns-in-Closed-clause-speaks g c = λ layout is before s own placed.
     let old = shared_of g.B.Backend.meaning c.args.world.now.gate.state c.args.world.now.tables c.args.world.now.count c.args.world.now.shelf.items in
-    let new = shared_of g.B.Backend.meaning c.take_steps.new.world.gate.state c.take_steps.new.world.tables c.take_steps.new.world.count c.take_steps.new.world.shelf.items in
+    let new = shared_of g.B.Backend.meaning c.turn_of.new.world.gate.state c.turn_of.new.world.tables c.turn_of.new.world.count c.turn_of.new.world.shelf.items in
     let policy = policy_in c.args.setting.config.now in
     let client = c.in-Taken.client in
-    let core = machine_in c.take_steps.new.place.seat.core in
-    let stands = standing_of layout c.take_steps.new.place in
+    let core = machine_in c.turn_of.new.client.place.seat.core in
+    let stands = standing_of layout c.turn_of.new.client.place in
     let ended = c.in_ok-end-in-Taken.ensures in
-    alone_in c.args.setting.tables.now c.args.setting.moment c.args.setting.config.now.nodes policy layout s c.args.others.bits before c.args.slot.now c.free.new.slot client old new c.args.book.now.journal c.take_steps.new.book.journal core stands
-    (left_at c.in_ok-end-in-Taken.end (hearer_of c.take_steps.new.place.seat)) c.args.book.now.lines c.take_steps.new.book.lines own placed c.in-Taken.is
+    alone_in c.args.setting.tables.now c.args.setting.moment c.args.setting.config.now.nodes policy layout s c.args.others.bits before c.args.slot.now c.free.new.slot client old new c.args.book.now.journal c.turn_of.new.book.journal core stands
+    (left_at c.in_ok-end-in-Taken.end (hearer_of c.turn_of.new.client.place.seat)) c.args.book.now.lines c.turn_of.new.book.lines own placed c.in-Taken.is
     (ended.speaks layout is) (freed policy s client.place.seat.s c.free.new.slot core c.free.ensures (ended.closed c.in-Closed.is))
     (freed_at_rest layout s client.place.seat.s c.free.new.slot stands c.free.ensures (ended.at_rest layout is c.in-Closed.is))
-    (ap hearer_in c.free.ensures ∙ sym (goes_away c.in_ok-end-in-Taken.end (hearer_of c.take_steps.new.place.seat) c.in-Closed.is))
+    (ap hearer_in c.free.ensures ∙ sym (goes_away c.in_ok-end-in-Taken.end (hearer_of c.turn_of.new.client.place.seat) c.in-Closed.is))
 
 pub returns-in_default-clause-speaks : goal.returns-in_default-clause-speaks
 returns-in_default-clause-speaks g c = λ layout is before s own placed.
     let old = shared_of g.B.Backend.meaning c.args.world.now.gate.state c.args.world.now.tables c.args.world.now.count c.args.world.now.shelf.items in
-    let new = shared_of g.B.Backend.meaning c.take_steps.new.world.gate.state c.take_steps.new.world.tables c.take_steps.new.world.count c.take_steps.new.world.shelf.items in
-    alone_in c.args.setting.tables.now c.args.setting.moment c.args.setting.config.now.nodes (policy_in c.args.setting.config.now) layout s c.args.others.bits before c.args.slot.now (Taken (record c.in-Taken.client { place = c.take_steps.new.place })) c.in-Taken.client old new
-    c.args.book.now.journal c.take_steps.new.book.journal (machine_in c.take_steps.new.place.seat.core) (standing_of layout c.take_steps.new.place) (left_at c.in_ok-end-in-Taken.end (hearer_of c.take_steps.new.place.seat)) c.args.book.now.lines c.take_steps.new.book.lines
-    own placed c.in-Taken.is (c.in_ok-end-in-Taken.ensures.speaks layout is) (λ same. refl) (λ same. refl) (sym (stays_there c.in_ok-end-in-Taken.end (hearer_of c.take_steps.new.place.seat) c.in_default.not-Closed))
+    let new = shared_of g.B.Backend.meaning c.turn_of.new.world.gate.state c.turn_of.new.world.tables c.turn_of.new.world.count c.turn_of.new.world.shelf.items in
+    alone_in c.args.setting.tables.now c.args.setting.moment c.args.setting.config.now.nodes (policy_in c.args.setting.config.now) layout s c.args.others.bits before c.args.slot.now (Taken c.turn_of.new.client) c.in-Taken.client old new
+    c.args.book.now.journal c.turn_of.new.book.journal (machine_in c.turn_of.new.client.place.seat.core) (standing_of layout c.turn_of.new.client.place) (left_at c.in_ok-end-in-Taken.end (hearer_of c.turn_of.new.client.place.seat)) c.args.book.now.lines c.turn_of.new.book.lines
+    own placed c.in-Taken.is (c.in_ok-end-in-Taken.ensures.speaks layout is) (λ same. refl) (λ same. refl) (sym (stays_there c.in_ok-end-in-Taken.end (hearer_of c.turn_of.new.client.place.seat) c.in_default.not-Closed))
