@@ -27,3 +27,9 @@ pub mod Swapping
 pub mod Taking
 pub mod Telling
 pub mod Transfers
+pub mod AloneStores
+pub mod AloneAnswers
+pub mod AlonePlays
+pub mod AsksGrowing
+pub mod AsksPlaces
+pub mod AsksSteps

@@ -6,3 +6,6 @@ pub mod RecoveryFollowing
 pub mod RecoveryJournals
 pub mod Lines
 pub mod Runs
+pub mod Alone
+pub mod OneSession
+pub mod Asked

@@ -5,8 +5,12 @@
 //! take place there.
 #![tactic(auto)]
 
+mod alone;
+mod asked;
 mod schedules;
 mod steps;
 
+pub use alone::one_session_is_alone;
+pub use asked::runs_ask_for_orders;
 pub use schedules::{orders_can_be_run, plays_are_runs};
 pub use steps::plays_are_steps;

@@ -1,5 +1,5 @@
 mod Trees
-mod Statements
+pub mod Statements
 mod SameLemmas
 mod GateLemmas
 mod Backends
