@@ -5,3 +5,4 @@ pub mod Candidates
 pub mod Refusals
 pub mod Receptions
 pub mod Entrances
+pub mod Trying

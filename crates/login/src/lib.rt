@@ -10,13 +10,17 @@ mod entry;
 mod fault;
 mod gate;
 mod initial;
+mod pace;
 mod reception;
 mod refusal;
+mod tries;
 
 pub use candidate::{Candidate, Guard, User};
 pub use entrance::{Entrance, enter};
 pub use entry::{Entry, Heard};
 pub use fault::LoginFault;
 pub use gate::{Answer, Login};
+pub use pace::Pace;
 pub use reception::{Reception, Reply};
 pub use refusal::{Refusal, refusal_bytes};
+pub use tries::{Claim, Tries, Try};

@@ -39,6 +39,11 @@ impl Threshold {
         self.is_open && self.given == self.held.len()
     }
 
+    /// Whether nothing that comes is held.
+    pub fn is_open(&self) -> bool {
+        self.is_open
+    }
+
     /// Whether something goes on, or all that comes does.
     pub fn is_ready(&self) -> bool {
         self.is_open || self.given < self.goes
