@@ -2,3 +2,5 @@ pub mod Risen
 pub mod Polls
 pub mod Sound
 pub mod Tellings
+pub mod Judging
+pub mod SameCode

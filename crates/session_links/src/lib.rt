@@ -6,8 +6,10 @@ mod links;
 mod loss;
 mod maker;
 mod slot;
+mod verdict;
 
 pub use links::Links;
 pub use loss::Loss;
 pub use maker::{Connected, LinkMaker};
 pub use slot::{Found, Sent, Slot};
+pub use verdict::{Opened, Verdict, Want, verdict_of};

@@ -13,6 +13,8 @@ pub enum Connected<L: Drop> {
     Ready(L),
     /// No session could be begun there, and the count of faults rose.
     Failed,
+    /// The pool itself lacks what a link needs of the system: no word against the backend.
+    Short,
     NoMemory,
 }
 
@@ -36,10 +38,17 @@ pub trait LinkMaker {
         ensures none { result ≡ Connected.Failed → MakesNone b (plans self.old) }
         ensures failed { result ≡ Connected.Failed
             → Rose (fault_count self.old) (fault_count self.new) }
+        // What the pool itself lacks is no fault of a backend.
+        ensures spared { (result ≡ Connected.Failed → ⊥)
+            → fault_count self.new ≡ fault_count self.old }
         ensures later { fault_count self.old ≤ fault_count self.new };
 
     /// Whether that backend says anything to one who comes anew. No session is begun.
     fn answers(&self, b: BackendId) -> bool;
+
+    /// Whether the server of that backend has served others without a break up to now, though a
+    /// link to it has broken.
+    fn lives(&self, b: BackendId) -> bool;
 
     /// How many connections failed. The count stands still at `u64::MAX`.
     fn faults(&self) -> u64

@@ -34,7 +34,7 @@ pub enum Slot<L: Drop> {
 pub enum Sent {
     /// Its answer is awaited.
     Accepted,
-    /// Memory was refused, and nothing was put.
+    /// Memory was refused, or the pool lacks what a link needs, and nothing was put.
     NoMemory,
 }
 
@@ -86,7 +86,7 @@ fn ask_anew<L: Link, M: LinkMaker<L = L>>(
             let after = maker.faults();
             (Slot::Lost(Loss { before, after }), Sent::Accepted)
         }
-        Connected::NoMemory => {
+        Connected::Short | Connected::NoMemory => {
             drop(request);
             (Slot::Empty, Sent::NoMemory)
         }

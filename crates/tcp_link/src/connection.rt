@@ -8,6 +8,7 @@ use crate::outbox::{Emptied, Outbox};
 use crate::password::{Shown, Unshown, show};
 use crate::patient::PatientLink;
 use crate::stream::TcpWire;
+use crate::want::want_at;
 use crate::wire::{Received, Sent, Wire};
 use catalogue::Catalogue;
 use login::Entry as Showing;
@@ -15,9 +16,10 @@ use pg_messages::Pair;
 use pool_base::{Code, List, NoMemory};
 use postgres_link::{Arrival, Heard, Inbox, Listening, Welcome, hear};
 use postgres_talk::put_start;
+use session_links::Want;
 use std::alloc::Global;
 use std::io;
-use std::net::{Net, SocketAddr, TcpStream, ToSocketAddrs};
+use std::net::{Ipv4Addr, Net, SocketAddr, TcpStream, ToSocketAddrs};
 use std::time::Duration;
 
 /// How long a read or a write waits at most. A look for an answer that has not come takes so long.
@@ -54,9 +56,11 @@ pub struct Introduction<'a> {
 /// What became of the beginning of a session.
 #[derive(Drop)]
 pub enum Connected<'a> {
-    /// There is a session; or the server has turned this client away, and lets others in, and the
-    /// link answers so.
+    /// There is a session.
     Ready(TcpLink<'a>),
+    /// The server has turned this client away with that code, and lets others in: the link answers
+    /// so.
+    TurnedAway(TcpLink<'a>, Code),
     /// The server asks for what it is not shown, and turns everybody away who does not show it: the
     /// link answers so.
     Unshown(TcpLink<'a>, Unshown),
@@ -64,11 +68,20 @@ pub enum Connected<'a> {
     Forged,
     /// No session: no server is there, it lets nobody in, or it answers otherwise.
     Failed,
+    /// No session: the pool itself lacks what a connection needs. It is no word against the server.
+    Short(Want),
     NoMemory,
 }
 
+/// Why there is no connection.
+#[derive(Clone, Copy)]
+pub(crate) enum Unreached {
+    Failed,
+    Short(Want),
+}
+
 /// What a server says to a client that comes.
-enum Entry {
+pub(crate) enum Entry {
     LetIn,
     /// It has turned the client away, and lets others in.
     Refused(Code),
@@ -87,14 +100,42 @@ fn prepared(stream: TcpStream) -> io::Result<TcpWire> {
     Ok(TcpWire::new(stream))
 }
 
+/// Why there is no connection to an address.
+fn unreached_at(addr: &SocketAddr, fault: &io::Error) -> Unreached {
+    match want_at(addr, fault) {
+        Some(want) => Unreached::Short(want),
+        None => Unreached::Failed,
+    }
+}
+
+/// Why a host's name has no address. The system says so too where it cannot open a file to look it
+/// up: then it cannot begin a connection to this machine either.
+fn unresolved<R: Net<Stream = TcpStream>>(rt: &R) -> Unreached {
+    let addr = SocketAddr::from((Ipv4Addr::LOCALHOST, 1));
+    match TcpStream::connect_timeout(rt, &addr, Duration::from_millis(PATIENCE)) {
+        Ok(stream) => {
+            drop(stream);
+            Unreached::Failed
+        }
+        Err(fault) => unreached_at(&addr, &fault),
+    }
+}
+
 /// A wire to the first of a host's addresses that answers.
-fn reach<R: Net<Stream = TcpStream>>(rt: &R, host: &str, port: u16) -> io::Result<TcpWire> {
+pub(crate) fn reach<R: Net<Stream = TcpStream>>(
+    rt: &R,
+    host: &str,
+    port: u16,
+) -> Result<TcpWire, Unreached> {
+    let Ok(addrs) = (host, port).to_socket_addrs(rt) else {
+        return Err(unresolved(rt));
+    };
     let patience = Duration::from_secs(CONNECT_PATIENCE);
-    let mut last = io::Error::from(io::ErrorKind::NotFound);
-    for addr in (host, port).to_socket_addrs(rt)? {
+    let mut last = Unreached::Failed;
+    for addr in addrs {
         match TcpStream::connect_timeout(rt, &addr, patience) {
-            Ok(stream) => return prepared(stream),
-            Err(fault) => last = fault,
+            Ok(stream) => return prepared(stream).map_err(|_| Unreached::Failed),
+            Err(fault) => last = unreached_at(&addr, &fault),
         }
     }
     Err(last)
@@ -171,6 +212,26 @@ fn showing(alloc: Global, introduction: Introduction<'_>) -> Result<Showing, NoM
     Ok(Showing::new(password, nonce))
 }
 
+/// Sends the start message, and takes what the server says to it.
+pub(crate) fn introduce<W: Wire>(
+    alloc: Global,
+    wire: &mut W,
+    inbox: &mut Inbox,
+    introduction: Introduction<'_>,
+) -> Result<Entry, NoMemory> {
+    let mut start = List::new(alloc);
+    if !put_start(introduction.options, &mut start)? {
+        return Ok(Entry::Failed);
+    }
+    let mut outbox = Outbox::new(alloc);
+    outbox.fill(start);
+    if !send_all(wire, &mut outbox) {
+        return Ok(Entry::Failed);
+    }
+    let showing = showing(alloc, introduction)?;
+    enter(alloc, wire, inbox, showing)
+}
+
 fn started<'a>(
     alloc: Global,
     tables: &'a Catalogue,
@@ -179,18 +240,9 @@ fn started<'a>(
 ) -> Result<Connected<'a>, NoMemory>
     ensures { IfOk result IsConnected }
 {
-    let mut start = List::new(alloc);
-    if !put_start(introduction.options, &mut start)? {
-        return Ok(Connected::Failed);
-    }
-    let mut outbox = Outbox::new(alloc);
-    outbox.fill(start);
-    if !send_all(&mut wire, &mut outbox) {
-        return Ok(Connected::Failed);
-    }
     let mut inbox = Inbox::new(alloc);
-    let showing = showing(alloc, introduction)?;
-    let (refusal, unshown) = match enter(alloc, &mut wire, &mut inbox, showing)? {
+    let entry = introduce(alloc, &mut wire, &mut inbox, introduction)?;
+    let (refusal, unshown) = match entry {
         Entry::LetIn => (None, None),
         Entry::Refused(code) => (Some(code), None),
         Entry::Unshown(unshown) => (Some(INVALID_AUTHORIZATION), Some(unshown)),
@@ -198,16 +250,32 @@ fn started<'a>(
         Entry::Failed => return Ok(Connected::Failed),
     };
     let link = PatientLink::new(alloc, tables, wire, inbox, refusal)?;
-    Ok(match unshown {
-        Some(unshown) => Connected::Unshown(link, unshown),
-        None => Connected::Ready(link),
+    Ok(match (unshown, refusal) {
+        (Some(unshown), _) => Connected::Unshown(link, unshown),
+        (None, Some(code)) => Connected::TurnedAway(link, code),
+        (None, None) => Connected::Ready(link),
     })
 }
 
-/// Whether something comes, as long as a server may take at the start.
-fn hears<W: Wire>(wire: &mut W) -> bool {
+/// A session over a wire, or why there is none.
+fn begun<'a>(
+    alloc: Global,
+    tables: &'a Catalogue,
+    wire: TcpWire,
+    introduction: Introduction<'_>,
+) -> Connected<'a>
+    ensures { IsConnected result }
+{
+    match started(alloc, tables, wire, introduction) {
+        Ok(connected) => connected,
+        Err(NoMemory) => Connected::NoMemory,
+    }
+}
+
+/// Whether something comes within so many looks.
+fn hears<W: Wire>(wire: &mut W, looks: u32) -> bool {
     let mut piece = [0u8; 1];
-    for _ in 0..START_TRIES {
+    for _ in 0..looks {
         match wire.receive(&mut piece) {
             Received::Bytes(_) => return true,
             Received::NotYet => {}
@@ -217,13 +285,20 @@ fn hears<W: Wire>(wire: &mut W) -> bool {
     false
 }
 
-/// Whether the server of that address says anything to one who comes anew. It begins no session, so
-/// that a server that has no connection free answers too.
-pub fn answers<R: Net<Stream = TcpStream>>(rt: &R, host: &str, port: u16) -> bool {
-    let Ok(mut wire) = reach(rt, host, port) else {
-        return false;
-    };
-    matches!(wire.send(&ENCRYPTION), Sent::Taken(_)) && hears(&mut wire)
+/// Whether the server of that address says anything to one who comes anew, within so many looks. It
+/// begins no session, so that a server that has no connection free answers too. Where the pool
+/// lacks what a connection needs the server is not looked at, and there is no word against it.
+pub fn answers<R: Net<Stream = TcpStream>>(rt: &R, host: &str, port: u16, looks: u32) -> bool {
+    match reach(rt, host, port) {
+        Ok(wire) => greets(wire, looks),
+        Err(unreached) => matches!(unreached, Unreached::Short(_)),
+    }
+}
+
+/// Whether a server says anything to one who asks for encryption.
+fn greets<W: Wire>(wire: W, looks: u32) -> bool {
+    let mut wire = wire;
+    matches!(wire.send(&ENCRYPTION), Sent::Taken(_)) && hears(&mut wire, looks)
 }
 
 /// Begins a session at the server of that address, with the options of the introduction, as `user`
@@ -241,11 +316,9 @@ pub fn connect<'a, R: Net<Stream = TcpStream>>(
     // A link that is ready has nothing pending, and is not lost.
     ensures ready { IsConnected result }
 {
-    let Ok(wire) = reach(rt, host, port) else {
-        return Connected::Failed;
-    };
-    match started(alloc, tables, wire, introduction) {
-        Ok(connected) => connected,
-        Err(NoMemory) => Connected::NoMemory,
+    match reach(rt, host, port) {
+        Ok(wire) => begun(alloc, tables, wire, introduction),
+        Err(Unreached::Failed) => Connected::Failed,
+        Err(Unreached::Short(want)) => Connected::Short(want),
     }
 }

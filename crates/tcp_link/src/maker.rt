@@ -3,22 +3,28 @@ ghost use Rattle.std.specs.Prelude.{◌≡◌, ◌≤◌};
 ghost use Rattle.pool_base.specs.Outside.{Rose};
 ghost use Rattle.session_links.specs.declared.maker.Connected.TheVariants.{Failed};
 ghost use Rattle.tcp_link.specs.Connections.{IsConnected};
+ghost use Rattle.tcp_link.specs.Links.{pending_of};
+ghost use Rattle.tcp_link.specs.Makings.{IsMade, IsOpened};
 
 use crate::TcpLink;
+use crate::codes::INVALID_AUTHORIZATION;
 use crate::connection::{Connected as Begun, Introduction, answers, connect};
+use crate::held::Held;
 use crate::nonce::fresh_nonce;
-use crate::password::Unshown;
+use crate::password::why_unshown;
+use crate::witness::Witnesses;
 use catalogue::Catalogue;
 use pg_messages::Pair;
-use pool_base::{BackendId, List, NoMemory};
+use pool_base::{BackendId, BackendSet, List, NoMemory};
 use pool_config::Config;
 use serve_base::tell;
-use session_links::{Connected, LinkMaker};
+use session_links::{Connected, LinkMaker, Opened, Want};
 use std::alloc::Global;
 use std::cell::Cell;
 use std::net::{Net, TcpStream};
 use std::random::RandomSource;
 use std::rt::Clock;
+use std::sync::Wait;
 
 /// Makes links over TCP to the backends of a configuration.
 #[derive(Drop)]
@@ -29,6 +35,10 @@ pub struct TcpMaker<'a, R> {
     pub config: &'a Config,
     /// The backends where the last try began no session, each by its bit.
     pub unreached: &'a Cell<u8>,
+    /// The links that were made before their first use.
+    pub held: Held<'a>,
+    /// Who speaks for a server to which a link has broken.
+    pub witnesses: &'a Witnesses,
     pub faults: u64,
 }
 
@@ -38,9 +48,25 @@ fn is_passed_on(option: &Pair) -> bool {
     name == b"user".as_slice() || name == b"database".as_slice()
 }
 
-/// The options that a backend is told of.
+/// A setting of a session: how often the server looks whether its client is there, while a
+/// statement waits.
+const CHECKS: &[u8] = b"client_connection_check_interval";
+
+/// Units: milliseconds.
+const INTERVAL: &[u8] = b"2000";
+
+/// How many looks for a server's word take half a second: it has half of the time that a server
+/// may leave the pool without an answer, since a session has waited as long before.
+const HALF_A_SECOND: u32 = 10;
+
+/// The options that a backend is told of: who the client is, and that its session ends soon where
+/// the pool has dropped it.
 fn passed_on(alloc: Global, options: &[Pair]) -> Result<List<Pair>, NoMemory> {
     let mut theirs = List::new(alloc);
+    theirs.push(Pair {
+        name: List::from_slice(alloc, CHECKS)?,
+        value: List::from_slice(alloc, INTERVAL)?,
+    })?;
     for option in options {
         if is_passed_on(option) {
             theirs.push(Pair {
@@ -50,18 +76,6 @@ fn passed_on(alloc: Global, options: &[Pair]) -> Result<List<Pair>, NoMemory> {
         }
     }
     Ok(theirs)
-}
-
-/// Why a server that asks for a password lets nobody in.
-fn why_unshown(unshown: Unshown) -> &'static str {
-    match unshown {
-        Unshown::Password => "asks for a password, and backend_password is not set",
-        Unshown::ClearText => {
-            "asks for a password in clear text, and it is shown by SCRAM-SHA-256 alone"
-        }
-        Unshown::Md5 => "asks for a password by MD5, and it is shown by SCRAM-SHA-256 alone",
-        Unshown::Other => "asks for what is not shown: a password is, by SCRAM-SHA-256 alone",
-    }
 }
 
 impl<'a, R: Net<Stream = TcpStream> + RandomSource + Eprint + Clock + Copy> TcpMaker<'a, R> {
@@ -115,7 +129,7 @@ impl<'a, R: Net<Stream = TcpStream> + RandomSource + Eprint + Clock + Copy> TcpM
         };
         match fresh_nonce(self.rt, self.alloc) {
             Ok(Some(nonce)) => self.begin(b, options.as_slice(), nonce.as_slice()),
-            Ok(None) => Begun::Failed,
+            Ok(None) => Begun::Short(Want::Memory),
             Err(NoMemory) => Begun::NoMemory,
         }
     }
@@ -131,25 +145,14 @@ impl<'a, R: Net<Stream = TcpStream> + RandomSource + Eprint + Clock + Copy> TcpM
         Connected::Failed
     }
 
-    /// A session was begun at that backend.
-    fn reached(&self, b: BackendId) {
-        self.unreached.set(self.unreached.get() & !(1 << b.number));
-    }
-}
-
-impl<'a, R: Net<Stream = TcpStream> + RandomSource + Eprint + Clock + Copy> LinkMaker
-    for TcpMaker<'a, R> {
-    ghost use Rattle.std.specs.Prelude.{None};
-
-    ghost fault_count = { λ m. m.faults };
-
-    ghost plans = { λ _. None };
-
-    type L = TcpLink<'a>;
-
-    fn connect(&mut self, b: BackendId, options: &[Pair]) -> Connected<TcpLink<'a>> {
+    /// Makes a link to a backend now. A client that the server turns away has one that says so.
+    fn make(&mut self, b: BackendId, options: &[Pair]) -> Connected<TcpLink<'a>>
+        ensures made { IsMade (λ link. pending_of link.state) result self.old.faults
+            self.new.faults }
+        ensures later { self.old.faults ≤ self.new.faults }
+    {
         match self.begun(b, options) {
-            Begun::Ready(link) => {
+            Begun::Ready(link) | Begun::TurnedAway(link, _) => {
                 self.reached(b);
                 Connected::Ready(link)
             }
@@ -163,15 +166,103 @@ impl<'a, R: Net<Stream = TcpStream> + RandomSource + Eprint + Clock + Copy> Link
                 self.fail(b)
             }
             Begun::Failed => self.fail(b),
+            Begun::Short(_) => Connected::Short,
             Begun::NoMemory => Connected::NoMemory,
+        }
+    }
+
+    /// Makes a link to a backend, and holds it until it is asked for.
+    fn hold(&mut self, b: BackendId, options: &[Pair]) -> Opened
+        ensures { IsOpened result self.old.faults self.new.faults }
+    {
+        match self.begun(b, options) {
+            Begun::Ready(link) => {
+                self.reached(b);
+                match self.held.put(b, link) {
+                    Ok(()) => Opened::Ready,
+                    Err(NoMemory) => Opened::Short(Want::Memory),
+                }
+            }
+            Begun::TurnedAway(link, code) => {
+                drop(link);
+                Opened::TurnedAway(code)
+            }
+            Begun::Unshown(link, unshown) => {
+                drop(link);
+                self.tell(b, why_unshown(unshown));
+                Opened::TurnedAway(INVALID_AUTHORIZATION)
+            }
+            Begun::Forged => {
+                self.tell(b, "has not shown that it knows the password");
+                self.lack(b)
+            }
+            Begun::Failed => self.lack(b),
+            Begun::Short(want) => Opened::Short(want),
+            Begun::NoMemory => Opened::Short(Want::Memory),
+        }
+    }
+
+    /// A backend has no link to be held.
+    fn lack(&mut self, b: BackendId) -> Opened
+        ensures { IsOpened result self.old.faults self.new.faults }
+    {
+        drop(self.fail(b));
+        Opened::Failed
+    }
+
+    /// Makes a link to each backend of a set, for a client that has begun its own session with
+    /// these options, and holds them until they are asked for. What became of each is answered, by
+    /// the backends' numbers.
+    pub fn open(&mut self, among: BackendSet, options: &[Pair]) -> [Opened; 8] {
+        let mut opened = [Opened::Unasked; 8];
+        for number in 0..8_u8 {
+            let b = BackendId { number };
+            if among.has(b) {
+                opened[usize::from(number)] = self.hold(b, options);
+            }
+        }
+        opened
+    }
+
+    /// A session was begun at that backend.
+    fn reached(&self, b: BackendId) {
+        self.unreached.set(self.unreached.get() & !(1 << b.number));
+    }
+}
+
+impl<'a, R: Net<Stream = TcpStream> + RandomSource + Eprint + Clock + Wait + Copy> LinkMaker
+    for TcpMaker<'a, R> {
+    ghost use Rattle.std.specs.Prelude.{None};
+
+    ghost fault_count = { λ m. m.faults };
+
+    ghost plans = { λ _. None };
+
+    type L = TcpLink<'a>;
+
+    fn connect(&mut self, b: BackendId, options: &[Pair]) -> Connected<TcpLink<'a>> {
+        match self.held.take(b) {
+            Some(link) => Connected::Ready(link),
+            None => self.make(b, options),
         }
     }
 
     fn answers(&self, b: BackendId) -> bool {
         match self.config.nodes.get(usize::from(b.number)) {
-            Some(node) => answers(self.rt, node.host.as_str(), node.port),
+            Some(node) => {
+                let looks = self
+                    .config
+                    .sessions
+                    .server_timeout
+                    .saturating_mul(HALF_A_SECOND);
+                answers(self.rt, node.host.as_str(), node.port, looks)
+            }
             None => false,
         }
+    }
+
+    fn lives(&self, b: BackendId) -> bool {
+        self.witnesses.vouch(self.rt, b)
     }
 
     fn faults(&self) -> u64 {

@@ -34,6 +34,18 @@ pub enum Unshown {
     Other,
 }
 
+/// Why a server that asks for a password lets nobody in.
+pub fn why_unshown(unshown: Unshown) -> &'static str {
+    match unshown {
+        Unshown::Password => "asks for a password, and backend_password is not set",
+        Unshown::ClearText => {
+            "asks for a password in clear text, and it is shown by SCRAM-SHA-256 alone"
+        }
+        Unshown::Md5 => "asks for a password by MD5, and it is shown by SCRAM-SHA-256 alone",
+        Unshown::Other => "asks for what is not shown: a password is, by SCRAM-SHA-256 alone",
+    }
+}
+
 /// What became of a server's question for a password.
 pub(crate) enum Shown {
     /// The server lets the client in: it has asked for no password, or has shown that it knows the

@@ -17,6 +17,7 @@ ghost use Rattle.tcp_link.specs.Links.{Answers, pending_of, faults_of};
 
 use crate::debt::{Debt, Ended};
 use crate::outbox::{Emptied, Outbox};
+use crate::stream::TcpWire;
 use crate::wire::{Received, Wire};
 use backend_trait::{Link, Polled, Posted, Request};
 use catalogue::Catalogue;
@@ -379,6 +380,13 @@ impl<'a, W: Wire> PatientLink<'a, W> {
             return false;
         }
         !self.debt.is_awaited() || self.end()
+    }
+}
+
+impl<'a> PatientLink<'a, TcpWire> {
+    /// Whether the server of a session at which nothing was asked yet has ended it.
+    pub(crate) fn has_ended(&self) -> bool {
+        self.refusal.is_none() && self.wire.has_ended()
     }
 }
 

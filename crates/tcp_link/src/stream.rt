@@ -32,6 +32,23 @@ impl TcpWire {
     {
         TcpWire { stream, faults: 0 }
     }
+
+    /// Whether the peer, to whom nothing was said that it answers, has ended the stream, or has
+    /// said something, which is its last word then.
+    pub(crate) fn has_ended(&self) -> bool {
+        if self.stream.set_nonblocking(true).is_err() {
+            return true;
+        }
+        let mut piece = [0u8; 1];
+        let looked = self.stream.peek(&mut piece);
+        if self.stream.set_nonblocking(false).is_err() {
+            return true;
+        }
+        match looked {
+            Ok(_) => true,
+            Err(fault) => !is_passing(fault.kind()),
+        }
+    }
 }
 
 impl Wire for TcpWire {

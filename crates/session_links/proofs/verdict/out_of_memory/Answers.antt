@@ -1,0 +1,6 @@
+use Rattle.std.proofs.Common.{refl}
+use Rattle.session_links.proofs.SameCode.{same_code}
+use Rattle.session_links.proofs.verdict.out_of_memory.Goals as goal
+
+pub returns : goal.returns
+returns c = same_code _ _ refl
