@@ -9,3 +9,5 @@ pub mod Talking
 pub mod Stepping
 pub mod Entries
 pub mod Telling
+mod MachineLaws
+pub mod Granted

@@ -246,6 +246,8 @@ over_gone first causes.Refused = refl
 over_gone first causes.ReadFault = refl
 over_gone first causes.WriteFault = refl
 over_gone first causes.CutOff = refl
+over_gone first causes.PutOut = refl
+over_gone first causes.Broken = refl
 over_gone first causes.NoMemory = refl
 over_gone first causes.Stopped = refl
 
@@ -255,6 +257,8 @@ over_here causes.Refused last is ends = ends
 over_here causes.ReadFault last is ends = ends
 over_here causes.WriteFault last is ends = ends
 over_here causes.CutOff last is ends = ends
+over_here causes.PutOut last is ends = ends
+over_here causes.Broken last is ends = ends
 over_here causes.NoMemory last is ends = ends
 over_here causes.Stopped last is ends = inl is
 

@@ -31,10 +31,11 @@ use Rattle.pool_server.specs.declared.end.EndCause.{EndCause}
 use Rattle.pool_server.specs.declared.end.EndCause.TheVariants as causes
 use Rattle.pool_server.specs.declared.parting.Step.{Step}
 use Rattle.pool_server.specs.declared.parting.Step.TheVariants as steps
-use Rattle.pool_server.specs.Deeds.{Deed, Reads, ReadsEnd, Turns, Writes, Does, Loses, Miss, Plainly, Behind, Unfed, Unturned, Untaken, Untold}
-use Rattle.pool_server.specs.Places.{Setting, Place, AsServed, CausesMiss, Moves, Takes, Tells, TellsOf, Turned, at_moment, leaves_by, led, tells_leave}
+use Rattle.pool_server.specs.Deeds.{Deed, Reads, ReadsEnd, Turns, Writes, Does, Loses, Miss, Plainly, Behind, Farewell, Unfed, Unturned, Untaken, Untold}
+use Rattle.pool_server.specs.Farewells.{farewell}
+use Rattle.pool_server.specs.Places.{Setting, Place, waits_freely, AsServed, CausesMiss, Moves, Takes, Tells, TellsOf, Turned, at_moment, leaves_by, led, tells_leave}
 use Rattle.pool_server.specs.Sights.{Seen, Shows, Went, with_given, with_reads, with_taken}
-use Rattle.pool_server.specs.Servings.{EndsIn, IsFed, IsGiven, IsHad, IsOrdered, closed_by, leaves_with, lost_with, passing_by, talked, talking}
+use Rattle.pool_server.specs.Servings.{EndsIn, IsFed, IsGiven, IsHad, IsOrdered, IsPutOut, closed_by, leaves_with, lost_with, passing_by, talked, talking}
 use Rattle.pool_server.proofs.Going.{gives_nothing, went_none, went_on, went_one, went_same}
 
 or_false : (b : Bool) → (b || false) ≡ b
@@ -104,6 +105,26 @@ module _ (w : Setting) (p : Place) (s : Seen) where
   wrote_front m v v' taken taken' step takes same lost leaving = went_one w (talking p m v) (talked p m v' step) (Loses causes.WriteFault (Behind takes.front)) (with_taken s taken) (with_taken s taken')
       (lost, (leaving, (tt, (refl, (same, (takes.rest, takes.parts))))))
       (record { read = gives_nothing s.left; ended = refl; written = subst (λ (z : List ℕ). Appends taken taken' z) (sym (append-nil takes.front)) takes.has; moments = appends_nothing s.given; calls = sym (append-nil s.calls); reaches = (s.reach, refl, refl) })
+
+  -- it is put out, or the sink fails
+  pub farewelled : (m : Machine) (v : View) (taken taken' : Option (List ℕ)) (step : Step) → (next_action m ≡ actions.Rest) ⊎ (waits_freely m.point ≡ true) → v.output ≡ [] → IsPutOut step taken taken'
+      → Went w (talking p m v) (with_taken s taken) (talked p m v step) (with_taken s taken')
+  farewelled m v taken taken' step may none (inl (is, takes)) =
+      subst (λ (st : Step). Went w (talking p m v) (with_taken s taken) (talked p m v st) (with_taken s taken')) (sym is)
+      (went_one w (talking p m v) (talked p m v (steps.Lost causes.PutOut)) (Loses causes.PutOut (Farewell farewell)) (with_taken s taken) (with_taken s taken')
+      (refl, (refl, (((may, refl), (none, refl)), (refl, (refl, ([], sym (append-nil farewell)))))))
+      (record { read = gives_nothing s.left; ended = refl; written = subst (λ (z : List ℕ). Appends taken taken' z) (sym (append-nil farewell)) takes; moments = appends_nothing s.given; calls = sym (append-nil s.calls); reaches = (s.reach, refl, refl) }))
+  farewelled m v taken taken' step may none (inr (is, takes)) =
+      subst (λ (st : Step). Went w (talking p m v) (with_taken s taken) (talked p m v st) (with_taken s taken')) (sym is)
+      (went_one w (talking p m v) (talked p m v (steps.Lost causes.WriteFault)) (Loses causes.WriteFault (Farewell takes.front)) (with_taken s taken) (with_taken s taken')
+      (refl, (refl, (((may, refl), none), (refl, (refl, (takes.rest, takes.parts))))))
+      (record { read = gives_nothing s.left; ended = refl; written = subst (λ (z : List ℕ). Appends taken taken' z) (sym (append-nil takes.front)) takes.has; moments = appends_nothing s.given; calls = sym (append-nil s.calls); reaches = (s.reach, refl, refl) }))
+
+  -- it is gone
+  pub vanished : (m : Machine) (v : View) → Went w (talking p m v) s (talked p m v (steps.Lost causes.ReadFault)) s
+  vanished m v = went_one w (talking p m v) (talked p m v (steps.Lost causes.ReadFault)) (Loses causes.ReadFault Plainly) s s
+      (refl, (refl, (tt, (refl, refl))))
+      (record { read = gives_nothing s.left; ended = refl; written = appends_nothing s.taken; moments = appends_nothing s.given; calls = sym (append-nil s.calls); reaches = (s.reach, refl, refl) })
 
   -- Reads.
 

@@ -30,11 +30,11 @@ use Rattle.pool_server.specs.declared.parting.Step.TheVariants as steps
 use Rattle.session_links.specs.declared.slot.Sent.TheVariants as sents
 use Rattle.session_links.specs.Plans.{Linked, Puts}
 use Rattle.session_links.specs.Rising.{has_risen}
-use Rattle.pool_server.specs.Deeds.{Call, made, Deed, Does, Holds, Peeks, Connects, GivesUp, Loses, Miss, Plainly, Unheard, Unused}
+use Rattle.pool_server.specs.Deeds.{Call, made, Deed, Does, Holds, Peeks, Connects, GivesUp, Loses, Miss, Plainly, Unheard, Unused, Severed, TurnedAway}
 use Rattle.pool_server.specs.Places.{Setting, Place, with_machine, Moves, IsHeard, CausesMiss, Comes, Fails, Misses, call_due, first_loss, leaves_at}
 use Rattle.pool_server.specs.Reaches.{Reach, DeedAt, EventAt, IsAnswered, IsLost, IsMade, IsPosted, IsTaken, MissAt}
 use Rattle.pool_server.specs.Sights.{Seen, Shows, Went, with_work, calls_at, calls_by, ends_by, moments_by, read_by, written_by}
-use Rattle.pool_server.specs.Servings.{Happens, IsPeeked, stepped}
+use Rattle.pool_server.specs.Servings.{Happens, Hears, IsPeeked, LosesLink, stepped}
 use Rattle.pool_server.proofs.Going.{gives_nothing, went_none, went_on, went_one, went_same, went_to}
 use Rattle.pool_server.proofs.Linking.{is_made, made_at, same_reach, set_else, set_here}
 
@@ -252,3 +252,20 @@ module _ (w : Setting) (p : Place) (s : Seen) where
       subst (λ (st : Step). Went w (with_machine p m) (with_work s calls r) (stepped p n st) (with_work s calls t)) (sym goes)
       (does (events.Faulted b before later) m n calls calls r t (record { may = may; leads = leads }) refl refl lost (sym (append-nil calls)))
   missed b before later step m n calls r t asked rose lost (inr (stops, (not, same))) = absurd (not (waited_due (next_action m) b asked, rose_so before later rose))
+
+  -- an answer that turns the client away takes the client with it
+  pub took_so : (b : BackendId) (answer : Answer) (step : Step) (m n : Machine) (calls : List Call) (r t : Reach) → asked_of (next_action m) ≡ asks.WaitFor b → IsTaken b answer r t → Hears b answer m step n
+      → Went w (with_machine p m) (with_work s calls r) (stepped p n step) (with_work s calls t)
+  took_so b answer step m n calls r t asked taken (inl (inl goes, heard)) = took b answer step m n calls r t asked taken (inl (goes, heard))
+  took_so b answer step m n calls r t asked taken (inl (inr (parts, away), (may, leads))) =
+      subst (λ (st : Step). Went w (with_machine p m) (with_work s calls r) (stepped p n st) (with_work s calls t)) (sym parts)
+      (missing causes.Broken (TurnedAway b answer) m n calls calls r t (unseen refl refl refl (λ ended. refl)) away (record { may = may; leads = leads }, refl) taken (sym (append-nil calls)))
+  took_so b answer step m n calls r t asked taken (inr stops) = took b answer step m n calls r t asked taken (inr stops)
+
+  -- so does a link that is lost while its server serves others
+  pub missed_link : (b : BackendId) (before later : ℕ) (step : Step) (m n : Machine) (calls : List Call) (r t : Reach) → asked_of (next_action m) ≡ asks.WaitFor b → has_risen before later ≡ true → IsLost b r t → LosesLink b before later m step n
+      → Went w (with_machine p m) (with_work s calls r) (stepped p n step) (with_work s calls t)
+  missed_link b before later step m n calls r t asked rose lost (inl (answer, (parts, (severs, (may, leads))))) =
+      subst (λ (st : Step). Went w (with_machine p m) (with_work s calls r) (stepped p n st) (with_work s calls t)) (sym parts)
+      (missing causes.Broken (Severed b answer before later) m n calls calls r t (unseen refl refl refl (λ ended. refl)) (severs, rose_so before later rose) (record { may = may; leads = leads }, refl) lost (sym (append-nil calls)))
+  missed_link b before later step m n calls r t asked rose lost (inr happens) = missed b before later step m n calls r t asked rose lost happens

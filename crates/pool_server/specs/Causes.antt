@@ -13,6 +13,8 @@ is_read_fault causes.Refused = false
 is_read_fault causes.ReadFault = true
 is_read_fault causes.WriteFault = false
 is_read_fault causes.CutOff = false
+is_read_fault causes.PutOut = false
+is_read_fault causes.Broken = false
 is_read_fault causes.NoMemory = false
 is_read_fault causes.Stopped = false
 
@@ -22,6 +24,8 @@ is_write_fault causes.Refused = false
 is_write_fault causes.ReadFault = false
 is_write_fault causes.WriteFault = true
 is_write_fault causes.CutOff = false
+is_write_fault causes.PutOut = false
+is_write_fault causes.Broken = false
 is_write_fault causes.NoMemory = false
 is_write_fault causes.Stopped = false
 
@@ -31,8 +35,21 @@ is_cut_off causes.Refused = false
 is_cut_off causes.ReadFault = false
 is_cut_off causes.WriteFault = false
 is_cut_off causes.CutOff = true
+is_cut_off causes.PutOut = false
+is_cut_off causes.Broken = false
 is_cut_off causes.NoMemory = false
 is_cut_off causes.Stopped = false
+
+abbrev pub is_put_out : EndCause → Bool
+is_put_out causes.Left = false
+is_put_out causes.Refused = false
+is_put_out causes.ReadFault = false
+is_put_out causes.WriteFault = false
+is_put_out causes.CutOff = false
+is_put_out causes.PutOut = true
+is_put_out causes.Broken = false
+is_put_out causes.NoMemory = false
+is_put_out causes.Stopped = false
 
 -- the step ends the session, or loses its client, by such a cause
 abbrev pub in_step : (EndCause → Bool) → Step → Bool
@@ -54,6 +71,6 @@ abbrev pub in_answer : (EndCause → Bool) → Option EndCause → Bool
 in_answer test None = false
 in_answer test (Some cause) = test cause
 
--- no fault of the client's bytes, and nothing that was cut off
+-- no fault of the client's bytes, nothing that was cut off, and nobody who was put out
 abbrev pub IsQuiet : Step → Type 0
-IsQuiet step = (in_step is_read_fault step ≡ false) × (in_step is_write_fault step ≡ false) × (in_step is_cut_off step ≡ false)
+IsQuiet step = (in_step is_read_fault step ≡ false) × (in_step is_write_fault step ≡ false) × (in_step is_cut_off step ≡ false) × (in_step is_put_out step ≡ false)

@@ -24,6 +24,7 @@ pub data Miss : Type 0 where
   Plainly : Miss  -- nothing of its client: a read has failed, or memory was refused
   Unbidden : Miss  -- its machine has come to its end, and was not told to leave
   Behind : List ℕ → Miss  -- a write, of which these bytes were taken
+  Farewell : List ℕ → Miss  -- it was to be put out, and of what it is told then these bytes were taken
   Unfed : List ℕ → Miss  -- bytes were read, and came no further
   Unturned : ℤ → Miss  -- by this reading of the clock it was to be said what comes next
   Untaken : ℤ → Order → Miss  -- by this reading of the clock that order was to come next
@@ -33,6 +34,8 @@ pub data Miss : Type 0 where
   Unasked : BackendId → Miss  -- a request was due for a backend of which an answer is awaited already
   Unawaited : BackendId → Miss  -- an answer was due of a backend of which none is awaited
   Unused : BackendId → Answer → Miss  -- a backend has answered so, and this is no answer
+  Severed : BackendId → Answer → ℕ → ℕ → Miss  -- the link to a backend was lost, by these counts of faults, and its server serves others: the machine was told this in place of an answer
+  TurnedAway : BackendId → Answer → Miss  -- a backend has answered so where a snapshot was asked for: its server lets this client no more in
 
 pub data Deed : Type 0 where
   -- of its client: bytes are read, and taken in; their end is; by a reading of the clock it is said what comes next; bytes are written

@@ -1,5 +1,5 @@
 -- Where a served session stands, and which deed may come there: the session's machine and the dialogue with its client allow it.
-use Rattle.std.specs.Prelude.{◌≡◌, ℕ, ℤ, Bool, true, false, List, [], ◌∷◌, ◌++◌, Option, Some, None, is_some, codes, length}
+use Rattle.std.specs.Prelude.{◌≡◌, ◌⊎◌, ℕ, ℤ, Bool, true, false, List, [], ◌∷◌, ◌++◌, Option, Some, None, is_some, codes, length}
 use Rattle.pool_base.specs.declared.backend_id.BackendId.{BackendId}
 use Rattle.pool_base.specs.declared.gate_call.GateCall.{GateCall}
 use Rattle.pool_base.specs.declared.gate_call.GateCall.TheVariants as gatecalls
@@ -15,7 +15,9 @@ use Rattle.session_machine.specs.declared.action.Action.TheVariants as actions
 use Rattle.session_machine.specs.declared.action.SessionEvent.{SessionEvent}
 use Rattle.session_machine.specs.declared.action.SessionEvent.TheVariants as events
 use Rattle.session_machine.specs.declared.machine.Machine.{Machine}
-use Rattle.session_machine.specs.Allowed.{MayHappen, TakesOrder}
+use Rattle.session_machine.specs.declared.machine.Point.{Point}
+use Rattle.session_machine.specs.declared.machine.Point.TheVariants.{Waiting}
+use Rattle.session_machine.specs.Allowed.{MayHappen, TakesOrder, may_stop}
 use Rattle.session_machine.specs.Rules.{after, next_action, status_byte}
 use Rattle.session_engine.specs.Handing.{gate_event}
 use Rattle.session_engine.specs.Tidying.{tidied}
@@ -25,9 +27,12 @@ use Rattle.session_wire.specs.declared.wire.WireStep.TheVariants as wires
 use Rattle.session_wire.specs.Answers.{MayAnswer, Says, implicit_after, keeps_portals, left_after, skips}
 use Rattle.session_wire.specs.Shown.{View, frame_of, with_end, with_piece, with_written}
 use Rattle.session_wire.specs.Steps.{IsNext}
+use Rattle.pool_base.specs.Outside.{Rose}
+use Rattle.pool_server.specs.Breaks.{SeversAt, OpensAt, turns_away}
 use Rattle.pool_server.specs.declared.end.EndCause.{EndCause}
 use Rattle.pool_server.specs.declared.end.EndCause.TheVariants as causes
-use Rattle.pool_server.specs.Deeds.{Deed, Reads, ReadsEnd, Turns, Writes, Does, Holds, Peeks, Connects, GivesUp, Loses, Miss, Plainly, Unbidden, Behind, Unfed, Unturned, Untaken, Untold, Unheard, Unmade, Unasked, Unawaited, Unused}
+use Rattle.pool_server.specs.Farewells.{farewell}
+use Rattle.pool_server.specs.Deeds.{Deed, Reads, ReadsEnd, Turns, Writes, Does, Holds, Peeks, Connects, GivesUp, Loses, Miss, Plainly, Unbidden, Behind, Farewell, Unfed, Unturned, Untaken, Untold, Unheard, Unmade, Unasked, Unawaited, Unused, Severed, TurnedAway}
 
 -- the tables that are served, and the nodes that are configured
 pub record Setting : Type 0 where
@@ -160,6 +165,7 @@ abbrev pub Fails : Setting → Miss → Place → Place → Type 0
 Fails w Plainly old new = ⊥
 Fails w Unbidden old new = IsUnbidden old
 Fails w (Behind front) old new = ⊥
+Fails w (Farewell front) old new = ⊥
 Fails w (Unfed bytes) old new = ⊥
 Fails w (Unturned moment) old new = IsTurn old × IsNext w.tables moment old.view wires.NeedOutcome new.view
 Fails w (Untaken moment order) old new = IsTurn old × ((body : OrderBody) × AsServed order.body body × (TakesOrder old.machine body → ⊥))
@@ -170,6 +176,8 @@ Fails w (Unmade call) old new = call_due (next_action old.machine) ≡ Some call
 Fails w (Unasked b) old new = (request : Request) × (next_action old.machine ≡ actions.Post b request)
 Fails w (Unawaited b) old new = next_action old.machine ≡ actions.WaitFor b
 Fails w (Unused b answer) old new = (next_action old.machine ≡ actions.WaitFor b) × (MayHappen old.machine (events.Taken b answer) → ⊥)
+Fails w (Severed b answer before after) old new = ⊥
+Fails w (TurnedAway b answer) old new = ⊥
 
 -- where memory was refused a step was under way, but for a write and a call of the gate
 abbrev pub LacksMemory : Miss → Type 0
@@ -184,32 +192,61 @@ abbrev pub IsPlain : Miss → Type 0
 IsPlain Plainly = Unit {0}
 IsPlain miss = ⊥
 
-abbrev pub IsBehind : Miss → Type 0
-IsBehind (Behind front) = Unit {0}
-IsBehind miss = ⊥
-
 -- a commit that is cut off brings the machine to its end
 abbrev pub CutsOff : Miss → Place → Type 0
 CutsOff Unbidden old = IsUnbidden old
 CutsOff miss old = ⊥
 
--- a read that failed; a write that did; a commit that was cut off; memory that was refused; a test that has failed
+-- an answer is awaited outside an entered commit, and not between the posts of an INSERT that draws numbers
+abbrev pub waits_freely : Point → Bool
+waits_freely (Waiting stage b) = may_stop stage
+waits_freely point = false
+
+-- the client is there, and may be put out: its machine rests, or waits so
+abbrev pub MayPart : Place → Type 0
+MayPart old = ((next_action old.machine ≡ actions.Rest) ⊎ (waits_freely old.machine.point ≡ true)) × (old.lost ≡ None)
+
+-- it is put out where it may be, behind all that waited, by a whole farewell
+abbrev pub PutsOut : Miss → Place → Type 0
+PutsOut (Farewell told) old = MayPart old × ((old.view.output ≡ []) × (told ≡ farewell))
+PutsOut miss old = ⊥
+
+-- a write has failed: of what waited, or of a farewell behind that
+abbrev pub FailsBehind : Miss → Place → Type 0
+FailsBehind (Behind front) old = Unit {0}
+FailsBehind (Farewell front) old = MayPart old × (old.view.output ≡ [])
+FailsBehind miss old = ⊥
+
+-- a link is lost outside a commit, or a snapshot is refused as a client is turned away
+abbrev pub Breaks : Miss → Place → Type 0
+Breaks (Severed b answer before after) old = SeversAt old.machine.point b answer × Rose before after
+Breaks (TurnedAway b answer) old = OpensAt old.machine.point b × (turns_away answer ≡ true)
+Breaks miss old = ⊥
+
+-- a read that failed; a write that did; a commit that was cut off; a client that is put out; a link that broke; memory that was refused; a test that has failed
 abbrev pub CausesMiss : Setting → EndCause → Miss → Place → Place → Type 0
 CausesMiss w causes.Left miss old new = ⊥
 CausesMiss w causes.Refused miss old new = ⊥
 CausesMiss w causes.ReadFault miss old new = IsPlain miss
-CausesMiss w causes.WriteFault miss old new = IsBehind miss
+CausesMiss w causes.WriteFault miss old new = FailsBehind miss old
 CausesMiss w causes.CutOff miss old new = CutsOff miss old
+CausesMiss w causes.PutOut miss old new = PutsOut miss old
+CausesMiss w causes.Broken miss old new = Breaks miss old
 CausesMiss w causes.NoMemory miss old new = LacksMemory miss
 CausesMiss w causes.Stopped miss old new = Fails w miss old new
 
 -- what was under way, and is done in part
 abbrev pub Misses : Setting → Miss → Place → Place → Type 0
 Misses w (Behind front) old new = (new.machine ≡ old.machine) × ((new.view ≡ old.view) × ((rest : List ℕ) × (old.view.output ≡ front ++ rest)))
+-- the client is told a farewell behind what the wire wrote, or a front of it where the sink fails
+Misses w (Farewell front) old new = (new.machine ≡ old.machine) × ((new.view ≡ old.view) × ((rest : List ℕ) × (farewell ≡ front ++ rest)))
 -- where memory was refused, the wire stands anywhere: nothing comes of it any more
 Misses w (Unturned moment) old new = new.machine ≡ old.machine
 Misses w (Untaken moment order) old new = (new.machine ≡ old.machine) × IsNext w.tables moment old.view (wires.Order order) new.view
 Misses w (Untold outcome status) old new = Moves old.machine (events.Replied outcome status) new.machine
+-- what the machine was told has taken place at it, and the client hears nothing of it
+Misses w (Severed b answer before after) old new = Moves old.machine (events.Taken b answer) new.machine × (new.view ≡ old.view)
+Misses w (TurnedAway b answer) old new = Moves old.machine (events.Taken b answer) new.machine × (new.view ≡ old.view)
 Misses w miss old new = (new.machine ≡ old.machine) × (new.view ≡ old.view)
 
 -- All of it.

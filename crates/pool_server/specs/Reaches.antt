@@ -17,7 +17,7 @@ use Rattle.session_machine.specs.declared.action.SessionEvent.TheVariants as eve
 use Rattle.session_links.specs.declared.slot.Slot.{Slot}
 use Rattle.session_links.specs.Plans.{Plan, Makes, MakesNone, Told, NoLink, Gone, Linked, IsOver, awaits, told_at}
 use Rattle.pool_server.specs.Passes.{may_make}
-use Rattle.pool_server.specs.Deeds.{Deed, Reads, ReadsEnd, Turns, Writes, Does, Holds, Peeks, Connects, GivesUp, Loses, Miss, Plainly, Unbidden, Behind, Unfed, Unturned, Untaken, Untold, Unheard, Unmade, Unasked, Unawaited, Unused}
+use Rattle.pool_server.specs.Deeds.{Deed, Reads, ReadsEnd, Turns, Writes, Does, Holds, Peeks, Connects, GivesUp, Loses, Miss, Plainly, Unbidden, Behind, Unfed, Unturned, Untaken, Untold, Unheard, Unmade, Unasked, Unawaited, Unused, Severed, TurnedAway}
 
 -- what is told of the link to each backend, by its number; the links that are still to be made; and where the pass stands at the gate
 pub record Reach : Type 0 where
@@ -124,6 +124,8 @@ MissAt (Unmade call) old new = (may_make old.stand call ≡ false) × (new ≡ o
 MissAt (Unasked b) old new = (awaits (old.at b.number) ≡ true) × (new ≡ old)
 MissAt (Unawaited b) old new = (awaits (old.at b.number) ≡ false) × (new ≡ old)
 MissAt (Unused b answer) old new = IsTaken b answer old new
+MissAt (Severed b answer before after) old new = IsLost b old new
+MissAt (TurnedAway b answer) old new = IsTaken b answer old new
 MissAt miss old new = new ≡ old
 
 abbrev pub DeedAt : Deed → Reach → Reach → Type 0

@@ -1,11 +1,13 @@
 -- How the deeds of a session end, and what a step of it comes to.
 use Rattle.std.specs.Prelude.{◌≡◌, ◌≤◌, ◌⊎◌, ℕ, Bool, true, false, List, [], ◌∷◌, ◌++◌, length, take, Option, Some, None}
+use Rattle.pool_base.specs.Outside.{Appends, AppendsFront}
 use Rattle.pool_base.specs.declared.backend_id.BackendId.{BackendId}
 use Rattle.pool_base.specs.declared.gate_call.GateAnswer.{GateAnswer}
 use Rattle.pool_base.specs.declared.gate_call.GateCall.TheVariants as gatecalls
 use Rattle.pool_base.specs.declared.outside.Got.{Got}
 use Rattle.pool_base.specs.declared.outside.Got.TheVariants as got
 use Rattle.pool_base.specs.declared.session_id.SessionId.{SessionId}
+use Rattle.backend_trait.specs.declared.answer.Answer.{Answer}
 use Rattle.session_links.specs.Plans.{Told}
 use Rattle.session_orders.specs.declared.order.Order.{Order}
 use Rattle.session_orders.specs.declared.order.OrderBody.{OrderBody}
@@ -26,6 +28,8 @@ use Rattle.pool_server.specs.declared.parting.Step.{Step}
 use Rattle.pool_server.specs.declared.parting.Step.TheVariants as steps
 use Rattle.pool_server.specs.declared.parting.Parting.{Parting}
 use Rattle.pool_server.specs.declared.parting.Parting.TheVariants as partings
+use Rattle.pool_server.specs.Breaks.{SeversAt, OpensAt, turns_away}
+use Rattle.pool_server.specs.Farewells.{farewell}
 use Rattle.pool_server.specs.Passes.{is_leave}
 use Rattle.pool_server.specs.Deeds.{Call, made}
 use Rattle.pool_server.specs.Places.{AsServed, Setting, Place, place, first_loss, Moves, Takes}
@@ -52,6 +56,8 @@ lost_over lost causes.Refused = lost
 lost_over lost causes.ReadFault = first_loss lost causes.ReadFault
 lost_over lost causes.WriteFault = first_loss lost causes.WriteFault
 lost_over lost causes.CutOff = first_loss lost causes.CutOff
+lost_over lost causes.PutOut = first_loss lost causes.PutOut
+lost_over lost causes.Broken = first_loss lost causes.Broken
 lost_over lost causes.NoMemory = first_loss lost causes.NoMemory
 lost_over lost causes.Stopped = first_loss lost causes.Stopped
 
@@ -97,6 +103,26 @@ Happens event old step new =
     ((step ≡ steps.Goes) × (MayHappen old event × (new ≡ after old event)))
     ⊎ ((step ≡ steps.Over causes.Stopped) × ((MayHappen old event → ⊥) × (new ≡ old)))
 
+-- the link to a backend has broken, and its server serves others: the machine is told so, and the client is lost
+abbrev pub Severs : BackendId → Machine → Step → Machine → Type 0
+Severs b old step new =
+    (answer : Answer) × ((step ≡ steps.Lost causes.Broken) × (SeversAt old.point b answer × (MayHappen old (events.Taken b answer) × (new ≡ after old (events.Taken b answer)))))
+
+-- .. or the backend is lost
+abbrev pub LosesLink : BackendId → ℕ → ℕ → Machine → Step → Machine → Type 0
+LosesLink b before later old step new = Severs b old step new ⊎ Happens (events.Faulted b before later) old step new
+
+-- behind an answer the session goes on; or its client is lost, where a server turns it away by a refused snapshot
+abbrev pub BehindAnswer : BackendId → Answer → Machine → Step → Type 0
+BehindAnswer b answer old step =
+    (step ≡ steps.Goes) ⊎ ((step ≡ steps.Lost causes.Broken) × (OpensAt old.point b × (turns_away answer ≡ true)))
+
+-- a backend has answered
+abbrev pub Hears : BackendId → Answer → Machine → Step → Machine → Type 0
+Hears b answer old step new =
+    (BehindAnswer b answer old step × (MayHappen old (events.Taken b answer) × (new ≡ after old (events.Taken b answer))))
+    ⊎ ((step ≡ steps.Over causes.Stopped) × ((MayHappen old (events.Taken b answer) → ⊥) × (new ≡ old)))
+
 -- the backend is waited for no longer; or the gate was looked at once, and that is so where the backend is away
 abbrev pub IsPeeked : BackendId → List Call → List Call → Reach → Reach → Type 0
 IsPeeked b old new before later =
@@ -114,6 +140,10 @@ passing_by orders.ShowNodes = steps.Goes
 passing_by (orders.Recover number) = steps.Goes
 passing_by (orders.Refuse code name) = steps.Goes
 passing_by orders.Leave = steps.Leaves
+
+-- the client was told a farewell, and is put out; or the sink has failed, and has taken a front of it
+abbrev pub IsPutOut : Step → Option (List ℕ) → Option (List ℕ) → Type 0
+IsPutOut step old new = ((step ≡ steps.Lost causes.PutOut) × Appends old new farewell) ⊎ ((step ≡ steps.Lost causes.WriteFault) × AppendsFront old new farewell)
 
 -- an order was given to the machine; or it does not take it, and is stopped; or memory was refused
 abbrev pub IsGiven : Order → Machine → Step → Step → Machine → Type 0
@@ -158,6 +188,8 @@ Closes causes.Refused last = (last.lost ≡ None) × ((last.view.stage ≡ Close
 Closes causes.ReadFault last = ⊥
 Closes causes.WriteFault last = ⊥
 Closes causes.CutOff last = ⊥
+Closes causes.PutOut last = ⊥
+Closes causes.Broken last = ⊥
 Closes causes.NoMemory last = ⊥
 Closes causes.Stopped last = ⊥
 

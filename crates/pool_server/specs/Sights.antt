@@ -7,7 +7,7 @@ use Rattle.pool_base.specs.declared.gate_call.GateAnswer.TheVariants as answers
 use Rattle.shared_gate.specs.declared.history.Entry.{Entry}
 use Rattle.session_machine.specs.declared.action.SessionEvent.{SessionEvent}
 use Rattle.session_machine.specs.declared.action.SessionEvent.TheVariants as events
-use Rattle.pool_server.specs.Deeds.{Call, made, Deed, Reads, ReadsEnd, Turns, Writes, Does, Holds, Peeks, Connects, GivesUp, Loses, Miss, Plainly, Unbidden, Behind, Unfed, Unturned, Untaken, Untold, Unheard}
+use Rattle.pool_server.specs.Deeds.{Call, made, Deed, Reads, ReadsEnd, Turns, Writes, Does, Holds, Peeks, Connects, GivesUp, Loses, Miss, Plainly, Unbidden, Behind, Farewell, Unfed, Unturned, Untaken, Untold, Unheard}
 use Rattle.pool_server.specs.Places.{Setting, Place, Runs}
 use Rattle.pool_server.specs.Reaches.{Reach, Reaches}
 use Rattle.session_links.specs.Plans.{Told}
@@ -60,6 +60,7 @@ read_by _ = []
 abbrev pub written_by : Deed → List ℕ
 written_by (Writes bytes) = bytes
 written_by (Loses cause (Behind front)) = front
+written_by (Loses cause (Farewell front)) = front
 written_by _ = []
 
 -- the readings of the clock

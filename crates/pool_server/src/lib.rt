@@ -3,8 +3,13 @@
 //! out.
 #![tactic(auto)]
 
+mod breaks;
+mod departure;
 mod end;
+mod farewell;
 mod footing;
+mod laws;
+mod noted;
 mod outside;
 mod parting;
 mod policy;
@@ -16,8 +21,11 @@ mod way_out;
 mod work;
 
 pub use end::EndCause;
+pub use farewell::farewell_bytes;
 pub use footing::{Footing, Phase};
-pub use outside::{ClientSource, GatePass, Notices};
+pub use laws::deeds_are_a_run;
+pub use noted::serve_noted;
+pub use outside::{ClientSource, GatePass, Notices, Posture, Spell};
 pub use policy::policy_of;
 pub use seats::Seats;
 pub use serve::{Around, serve_session};

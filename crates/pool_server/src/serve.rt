@@ -3,7 +3,7 @@ ghost use Rattle.std.specs.Prelude.{◌≡◌, ◌≤◌, true, false, None};
 ghost use Rattle.pool_base.specs.Outside.{Rose};
 ghost use Rattle.schema.specs.Grammar.{IsWithin};
 ghost use Rattle.shared_gate.specs.History.{Out};
-ghost use Rattle.pool_server.specs.Causes.{is_cut_off, is_read_fault, is_write_fault};
+ghost use Rattle.pool_server.specs.Causes.{is_cut_off, is_put_out, is_read_fault, is_write_fault};
 ghost use Rattle.pool_server.specs.Policies.{policy_of};
 ghost use Rattle.session_engine.specs.Cores.{machine_in};
 ghost use Rattle.session_wire.specs.Shown.{shown};
@@ -62,6 +62,8 @@ where
         → Rose (O.fault_count around.old.sink) (O.fault_count around.new.sink) }
     // Where it was cut off, a view without a backend came while its pass stood in a commit.
     ensures cut_off { is_cut_off result ≡ true → G.cut around.new.gate ≡ true }
+    // Where it was put out, its source has said that it was to be.
+    ensures put_out { is_put_out result ≡ true → I.dismissed around.new.source ≡ true }
     // What the sink had taken stands before what it has taken now.
     ensures taken { Begins (O.taken around.old.sink) (O.taken around.new.sink) }
     // There is one list of deeds by which it has ended so: each may come where the machine of the
@@ -103,6 +105,7 @@ where
     ensures write { is_write_fault result ≡ true
         → Rose (O.fault_count around.old.sink) (O.fault_count around.new.sink) }
     ensures cut_off { is_cut_off result ≡ true → G.cut around.new.gate ≡ true }
+    ensures put_out { is_put_out result ≡ true → I.dismissed around.new.source ≡ true }
     ensures taken { Begins (O.taken around.old.sink) (O.taken around.new.sink) }
     ensures serves { Serves (setting tables.now config.now.nodes) s (policy_of config.now)
         (seen (I.left around.old.source) (I.ended around.old.source)
@@ -144,6 +147,7 @@ where
     ensures write { is_write_fault result ≡ true
         → Rose (O.fault_count around.old.sink) (O.fault_count around.new.sink) }
     ensures cut_off { is_cut_off result ≡ true → G.cut around.new.gate ≡ true }
+    ensures put_out { is_put_out result ≡ true → I.dismissed around.new.source ≡ true }
     ensures taken { Begins (O.taken around.old.sink) (O.taken around.new.sink) }
     ensures finishes { Finishes (setting tables.now config.now.nodes)
         (place (machine_in session.old.work.core) (shown session.old.talk.wire) None false)

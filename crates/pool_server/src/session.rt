@@ -1,4 +1,4 @@
-//! One session: its client's wire, its core with the links, and how it parts.
+//! One session: its client's wire and its core with the links.
 //!
 //! ```text
 //!  at rest --the wire's next step--> an order ──► what is due of the core .. --a reply--> at rest
@@ -15,20 +15,23 @@ ghost use Rattle.schema.specs.Grammar.{IsWithin};
 ghost use Rattle.pool_config.specs.declared.config.Node.{Node};
 ghost use Rattle.session_machine.specs.declared.action.Action.TheVariants as actions;
 ghost use Rattle.session_machine.specs.Rules.{new_machine, next_action};
+ghost use Rattle.session_engine.specs.declared.ask.Ask.TheVariants as asks;
+ghost use Rattle.session_engine.specs.Handing.{IsReply, asked_of};
+ghost use Rattle.session_engine.specs.Meaning.{machine_of};
 ghost use Rattle.session_engine.specs.Cores.{machine_in};
-ghost use Rattle.session_engine.specs.Handing.{IsReply};
 ghost use Rattle.session_links.specs.Plans.{NoLink, told_at};
 ghost use Rattle.session_wire.specs.Shown.{IsFresh, shown};
 ghost use Rattle.pool_server.specs.Policies.{policy_of};
-ghost use Rattle.pool_server.specs.Places.{Setting, first_loss, place, setting};
+ghost use Rattle.pool_server.specs.Places.{Setting, place, setting, waits_freely};
 ghost use Rattle.pool_server.specs.Reaches.{reach};
 ghost use Rattle.pool_server.specs.Sights.{Seen, Went, seen};
-ghost use Rattle.pool_server.specs.Servings.{EndsIn, Finishes, Leads, first_of, is_leaving, leaves_with, lost_by, lost_with, standing, standing_by, unbidden_by};
-ghost use Rattle.pool_server.specs.Causes.{IsQuiet, in_answer, in_parting, in_step, is_cut_off, is_read_fault, is_write_fault};
+ghost use Rattle.pool_server.specs.Servings.{EndsIn, Finishes, Leads, leaves_with, lost_by, lost_with, standing, standing_by};
+ghost use Rattle.pool_server.specs.Causes.{IsQuiet, in_answer, in_parting, in_step, is_cut_off, is_put_out, is_read_fault, is_write_fault};
 ghost use Rattle.pool_server.specs.Told.{Begins};
 
+use crate::departure::first_of;
 use crate::end::EndCause;
-use crate::outside::{ClientSource, GatePass, Notices};
+use crate::outside::{ClientSource, GatePass, Notices, Posture, Spell};
 use crate::parting::{Parting, Step};
 use crate::policy::policy_of;
 use crate::serve::Around;
@@ -36,21 +39,31 @@ use crate::talk::Talk;
 use crate::work::Work;
 use backend_trait::Link;
 use catalogue::Catalogue;
-use pool_base::{Clock, NoMemory, SessionId, Sink};
+use pool_base::{BackendId, Clock, NoMemory, SessionId, Sink};
 use pool_config::Config;
-use session_engine::Ask;
+use session_engine::{Ask, Due, Standing};
 use session_links::LinkMaker;
+use session_machine::{GatePhase, Status, may_stop};
 use std::alloc::Global;
 
 /// One session.
 #[derive(Drop)]
 pub(crate) struct Session<L: Link> {
-    talk: Talk,
-    work: Work<L>,
-    parting: Parting,
+    pub talk: Talk,
+    pub work: Work<L>,
+    pub parting: Parting,
     /// The client has sent nothing for a short while, and the backends know all.
     is_silent: bool,
+    /// It was looked whether the client is there, since the last look for an answer.
+    has_looked: bool,
 }
+
+/// How many looks for an answer come to nothing before it is looked whether the client is there: 4
+/// seconds of a link over TCP.
+const FIRST_LOOK: u32 = 80;
+
+/// How many pass between two such looks: a second.
+const BETWEEN: u32 = 20;
 
 impl<L: Link> Session<L> {
     /// A session whose client has sent nothing yet.
@@ -64,9 +77,10 @@ impl<L: Link> Session<L> {
     {
         Ok(Session {
             talk: Talk::new(alloc, s)?,
-            work: Work::new(alloc, s, policy_of(config))?,
+            work: Work::new(alloc, s, policy_of(config), config.sessions.server_timeout)?,
             parting: Parting::No,
             is_silent: false,
+            has_looked: false,
         })
     }
 
@@ -75,6 +89,15 @@ impl<L: Link> Session<L> {
         ensures { result ≡ is_some (lost_by self.now.parting) }
     {
         matches!(self.parting, Parting::Gone(_))
+    }
+
+    /// Where a client stands whose session rests.
+    fn posture(&self) -> Posture {
+        let standing = self.work.core.standing();
+        match (standing.status, standing.gate) {
+            (Status::Idle, GatePhase::Out) => Posture::Resting,
+            _ => Posture::InBlock,
+        }
     }
 
     /// What is due of the wire is done, where its client is there. Where the client is silent the
@@ -98,6 +121,10 @@ impl<L: Link> Session<L> {
         ensures write { in_step is_write_fault result ≡ true
             → Rose (O.fault_count around.old.sink) (O.fault_count around.new.sink) }
         ensures cut { in_step is_cut_off result ≡ false }
+        ensures put_out { in_step is_put_out result ≡ true
+            → I.dismissed around.new.source ≡ true }
+        ensures dismissed { I.dismissed around.old.source ≡ true
+            → I.dismissed around.new.source ≡ true }
         ensures read_later { I.fault_count around.old.source
             ≤ I.fault_count around.new.source }
         ensures write_later { O.fault_count around.old.sink ≤ O.fault_count around.new.sink }
@@ -122,8 +149,12 @@ impl<L: Link> Session<L> {
             return Step::Over(EndCause::Stopped);
         }
         if self.is_silent {
-            self.is_silent = false;
-            return self.talk.listen(&mut around.source);
+            let posture = self.posture();
+            let step = self
+                .talk
+                .exchange(Spell::Long, posture, &mut around.source, &mut around.sink);
+            self.is_silent = step == Step::Silent;
+            return step;
         }
         self.turn(around, tables)
     }
@@ -147,6 +178,10 @@ impl<L: Link> Session<L> {
         ensures write { in_step is_write_fault result ≡ true
             → Rose (O.fault_count around.old.sink) (O.fault_count around.new.sink) }
         ensures cut { in_step is_cut_off result ≡ false }
+        ensures put_out { in_step is_put_out result ≡ true
+            → I.dismissed around.new.source ≡ true }
+        ensures dismissed { I.dismissed around.old.source ≡ true
+            → I.dismissed around.new.source ≡ true }
         ensures read_later { I.fault_count around.old.source
             ≤ I.fault_count around.new.source }
         ensures write_later { O.fault_count around.old.sink ≤ O.fault_count around.new.sink }
@@ -168,9 +203,11 @@ impl<L: Link> Session<L> {
             (shown self.new.talk.wire) (lost_with None result) (leaves_with result leaving)) }
     {
         self.work.rest();
+        let posture = self.posture();
         let step = self.talk.turn(
             &mut self.work.core,
             tables,
+            posture,
             &mut around.source,
             &mut around.sink,
             &mut around.clock,
@@ -202,6 +239,7 @@ impl<L: Link> Session<L> {
         ensures read { is_read_fault result ≡ in_parting is_read_fault self.now.parting }
         ensures write { is_write_fault result ≡ in_parting is_write_fault self.now.parting }
         ensures cut { is_cut_off result ≡ in_parting is_cut_off self.now.parting }
+        ensures put_out { is_put_out result ≡ in_parting is_put_out self.now.parting }
         ensures leads { (w : Setting) → (s : Seen) → Leads w
             (standing (machine_in self.now.work.core) (shown self.now.talk.wire)
             self.now.parting) s result s }
@@ -230,6 +268,10 @@ impl<L: Link> Session<L> {
         ensures write { in_step is_write_fault result ≡ true
             → Rose (O.fault_count around.old.sink) (O.fault_count around.new.sink) }
         ensures cut { in_step is_cut_off result ≡ false }
+        ensures put_out { in_step is_put_out result ≡ true
+            → I.dismissed around.new.source ≡ true }
+        ensures dismissed { I.dismissed around.old.source ≡ true
+            → I.dismissed around.new.source ≡ true }
         ensures read_later { I.fault_count around.old.source
             ≤ I.fault_count around.new.source }
         ensures write_later { O.fault_count around.old.sink ≤ O.fault_count around.new.sink }
@@ -259,10 +301,76 @@ impl<L: Link> Session<L> {
                 self.work
                     .post(b, options, &mut around.maker, &mut around.gate)
             }
-            Ask::WaitFor(b) => self.work.wait(b, &around.maker, &mut around.gate),
+            Ask::WaitFor(b) => self.wait(b, around),
             Ask::Reply => self.reply(config),
             Ask::End => Step::Ended,
         }
+    }
+
+    /// An answer of a backend is awaited. It is looked now and then whether the client is there.
+    #[tactic(auto, using(crate::proofs::Begun::begins_same))]
+    fn wait<I, O, M, C, G, N>(
+        &mut self,
+        b: BackendId,
+        around: &mut Around<I, O, M, C, G, N>,
+    ) -> Step
+    where
+        I: ClientSource,
+        O: Sink,
+        M: LinkMaker<L = L>,
+        C: Clock,
+        G: GatePass,
+        requires { asked_of (next_action (machine_in self.old.work.core)) ≡ asks.WaitFor b }
+        ensures read { in_step is_read_fault result ≡ true
+            → Rose (I.fault_count around.old.source) (I.fault_count around.new.source) }
+        ensures write { in_step is_write_fault result ≡ true
+            → Rose (O.fault_count around.old.sink) (O.fault_count around.new.sink) }
+        ensures cut { in_step is_cut_off result ≡ false }
+        ensures put_out { in_step is_put_out result ≡ true
+            → I.dismissed around.new.source ≡ true }
+        ensures dismissed { I.dismissed around.old.source ≡ true
+            → I.dismissed around.new.source ≡ true }
+        ensures read_later { I.fault_count around.old.source
+            ≤ I.fault_count around.new.source }
+        ensures write_later { O.fault_count around.old.sink ≤ O.fault_count around.new.sink }
+        ensures taken { Begins (O.taken around.old.sink) (O.taken around.new.sink) }
+        ensures parting { self.new.parting ≡ self.old.parting }
+        ensures went { (w : Setting) → Went w
+            (standing (machine_in self.old.work.core) (shown self.old.talk.wire) self.old.parting)
+            (seen (I.left around.old.source) (I.ended around.old.source)
+            (O.taken around.old.sink) (C.given around.old.clock) (G.calls around.old.gate)
+            (reach L.pending L.plan self.old.work.links.slots.items (M.plans around.old.maker)
+            (G.stand around.old.gate)))
+            (standing_by (machine_in self.new.work.core) (shown self.new.talk.wire)
+            self.old.parting result)
+            (seen (I.left around.new.source) (I.ended around.new.source)
+            (O.taken around.new.sink) (C.given around.new.clock) (G.calls around.new.gate)
+            (reach L.pending L.plan self.new.work.links.slots.items (M.plans around.new.maker)
+            (G.stand around.new.gate))) }
+        ensures ends { EndsIn result (standing_by (machine_in self.new.work.core)
+            (shown self.new.talk.wire) self.old.parting result) }
+    {
+        if self.is_to_look() {
+            self.has_looked = true;
+            return self.talk.watch(&mut around.source, &mut around.sink);
+        }
+        self.has_looked = false;
+        self.work.wait(b, &around.maker, &mut around.gate)
+    }
+
+    /// Whether it is to be looked now whether the client is there. It is where an answer is awaited
+    /// for some seconds, by a session that may end.
+    fn is_to_look(&self) -> bool
+        ensures there { result ≡ true → self.now.parting ≡ Parting.No }
+        ensures freely { result ≡ true
+            → waits_freely (machine_in self.now.work.core).point ≡ true }
+    {
+        let looks = self.work.looks();
+        looks >= FIRST_LOOK
+            && looks % BETWEEN == 0
+            && !self.has_looked
+            && self.parting == Parting::No
+            && waits_freely(self.work.core.standing())
     }
 
     /// The client is told what became of its order, where it is there.
@@ -310,6 +418,9 @@ impl<L: Link> Session<L> {
         ensures cut { in_answer is_cut_off result ≡ true
             → (in_parting is_cut_off self.old.parting ≡ true)
             ⊎ (G.cut around.new.gate ≡ true) }
+        ensures put_out { in_answer is_put_out result ≡ true
+            → (in_parting is_put_out self.old.parting ≡ true)
+            ⊎ (I.dismissed around.new.source ≡ true) }
         ensures read_kept { in_parting is_read_fault self.new.parting ≡ true
             → (in_parting is_read_fault self.old.parting ≡ true)
             ⊎ Rose (I.fault_count around.old.source) (I.fault_count around.new.source) }
@@ -318,6 +429,11 @@ impl<L: Link> Session<L> {
             ⊎ Rose (O.fault_count around.old.sink) (O.fault_count around.new.sink) }
         ensures cut_kept { in_parting is_cut_off self.new.parting ≡ true
             → in_parting is_cut_off self.old.parting ≡ true }
+        ensures put_kept { in_parting is_put_out self.new.parting ≡ true
+            → (in_parting is_put_out self.old.parting ≡ true)
+            ⊎ (I.dismissed around.new.source ≡ true) }
+        ensures dismissed { I.dismissed around.old.source ≡ true
+            → I.dismissed around.new.source ≡ true }
         ensures read_later { I.fault_count around.old.source
             ≤ I.fault_count around.new.source }
         ensures write_later { O.fault_count around.old.sink ≤ O.fault_count around.new.sink }
@@ -349,183 +465,15 @@ impl<L: Link> Session<L> {
         let step = self.due(around, config, tables);
         self.behind(step, around.gate.is_cut())
     }
-
-    /// Where a step leads.
-    fn behind(&mut self, step: Step, is_cut: bool) -> Option<EndCause>
-        requires ends { EndsIn step (standing_by (machine_in self.old.work.core)
-            (shown self.old.talk.wire) self.old.parting step) }
-        ensures links { told_at L.pending L.plan self.new.work.links.slots.items
-            ≡ told_at L.pending L.plan self.old.work.links.slots.items }
-        ensures read { in_answer is_read_fault result ≡ true
-            → (in_parting is_read_fault self.old.parting ≡ true)
-            ⊎ (in_step is_read_fault step ≡ true) }
-        ensures write { in_answer is_write_fault result ≡ true
-            → (in_parting is_write_fault self.old.parting ≡ true)
-            ⊎ (in_step is_write_fault step ≡ true) }
-        ensures cut { in_answer is_cut_off result ≡ true
-            → (in_parting is_cut_off self.old.parting ≡ true)
-            ⊎ ((in_step is_cut_off step ≡ true) ⊎ (is_cut ≡ true)) }
-        ensures read_kept { in_parting is_read_fault self.new.parting ≡ true
-            → (in_parting is_read_fault self.old.parting ≡ true)
-            ⊎ (in_step is_read_fault step ≡ true) }
-        ensures write_kept { in_parting is_write_fault self.new.parting ≡ true
-            → (in_parting is_write_fault self.old.parting ≡ true)
-            ⊎ (in_step is_write_fault step ≡ true) }
-        ensures cut_kept { in_parting is_cut_off self.new.parting ≡ true
-            → (in_parting is_cut_off self.old.parting ≡ true)
-            ⊎ (in_step is_cut_off step ≡ true) }
-        ensures went { IfNone result ((w : Setting) → (s : Seen) → Went w
-            (standing_by (machine_in self.old.work.core) (shown self.old.talk.wire)
-            self.old.parting step) s
-            (standing (machine_in self.new.work.core) (shown self.new.talk.wire)
-            self.new.parting) s) }
-        ensures leads { IfSome result (λ cause. (w : Setting) → (s : Seen) → Leads w
-            (standing_by (machine_in self.old.work.core) (shown self.old.talk.wire)
-            self.old.parting step) s cause s) }
-    {
-        match step {
-            Step::Goes | Step::Silent => None,
-            Step::Leaves => {
-                self.close();
-                None
-            }
-            Step::Lost(cause) => self.lose(cause),
-            Step::Ended => self.ended(is_cut),
-            Step::Over(cause) => Some(first_of(self.parting, cause)),
-        }
-    }
-
-    /// The client is lost: the core is brought to its end. The first cause counts.
-    fn lose(&mut self, cause: EndCause) -> Option<EndCause>
-        ensures links { told_at L.pending L.plan self.new.work.links.slots.items
-            ≡ told_at L.pending L.plan self.old.work.links.slots.items }
-        ensures read_kept { in_parting is_read_fault self.new.parting ≡ true
-            → (in_parting is_read_fault self.old.parting ≡ true)
-            ⊎ (is_read_fault cause ≡ true) }
-        ensures write_kept { in_parting is_write_fault self.new.parting ≡ true
-            → (in_parting is_write_fault self.old.parting ≡ true)
-            ⊎ (is_write_fault cause ≡ true) }
-        ensures cut_kept { in_parting is_cut_off self.new.parting ≡ true
-            → (in_parting is_cut_off self.old.parting ≡ true)
-            ⊎ (is_cut_off cause ≡ true) }
-        ensures parts { IfSome result (λ over. self.new.parting ≡ Parting.Gone over) }
-        ensures lost { lost_by self.new.parting ≡ first_loss (lost_by self.old.parting) cause }
-        ensures went { IfNone result ((w : Setting) → (s : Seen) → Went w
-            (standing_by (machine_in self.old.work.core) (shown self.old.talk.wire)
-            self.old.parting (Step.Lost cause)) s
-            (standing (machine_in self.new.work.core) (shown self.new.talk.wire)
-            self.new.parting) s) }
-    {
-        self.part(cause);
-        if !self.work.core.may_give_up() {
-            return lost_by(self.parting);
-        }
-        self.work.core.give_up();
-        None
-    }
-
-    /// The first cause counts by which the client is lost.
-    fn part(&mut self, cause: EndCause)
-        ensures links { told_at L.pending L.plan self.new.work.links.slots.items
-            ≡ told_at L.pending L.plan self.old.work.links.slots.items }
-        ensures lost { lost_by self.new.parting ≡ first_loss (lost_by self.old.parting) cause }
-        ensures leaving { is_leaving self.new.parting ≡ true }
-        ensures machine { machine_in self.new.work.core ≡ machine_in self.old.work.core }
-        ensures wire { shown self.new.talk.wire ≡ shown self.old.talk.wire }
-        ensures read { in_parting is_read_fault self.new.parting ≡ true
-            → (in_parting is_read_fault self.old.parting ≡ true)
-            ⊎ (is_read_fault cause ≡ true) }
-        ensures write { in_parting is_write_fault self.new.parting ≡ true
-            → (in_parting is_write_fault self.old.parting ≡ true)
-            ⊎ (is_write_fault cause ≡ true) }
-        ensures cut { in_parting is_cut_off self.new.parting ≡ true
-            → (in_parting is_cut_off self.old.parting ≡ true)
-            ⊎ (is_cut_off cause ≡ true) }
-    {
-        match self.parting {
-            Parting::Gone(_) => {}
-            Parting::No | Parting::Closing => self.parting = Parting::Gone(cause),
-        }
-    }
-
-    /// The wire has ordered its Leave.
-    fn close(&mut self)
-        ensures links { told_at L.pending L.plan self.new.work.links.slots.items
-            ≡ told_at L.pending L.plan self.old.work.links.slots.items }
-        ensures lost { lost_by self.new.parting ≡ lost_by self.old.parting }
-        ensures leaving { is_leaving self.new.parting ≡ true }
-        ensures machine { machine_in self.new.work.core ≡ machine_in self.old.work.core }
-        ensures wire { shown self.new.talk.wire ≡ shown self.old.talk.wire }
-        ensures read { in_parting is_read_fault self.new.parting ≡ true
-            → in_parting is_read_fault self.old.parting ≡ true }
-        ensures write { in_parting is_write_fault self.new.parting ≡ true
-            → in_parting is_write_fault self.old.parting ≡ true }
-        ensures cut { in_parting is_cut_off self.new.parting ≡ true
-            → in_parting is_cut_off self.old.parting ≡ true }
-    {
-        match self.parting {
-            Parting::Gone(_) => {}
-            Parting::No | Parting::Closing => self.parting = Parting::Closing,
-        }
-    }
-
-    /// The core is at its end. Without a Leave it comes there from a commit that was cut off alone.
-    fn ended(&mut self, is_cut: bool) -> Option<EndCause>
-        requires { next_action (machine_in self.old.work.core) ≡ actions.End }
-        ensures links { told_at L.pending L.plan self.new.work.links.slots.items
-            ≡ told_at L.pending L.plan self.old.work.links.slots.items }
-        ensures parting { self.new.parting ≡ self.old.parting }
-        ensures read { in_answer is_read_fault result
-            ≡ in_parting is_read_fault self.old.parting }
-        ensures write { in_answer is_write_fault result
-            ≡ in_parting is_write_fault self.old.parting }
-        ensures cut { in_answer is_cut_off result ≡ true
-            → (in_parting is_cut_off self.old.parting ≡ true) ⊎ (is_cut ≡ true) }
-        ensures went { IfNone result ((w : Setting) → (s : Seen) → Went w
-            (standing (machine_in self.old.work.core) (shown self.old.talk.wire) self.old.parting)
-            s (standing (machine_in self.new.work.core) (shown self.new.talk.wire)
-            self.old.parting) s) }
-        ensures leads { IfSome result (λ cause. (w : Setting) → (s : Seen) → Leads w
-            (standing (machine_in self.old.work.core) (shown self.old.talk.wire) self.old.parting)
-            s cause s) }
-    {
-        match self.parting {
-            Parting::No => Some(unbidden(is_cut)),
-            Parting::Closing | Parting::Gone(_) => {
-                self.work.core.end();
-                lost_by(self.parting)
-            }
-        }
-    }
 }
 
-/// By which cause a session is over: the first counts by which its client was lost.
-fn first_of(parting: Parting, cause: EndCause) -> EndCause
-    ensures { result ≡ first_of (lost_by parting) cause }
+/// Whether a session that awaits an answer may end: not in an entered commit, nor between the posts
+/// of an INSERT that draws numbers.
+fn waits_freely(standing: &Standing) -> bool
+    ensures { result ≡ waits_freely (machine_of standing.now).point }
 {
-    match parting {
-        Parting::No | Parting::Closing => cause,
-        Parting::Gone(first) => first,
-    }
-}
-
-/// How a session ends whose machine has come to its end, and was not told to leave.
-fn unbidden(is_cut: bool) -> EndCause
-    ensures { result ≡ unbidden_by is_cut }
-{
-    if is_cut {
-        EndCause::CutOff
-    } else {
-        EndCause::Stopped
-    }
-}
-
-/// By which cause the client was lost.
-fn lost_by(parting: Parting) -> Option<EndCause>
-    ensures { result ≡ lost_by parting }
-{
-    match parting {
-        Parting::No | Parting::Closing => None,
-        Parting::Gone(cause) => Some(cause),
+    match &standing.due {
+        Due::Waiting(stage, _) => may_stop(stage),
+        _ => false,
     }
 }

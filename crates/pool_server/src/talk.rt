@@ -13,17 +13,18 @@ ghost use Rattle.session_engine.specs.Cores.{machine_in};
 ghost use Rattle.session_wire.specs.Answers.{MayAnswer};
 ghost use Rattle.session_wire.specs.declared.wire.Stage.TheVariants.{Closed};
 ghost use Rattle.session_wire.specs.Shown.{IsFresh, shown, with_end, with_written};
-ghost use Rattle.pool_server.specs.Causes.{IsQuiet, in_step, is_cut_off, is_read_fault, is_write_fault};
-ghost use Rattle.pool_server.specs.Places.{AsServed, Place, Setting, TellsOf, at_moment, setting};
+ghost use Rattle.pool_server.specs.Causes.{IsQuiet, in_step, is_cut_off, is_put_out, is_read_fault, is_write_fault};
+ghost use Rattle.pool_server.specs.Places.{AsServed, Place, Setting, TellsOf, at_moment, setting, waits_freely};
 ghost use Rattle.pool_server.specs.Sights.{Seen, Went, with_client, with_reads, with_taken, with_talk};
-ghost use Rattle.pool_server.specs.Servings.{AreThere, EndsIn, IsFed, IsGiven, IsHad, IsOrdered, closed_by, passing_by, talked, talking};
+ghost use Rattle.pool_server.specs.Servings.{AreThere, EndsIn, IsFed, IsGiven, IsHad, IsOrdered, IsPutOut, closed_by, passing_by, talked, talking};
 ghost use Rattle.pool_server.specs.Told.{Begins};
 
 use crate::end::EndCause;
-use crate::outside::ClientSource;
+use crate::farewell::farewell_bytes;
+use crate::outside::{ClientSource, Posture, Spell};
 use crate::parting::Step;
 use catalogue::Catalogue;
-use pool_base::{Clock, Code, Got, NoMemory, SessionId, Sink, SinkFailed, Source, Text, write_all};
+use pool_base::{Clock, Code, Got, NoMemory, SessionId, Sink, SinkFailed, Text, write_all};
 use pool_config::Config;
 use session_engine::Core;
 use session_orders::{Order, OrderBody, Outcome};
@@ -146,6 +147,7 @@ impl Talk {
         &mut self,
         core: &mut Core,
         tables: &Catalogue,
+        posture: Posture,
         source: &mut I,
         sink: &mut O,
         clock: &mut C,
@@ -157,6 +159,8 @@ impl Talk {
         ensures write { in_step is_write_fault result ≡ true
             → Rose (O.fault_count sink.old) (O.fault_count sink.new) }
         ensures cut { in_step is_cut_off result ≡ false }
+        ensures put_out { in_step is_put_out result ≡ true → I.dismissed source.new ≡ true }
+        ensures dismissed { I.dismissed source.old ≡ true → I.dismissed source.new ≡ true }
         ensures read_later { I.fault_count source.old ≤ I.fault_count source.new }
         ensures write_later { O.fault_count sink.old ≤ O.fault_count sink.new }
         ensures taken { Begins (O.taken sink.old) (O.taken sink.new) }
@@ -174,7 +178,7 @@ impl Talk {
         let moment = clock.now();
         match self.wire.next(tables, moment) {
             Ok(WireStep::Order(order)) => take(self.alloc, order, core),
-            Ok(WireStep::NeedInput) => self.exchange(source, sink),
+            Ok(WireStep::NeedInput) => self.exchange(Spell::Short, posture, source, sink),
             Ok(WireStep::Close { refused }) => self.close(refused, sink),
             Ok(WireStep::NeedOutcome) => Step::Over(EndCause::Stopped),
             Err(NoMemory) => Step::Lost(EndCause::NoMemory),
@@ -206,18 +210,27 @@ impl Talk {
         }
     }
 
-    /// What waits is written, and the next bytes are read.
-    #[tactic(auto, using(crate::proofs::Begun::begins_all, crate::proofs::Begun::begins_front))]
-    fn exchange<I: ClientSource, O: Sink>(&mut self, source: &mut I, sink: &mut O) -> Step
+    /// What waits is written. Then the client is put out, or its next bytes are read.
+    #[tactic(auto, using(crate::proofs::Begun::begins_all, crate::proofs::Begun::begins_front, crate::proofs::Begun::begins_trans))]
+    pub fn exchange<I: ClientSource, O: Sink>(
+        &mut self,
+        spell: Spell,
+        posture: Posture,
+        source: &mut I,
+        sink: &mut O,
+    ) -> Step
         ensures read { in_step is_read_fault result ≡ true
             → Rose (I.fault_count source.old) (I.fault_count source.new) }
         ensures write { in_step is_write_fault result ≡ true
             → Rose (O.fault_count sink.old) (O.fault_count sink.new) }
         ensures cut { in_step is_cut_off result ≡ false }
+        ensures put_out { in_step is_put_out result ≡ true → I.dismissed source.new ≡ true }
+        ensures dismissed { I.dismissed source.old ≡ true → I.dismissed source.new ≡ true }
         ensures read_later { I.fault_count source.old ≤ I.fault_count source.new }
         ensures write_later { O.fault_count sink.old ≤ O.fault_count sink.new }
         ensures taken { Begins (O.taken sink.old) (O.taken sink.new) }
-        ensures went { (w : Setting) → (p : Place) → (m : Machine) → (s : Seen) → Went w
+        ensures went { (w : Setting) → (p : Place) → (m : Machine) → (s : Seen)
+            → next_action m ≡ actions.Rest → Went w
             (talking p m (shown self.old.wire))
             (with_talk s (I.left source.old) (I.ended source.old) (O.taken sink.old))
             (talked p m (shown self.new.wire) result)
@@ -228,15 +241,53 @@ impl Talk {
         if !self.flush(sink) {
             return Step::Lost(EndCause::WriteFault);
         }
-        self.listen_soon(source)
+        if source.is_dismissed(posture) {
+            return put_out(sink);
+        }
+        self.listen(spell, source)
     }
 
-    /// The next bytes are read, where some come within a short while.
-    fn listen_soon<I: ClientSource>(&mut self, source: &mut I) -> Step
+    /// A client that awaits an answer: it is gone, or is put out, or goes on to wait.
+    #[tactic(auto, using(crate::proofs::Begun::begins_all, crate::proofs::Begun::begins_front, crate::proofs::Begun::begins_same, crate::proofs::Begun::begins_trans))]
+    pub fn watch<I: ClientSource, O: Sink>(&mut self, source: &mut I, sink: &mut O) -> Step
+        ensures read { in_step is_read_fault result ≡ true
+            → Rose (I.fault_count source.old) (I.fault_count source.new) }
+        ensures write { in_step is_write_fault result ≡ true
+            → Rose (O.fault_count sink.old) (O.fault_count sink.new) }
+        ensures cut { in_step is_cut_off result ≡ false }
+        ensures put_out { in_step is_put_out result ≡ true → I.dismissed source.new ≡ true }
+        ensures dismissed { I.dismissed source.old ≡ true → I.dismissed source.new ≡ true }
+        ensures read_later { I.fault_count source.old ≤ I.fault_count source.new }
+        ensures write_later { O.fault_count sink.old ≤ O.fault_count sink.new }
+        ensures taken { Begins (O.taken sink.old) (O.taken sink.new) }
+        ensures went { (w : Setting) → (p : Place) → (m : Machine) → (s : Seen)
+            → waits_freely m.point ≡ true → Went w
+            (talking p m (shown self.old.wire))
+            (with_talk s (I.left source.old) (I.ended source.old) (O.taken sink.old))
+            (talked p m (shown self.new.wire) result)
+            (with_talk s (I.left source.new) (I.ended source.new) (O.taken sink.new)) }
+        ensures ends { (p : Place) → EndsIn result p }
+    {
+        if source.is_gone() {
+            return Step::Lost(EndCause::ReadFault);
+        }
+        if !source.is_dismissed(Posture::Waiting) {
+            return Step::Goes;
+        }
+        if !self.flush(sink) {
+            return Step::Lost(EndCause::WriteFault);
+        }
+        put_out(sink)
+    }
+
+    /// The next bytes are read, where some come within such a while.
+    fn listen<I: ClientSource>(&mut self, spell: Spell, source: &mut I) -> Step
         ensures read { in_step is_read_fault result ≡ true
             → Rose (I.fault_count source.old) (I.fault_count source.new) }
         ensures write { in_step is_write_fault result ≡ false }
         ensures cut { in_step is_cut_off result ≡ false }
+        ensures put_out { in_step is_put_out result ≡ false }
+        ensures dismissed { I.dismissed source.new ≡ I.dismissed source.old }
         ensures later { I.fault_count source.old ≤ I.fault_count source.new }
         ensures went { (w : Setting) → (p : Place) → (m : Machine) → (s : Seen) → Went w
             (talking p m (shown self.old.wire))
@@ -247,30 +298,10 @@ impl Talk {
             (talked p m (shown self.new.wire) result) }
     {
         let mut piece = [0u8; PIECE];
-        match source.read_soon(&mut piece) {
+        match source.read_soon(spell, &mut piece) {
             None => Step::Silent,
             Some(got) => self.had(got, &piece),
         }
-    }
-
-    /// The next bytes are read.
-    pub fn listen<I: Source>(&mut self, source: &mut I) -> Step
-        ensures read { in_step is_read_fault result ≡ true
-            → Rose (I.fault_count source.old) (I.fault_count source.new) }
-        ensures write { in_step is_write_fault result ≡ false }
-        ensures cut { in_step is_cut_off result ≡ false }
-        ensures later { I.fault_count source.old ≤ I.fault_count source.new }
-        ensures went { (w : Setting) → (p : Place) → (m : Machine) → (s : Seen) → Went w
-            (talking p m (shown self.old.wire))
-            (with_reads s (I.left source.old) (I.ended source.old))
-            (talked p m (shown self.new.wire) result)
-            (with_reads s (I.left source.new) (I.ended source.new)) }
-        ensures ends { (p : Place) → (m : Machine) → EndsIn result
-            (talked p m (shown self.new.wire) result) }
-    {
-        let mut piece = [0u8; PIECE];
-        let got = source.read(&mut piece);
-        self.had(got, &piece)
     }
 
     /// What was read comes to the wire.
@@ -279,6 +310,7 @@ impl Talk {
         ensures read { in_step is_read_fault result ≡ true → got ≡ Failed }
         ensures write { in_step is_write_fault result ≡ false }
         ensures cut { in_step is_cut_off result ≡ false }
+        ensures put_out { in_step is_put_out result ≡ false }
         ensures had { IsHad got piece.now (shown self.old.wire) result (shown self.new.wire) }
         ensures ends { (p : Place) → EndsIn result p }
     {
@@ -318,6 +350,7 @@ impl Talk {
         ensures write { in_step is_write_fault result ≡ true
             → Rose (O.fault_count sink.old) (O.fault_count sink.new) }
         ensures cut { in_step is_cut_off result ≡ false }
+        ensures put_out { in_step is_put_out result ≡ false }
         ensures later { O.fault_count sink.old ≤ O.fault_count sink.new }
         ensures taken { Begins (O.taken sink.old) (O.taken sink.new) }
         ensures told { in_step is_write_fault result ≡ false
@@ -332,6 +365,24 @@ impl Talk {
             return Step::Over(EndCause::WriteFault);
         }
         Step::Over(end_of(refused))
+    }
+}
+
+/// A client is told a farewell, and is put out.
+#[tactic(auto, using(crate::proofs::Begun::begins_all, crate::proofs::Begun::begins_front))]
+fn put_out<O: Sink>(sink: &mut O) -> Step
+    ensures read { in_step is_read_fault result ≡ false }
+    ensures write { in_step is_write_fault result ≡ true
+        → Rose (O.fault_count sink.old) (O.fault_count sink.new) }
+    ensures cut { in_step is_cut_off result ≡ false }
+    ensures later { O.fault_count sink.old ≤ O.fault_count sink.new }
+    ensures taken { Begins (O.taken sink.old) (O.taken sink.new) }
+    ensures is { IsPutOut result (O.taken sink.old) (O.taken sink.new) }
+    ensures ends { (last : Place) → EndsIn result last }
+{
+    match write_all(sink, farewell_bytes()) {
+        Ok(()) => Step::Lost(EndCause::PutOut),
+        Err(SinkFailed) => Step::Lost(EndCause::WriteFault),
     }
 }
 

@@ -12,8 +12,10 @@ ghost use Rattle.pool_server.specs.Causes.{IsQuiet};
 ghost use Rattle.pool_server.specs.Places.{Place, Setting, with_machine};
 ghost use Rattle.pool_server.specs.Reaches.{Keeps, KeepsAt, is_away, reach, view_in};
 ghost use Rattle.pool_server.specs.Sights.{Seen, Went, with_work};
-ghost use Rattle.pool_server.specs.Servings.{EndsIn, Happens, IsPeeked, stepped};
+ghost use Rattle.pool_server.specs.Breaks.{SeversAt};
+ghost use Rattle.pool_server.specs.Servings.{EndsIn, Happens, Hears, IsPeeked, LosesLink, stepped};
 
+use crate::breaks::{behind_answer, severed};
 use crate::end::EndCause;
 use crate::outside::{GatePass, Notices};
 use crate::parting::Step;
@@ -28,13 +30,9 @@ use std::alloc::Global;
 /// How often memory is asked for before a session is given up.
 const MEMORY_TRIES: u32 = 1000;
 
-/// How many looks may come to nothing where no other session is waited for. A look of a link to a
-/// server waits 50 milliseconds at most, so that a server that hangs is given up after 30 seconds.
-const POLL_TRIES: u32 = 600;
-
-/// How many looks may come to nothing where another session may be waited for, before the server is
-/// asked whether it answers at all. It is asked again after as many more: every 20 seconds.
-const QUIET_TRIES: u32 = 400;
+/// How many looks for an answer take half a second: one of a link to a server waits 50 milliseconds
+/// at most.
+const HALF_A_SECOND: u32 = 10;
 
 /// How many turns of the wire may pass without a post before the backends are told what was held
 /// back from them, though the client is not silent: it may go on with what asks no backend.
@@ -58,6 +56,10 @@ pub(crate) struct Work<L: Link> {
     patience: Patience,
     /// The epoch of the last snapshot that was entered.
     epoch: Option<u32>,
+    /// How many looks may come to nothing where another session may be waited for, before the
+    /// server is asked whether it answers at all. It is asked again after as many more. Where no
+    /// other session is waited for, twice as many may.
+    limit: u32,
     /// How often the same step was tried without an answer.
     tries: u32,
     /// How many turns of the wire have passed since the last post.
@@ -77,9 +79,15 @@ fn patience_of(request: &Request) -> Patience {
 }
 
 impl<L: Link> Work<L> {
-    /// A core that rests, and no link.
+    /// A core that rests, and no link. A server that leaves the pool without an answer for so many
+    /// seconds hangs.
     #[tactic(auto, using(crate::proofs::Linking::none_told))]
-    pub fn new(alloc: Global, id: SessionId, policy: ReadPolicy) -> Result<Work<L>, NoMemory>
+    pub fn new(
+        alloc: Global,
+        id: SessionId,
+        policy: ReadPolicy,
+        seconds: u32,
+    ) -> Result<Work<L>, NoMemory>
         ensures machine { IfOk result (λ work. machine_in work.core ≡ new_machine id policy) }
         ensures links { IfOk result (λ work. (c : ℕ)
             → told_at L.pending L.plan work.links.slots.items c ≡ NoLink) }
@@ -90,6 +98,7 @@ impl<L: Link> Work<L> {
             links: Links::new(alloc)?,
             patience: Patience::Endless,
             epoch: None,
+            limit: seconds.saturating_mul(HALF_A_SECOND).max(1),
             tries: 0,
             turns: 0,
         })
@@ -354,7 +363,7 @@ impl<L: Link> Work<L> {
         }
         match self.links.poll(b) {
             Found::Answered(answer) => self.hear(b, answer),
-            Found::Lost(loss) => self.lose(b, loss),
+            Found::Lost(loss) => self.lose_link(b, loss, maker),
             Found::NotYet => {
                 self.look_around(b, maker, gate);
                 Step::Goes
@@ -388,21 +397,80 @@ impl<L: Link> Work<L> {
         told
     }
 
+    /// How many looks for an answer have come to nothing.
+    pub fn looks(&self) -> u32 {
+        self.tries
+    }
+
     fn hear(&mut self, b: BackendId, answer: Answer) -> Step
         ensures quiet { IsQuiet result }
         ensures ends { (last : Place) → EndsIn result last }
         ensures links { told_at L.pending L.plan self.new.links.slots.items
             ≡ told_at L.pending L.plan self.old.links.slots.items }
-        ensures happens { Happens (events.Taken b answer) (machine_in self.old.core) result
+        ensures happens { Hears b answer (machine_in self.old.core) result
             (machine_in self.new.core) }
     {
         if !self.core.may_hear(b, &answer) {
             drop(answer);
             return Step::Over(EndCause::Stopped);
         }
+        let behind = behind_answer(&self.core, b, &answer);
         self.tries = 0;
         self.core.backend_answer(b, answer);
-        Step::Goes
+        behind
+    }
+
+    /// The link to a backend is lost. Where its server serves others, and nothing has to be
+    /// completed there, the client is lost in its place.
+    fn lose_link<M: LinkMaker<L = L>>(&mut self, b: BackendId, loss: Loss, maker: &M) -> Step
+        ensures quiet { IsQuiet result }
+        ensures ends { (last : Place) → EndsIn result last }
+        ensures links { told_at L.pending L.plan self.new.links.slots.items
+            ≡ told_at L.pending L.plan self.old.links.slots.items }
+        ensures loses { LosesLink b loss.before loss.after (machine_in self.old.core) result
+            (machine_in self.new.core) }
+    {
+        match severed(&self.core, b) {
+            Some(answer) => self.part_with(b, loss, answer, maker.lives(b)),
+            None => self.lose(b, loss),
+        }
+    }
+
+    /// The link to a backend is lost, where nothing has to be completed there.
+    fn part_with(&mut self, b: BackendId, loss: Loss, answer: Answer, lives: bool) -> Step
+        requires { SeversAt (machine_in self.old.core).point b answer }
+        ensures quiet { IsQuiet result }
+        ensures ends { (last : Place) → EndsIn result last }
+        ensures links { told_at L.pending L.plan self.new.links.slots.items
+            ≡ told_at L.pending L.plan self.old.links.slots.items }
+        ensures loses { LosesLink b loss.before loss.after (machine_in self.old.core) result
+            (machine_in self.new.core) }
+    {
+        if lives {
+            return self.sever(b, loss, answer);
+        }
+        drop(answer);
+        self.lose(b, loss)
+    }
+
+    /// The link to a backend is lost, and its server serves others: the machine is told so in place
+    /// of an answer, and the client is lost.
+    fn sever(&mut self, b: BackendId, loss: Loss, answer: Answer) -> Step
+        requires { SeversAt (machine_in self.old.core).point b answer }
+        ensures quiet { IsQuiet result }
+        ensures ends { (last : Place) → EndsIn result last }
+        ensures links { told_at L.pending L.plan self.new.links.slots.items
+            ≡ told_at L.pending L.plan self.old.links.slots.items }
+        ensures loses { LosesLink b loss.before loss.after (machine_in self.old.core) result
+            (machine_in self.new.core) }
+    {
+        if !self.core.may_hear(b, &answer) {
+            drop(answer);
+            return self.lose(b, loss);
+        }
+        self.tries = 0;
+        self.core.backend_answer(b, answer);
+        Step::Lost(EndCause::Broken)
     }
 
     fn lose(&mut self, b: BackendId, loss: Loss) -> Step
@@ -424,8 +492,8 @@ impl<L: Link> Work<L> {
     /// Whether a backend that has not answered so often is waited for in vain.
     fn hangs<M: LinkMaker<L = L>>(&self, b: BackendId, maker: &M) -> bool {
         match self.patience {
-            Patience::Short => self.tries >= POLL_TRIES,
-            Patience::Endless => self.tries % QUIET_TRIES == 0 && !maker.answers(b),
+            Patience::Short => self.tries / 2 >= self.limit,
+            Patience::Endless => self.tries % self.limit.max(1) == 0 && !maker.answers(b),
         }
     }
 

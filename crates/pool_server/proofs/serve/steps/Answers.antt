@@ -1,10 +1,10 @@
 -- A fault of an earlier step, or of this one, is a fault of the whole session.
-use Rattle.std.proofs.Common.{◌≡◌, Bool, true, false, refl, sym, ap, ◌∙◌, arith}
+use Rattle.std.proofs.Common.{◌≡◌, Bool, true, false, refl, sym, ap, ◌∙◌, ◌⊎◌, inl, inr, arith}
 use Rattle.std.specs.Prelude.{None}
 use Rattle.session_engine.specs.Cores.{machine_in}
 use Rattle.session_links.specs.Plans.{NoLink}
 use Rattle.session_wire.specs.Shown.{shown}
-use Rattle.pool_server.specs.Causes.{in_parting, is_cut_off, is_read_fault, is_write_fault}
+use Rattle.pool_server.specs.Causes.{in_parting, is_cut_off, is_put_out, is_read_fault, is_write_fault}
 use Rattle.pool_server.specs.Places.{place, setting}
 use Rattle.pool_server.specs.Reaches.{alone, reach}
 use Rattle.pool_server.specs.Sights.{Went, seen}
@@ -20,11 +20,17 @@ not_kept : (old new : Bool) → old ≡ false → (new ≡ true → old ≡ true
 not_kept old true is kept = sym (kept refl) ∙ is
 not_kept old false is kept = refl
 
+-- what was said before, or is said now
+said_over : {P Q R : Type 0} → (P → Q) → (Q → R) → P ⊎ R → R
+said_over was keeps (inl before) = keeps (was before)
+said_over was keeps (inr now) = now
+
 pub steps-init : goal.steps-init
 steps-init g c = record {
   read = no_fault is_read_fault c.args.session.now.parting _ c.requires.there;
   write = no_fault is_write_fault c.args.session.now.parting _ c.requires.there;
   cut = ap (in_parting is_cut_off) c.requires.there;
+  put_out = no_fault is_put_out c.args.session.now.parting _ c.requires.there;
   read_later = omega arith;
   write_later = omega arith;
   taken = begins_same _;
@@ -36,6 +42,7 @@ steps-preserved g c = record {
   read = λ e. rose_over _ _ _ c.steps.invariant.read c.steps.invariant.read_later c.step.ensures.read_later (c.step.ensures.read_kept e);
   write = λ e. rose_over _ _ _ c.steps.invariant.write c.steps.invariant.write_later c.step.ensures.write_later (c.step.ensures.write_kept e);
   cut = not_kept _ _ c.steps.invariant.cut c.step.ensures.cut_kept;
+  put_out = λ e. said_over c.steps.invariant.put_out c.step.ensures.dismissed (c.step.ensures.put_kept e);
   read_later = omega (arith, c.steps.invariant.read_later, c.step.ensures.read_later);
   write_later = omega (arith, c.steps.invariant.write_later, c.step.ensures.write_later);
   taken = begins_trans _ _ _ c.steps.invariant.taken c.step.ensures.taken;
@@ -79,3 +86,9 @@ pub returns-clause-cut_off : goal.returns-clause-cut_off
 returns-clause-cut_off g c = λ e.
     let never : true ≡ false = sym e ∙ (c.give_out.ensures.cut ∙ c.steps.invariant.cut) in
     absurd (cc)
+
+pub returns-in-Some-clause-put_out : goal.returns-in-Some-clause-put_out
+returns-in-Some-clause-put_out g c = λ e. said_over c.steps.invariant.put_out c.step.ensures.dismissed (c.in-Some.ensures.put_out e)
+
+pub returns-clause-put_out : goal.returns-clause-put_out
+returns-clause-put_out g c = λ e. c.steps.invariant.put_out (sym c.give_out.ensures.put_out ∙ e)

@@ -1,7 +1,7 @@
 use Rattle.std.proofs.Common.{◌≡◌, true, refl, sym, ◌∙◌}
 use Rattle.session_engine.specs.Cores.{machine_in}
 use Rattle.session_wire.specs.Shown.{shown}
-use Rattle.pool_server.specs.Causes.{is_cut_off, is_read_fault, is_write_fault}
+use Rattle.pool_server.specs.Causes.{is_cut_off, is_put_out, is_read_fault, is_write_fault}
 use Rattle.pool_server.specs.Servings.{is_leaving, lost_by, standing}
 use Rattle.pool_server.proofs.Stepping.{at_end, closing, end_goes, end_leads, goes_on, lost_cut, lost_goes, lost_here, over, over_at, over_cut, stays_so, stuck, told_so, unmoved}
 use Rattle.pool_server.proofs.session.Session.behind.Goals as goal
@@ -51,3 +51,9 @@ returns-in-Over-clause-cut g c = λ told. over_cut is_cut_off c.args.self.now.pa
 
 pub returns-in-Lost-clause-cut : goal.returns-in-Lost-clause-cut
 returns-in-Lost-clause-cut g c = λ told. lost_cut is_cut_off c.args.self.now.parting c.lose.new.self.parting c.args.step c.in-Lost.cause c.lose.result (c.args.is_cut ≡ true) c.in-Lost.is c.lose.ensures.parts c.lose.ensures.cut_kept told
+
+pub returns-in-Over-clause-put_out : goal.returns-in-Over-clause-put_out
+returns-in-Over-clause-put_out g c = λ told. over_at is_put_out c.args.self.now.parting c.args.step c.in-Over.cause c.first_of.result c.in-Over.is c.first_of.ensures told
+
+pub returns-in-Lost-clause-put_out : goal.returns-in-Lost-clause-put_out
+returns-in-Lost-clause-put_out g c = λ told. lost_here is_put_out c.args.self.now.parting c.lose.new.self.parting c.args.step c.in-Lost.cause c.lose.result c.in-Lost.is c.lose.ensures.parts c.lose.ensures.put_kept told

@@ -24,7 +24,7 @@ pub returns-in-Post-clause-went : goal.returns-in-Post-clause-went
 returns-in-Post-clause-went g c = c.post.ensures.went (setting c.args.tables.now c.args.config.now.nodes) (standing (machine_in c.args.self.now.work.core) (shown c.args.self.now.talk.wire) c.args.self.now.parting) (seen (g.I.Source.left c.args.around.now.source) (g.I.Source.ended c.args.around.now.source) (g.O.Sink.taken c.args.around.now.sink) (g.C.Clock.given c.args.around.now.clock) (g.G.GatePass.calls c.args.around.now.gate) (reach g.L.Link.pending g.L.Link.plan c.args.self.now.work.links.slots.items (g.M.LinkMaker.plans c.args.around.now.maker) (g.G.GatePass.stand c.args.around.now.gate)))
 
 pub returns-in-WaitFor-clause-went : goal.returns-in-WaitFor-clause-went
-returns-in-WaitFor-clause-went g c = c.wait.ensures.went (setting c.args.tables.now c.args.config.now.nodes) (standing (machine_in c.args.self.now.work.core) (shown c.args.self.now.talk.wire) c.args.self.now.parting) (seen (g.I.Source.left c.args.around.now.source) (g.I.Source.ended c.args.around.now.source) (g.O.Sink.taken c.args.around.now.sink) (g.C.Clock.given c.args.around.now.clock) (g.G.GatePass.calls c.args.around.now.gate) (reach g.L.Link.pending g.L.Link.plan c.args.self.now.work.links.slots.items (g.M.LinkMaker.plans c.args.around.now.maker) (g.G.GatePass.stand c.args.around.now.gate)))
+returns-in-WaitFor-clause-went g c = c.wait.ensures.went (setting c.args.tables.now c.args.config.now.nodes)
 
 pub returns-in-Reply-clause-went : goal.returns-in-Reply-clause-went
 returns-in-Reply-clause-went g c =

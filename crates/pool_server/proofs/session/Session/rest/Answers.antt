@@ -14,13 +14,13 @@ returns-then-is_gone-clause-went g c = λ nodes.
 
 pub returns-then-self-clause-went : goal.returns-then-self-clause-went
 returns-then-self-clause-went g c = λ nodes.
-    there (setting c.args.tables.now nodes) (machine_in c.args.self.now.work.core) (machine_in c.args.self.now.work.core) (shown c.args.self.now.talk.wire) (shown c.listen.new.self.wire) c.args.self.now.parting c.listen.result (seen (g.I.Source.left c.args.around.now.source) (g.I.Source.ended c.args.around.now.source) (g.O.Sink.taken c.args.around.now.sink) (g.C.Clock.given c.args.around.now.clock) (g.G.GatePass.calls c.args.around.now.gate) (reach g.L.Link.pending g.L.Link.plan c.args.self.now.work.links.slots.items (g.M.LinkMaker.plans c.args.around.now.maker) (g.G.GatePass.stand c.args.around.now.gate)))
-    (seen (g.I.Source.left c.listen.new.source) (g.I.Source.ended c.listen.new.source) (g.O.Sink.taken c.args.around.now.sink) (g.C.Clock.given c.args.around.now.clock) (g.G.GatePass.calls c.args.around.now.gate) (reach g.L.Link.pending g.L.Link.plan c.args.self.now.work.links.slots.items (g.M.LinkMaker.plans c.args.around.now.maker) (g.G.GatePass.stand c.args.around.now.gate)))
+    there (setting c.args.tables.now nodes) (machine_in c.args.self.now.work.core) (machine_in c.args.self.now.work.core) (shown c.args.self.now.talk.wire) (shown c.exchange-step.new.self.wire) c.args.self.now.parting c.exchange-step.result (seen (g.I.Source.left c.args.around.now.source) (g.I.Source.ended c.args.around.now.source) (g.O.Sink.taken c.args.around.now.sink) (g.C.Clock.given c.args.around.now.clock) (g.G.GatePass.calls c.args.around.now.gate) (reach g.L.Link.pending g.L.Link.plan c.args.self.now.work.links.slots.items (g.M.LinkMaker.plans c.args.around.now.maker) (g.G.GatePass.stand c.args.around.now.gate)))
+    (seen (g.I.Source.left c.exchange-step.new.source) (g.I.Source.ended c.exchange-step.new.source) (g.O.Sink.taken c.exchange-step.new.sink) (g.C.Clock.given c.args.around.now.clock) (g.G.GatePass.calls c.args.around.now.gate) (reach g.L.Link.pending g.L.Link.plan c.args.self.now.work.links.slots.items (g.M.LinkMaker.plans c.args.around.now.maker) (g.G.GatePass.stand c.args.around.now.gate)))
     (sym c.is_gone.ensures ∙ c.if-is_gone.false)
-    (c.listen.ensures.went (setting c.args.tables.now nodes) (standing (machine_in c.args.self.now.work.core) (shown c.args.self.now.talk.wire) c.args.self.now.parting) (machine_in c.args.self.now.work.core) (seen (g.I.Source.left c.args.around.now.source) (g.I.Source.ended c.args.around.now.source) (g.O.Sink.taken c.args.around.now.sink) (g.C.Clock.given c.args.around.now.clock) (g.G.GatePass.calls c.args.around.now.gate) (reach g.L.Link.pending g.L.Link.plan c.args.self.now.work.links.slots.items (g.M.LinkMaker.plans c.args.around.now.maker) (g.G.GatePass.stand c.args.around.now.gate))))
+    (c.exchange-step.ensures.went (setting c.args.tables.now nodes) (standing (machine_in c.args.self.now.work.core) (shown c.args.self.now.talk.wire) c.args.self.now.parting) (machine_in c.args.self.now.work.core) (seen (g.I.Source.left c.args.around.now.source) (g.I.Source.ended c.args.around.now.source) (g.O.Sink.taken c.args.around.now.sink) (g.C.Clock.given c.args.around.now.clock) (g.G.GatePass.calls c.args.around.now.gate) (reach g.L.Link.pending g.L.Link.plan c.args.self.now.work.links.slots.items (g.M.LinkMaker.plans c.args.around.now.maker) (g.G.GatePass.stand c.args.around.now.gate))) c.requires.rests)
 
 pub returns-then-self-clause-ends : goal.returns-then-self-clause-ends
-returns-then-self-clause-ends g c = ends_there (machine_in c.args.self.now.work.core) (shown c.listen.new.self.wire) c.args.self.now.parting c.listen.result (sym c.is_gone.ensures ∙ c.if-is_gone.false) (c.listen.ensures.ends (standing (machine_in c.args.self.now.work.core) (shown c.args.self.now.talk.wire) c.args.self.now.parting) (machine_in c.args.self.now.work.core))
+returns-then-self-clause-ends g c = ends_there (machine_in c.args.self.now.work.core) (shown c.exchange-step.new.self.wire) c.args.self.now.parting c.exchange-step.result (sym c.is_gone.ensures ∙ c.if-is_gone.false) (c.exchange-step.ensures.ends (standing (machine_in c.args.self.now.work.core) (shown c.args.self.now.talk.wire) c.args.self.now.parting) (machine_in c.args.self.now.work.core))
 
 pub returns-clause-went : goal.returns-clause-went
 returns-clause-went g c = λ nodes.

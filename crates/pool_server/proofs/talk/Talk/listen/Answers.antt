@@ -1,8 +1,12 @@
 use Rattle.session_wire.specs.Shown.{shown}
-use Rattle.pool_server.proofs.Talking.{had}
+use Rattle.pool_server.proofs.Talking.{had, silent}
 use Rattle.pool_server.proofs.talk.Talk.listen.Goals as goal
 
-pub returns-clause-went : goal.returns-clause-went
-returns-clause-went g c = λ w p m s.
-    had w p s m (shown c.args.self.now.wire) (shown c.had.new.self.wire) c.read-got.result c.read-got.new.into c.had.result (g.I.Source.left c.args.source.now) (g.I.Source.left c.read-got.new.self) (g.I.Source.ended c.args.source.now) (g.I.Source.ended c.read-got.new.self)
-    c.had.ensures.had c.read-got.ensures.gives c.read-got.ensures.ended
+pub returns-in-None-clause-went : goal.returns-in-None-clause-went
+returns-in-None-clause-went g c = λ w p m s.
+    silent w p s m (shown c.args.self.now.wire) (g.I.Source.left c.args.source.now) (g.I.Source.left c.read_soon.new.self) (g.I.Source.ended c.args.source.now) (g.I.Source.ended c.read_soon.new.self) c.in-None.ensures.nothing.0 c.in-None.ensures.nothing.1
+
+pub returns-in-Some-clause-went : goal.returns-in-Some-clause-went
+returns-in-Some-clause-went g c = λ w p m s.
+    had w p s m (shown c.args.self.now.wire) (shown c.had.new.self.wire) c.in-Some.got c.read_soon.new.into c.had.result (g.I.Source.left c.args.source.now) (g.I.Source.left c.read_soon.new.self) (g.I.Source.ended c.args.source.now) (g.I.Source.ended c.read_soon.new.self)
+    c.had.ensures.had c.in-Some.ensures.gives c.in-Some.ensures.ended

@@ -27,7 +27,7 @@ returns-in-Ok-NeedInput-clause-went g c = λ nodes p s.
     went_on w (talking p m (shown c.args.self.now.wire)) (talking p m (shown c.next.new.self)) (talked p m (shown c.exchange.new.self.wire) c.exchange.result)
     (with_client s (g.I.Source.left c.args.source.now) (g.I.Source.ended c.args.source.now) (g.O.Sink.taken c.args.sink.now) (g.C.Clock.given c.args.clock.now)) (with_client s (g.I.Source.left c.args.source.now) (g.I.Source.ended c.args.source.now) (g.O.Sink.taken c.args.sink.now) given) (with_client s (g.I.Source.left c.exchange.new.source) (g.I.Source.ended c.exchange.new.source) (g.O.Sink.taken c.exchange.new.sink) given)
     (turned w p (with_talk s (g.I.Source.left c.args.source.now) (g.I.Source.ended c.args.source.now) (g.O.Sink.taken c.args.sink.now)) m m (shown c.args.self.now.wire) (shown c.next.new.self) c.now-moment.result wires.NeedInput (g.C.Clock.given c.args.clock.now) given refl (next_at c.args.tables.now c.now-moment.result (to_z w64 (of_z w64 c.now-moment.result)) (shown c.args.self.now.wire) (shown c.next.new.self) wires.NeedInput c.in-Ok-NeedInput.field-0 (to_z-of_z w64 c.now-moment.result fits) c.in-Ok-NeedInput.field-0-is c.in-Ok-NeedInput.ensures.exact) refl c.now-moment.ensures)
-    (c.exchange.ensures.went w p m (with_given s given))
+    (c.exchange.ensures.went w p m (with_given s given) c.requires.rests)
 
 pub returns-in-Ok-Close-clause-went : goal.returns-in-Ok-Close-clause-went
 returns-in-Ok-Close-clause-went g c = λ nodes p s.

@@ -6,4 +6,4 @@ pub returns-then-not-may_hear-clause-happens : goal.returns-then-not-may_hear-cl
 returns-then-not-may_hear-clause-happens g c = inr (refl, (λ may. absurd (false≢true (sym c.if-not-may_hear.true ∙ c.may_hear.ensures.1 may)), refl))
 
 pub returns-clause-happens : goal.returns-clause-happens
-returns-clause-happens g c = inl (refl, (c.may_hear.ensures.0 c.if-not-may_hear.false, c.backend_answer.ensures))
+returns-clause-happens g c = inl (c.behind_answer-behind.ensures.behind, (c.may_hear.ensures.0 c.if-not-may_hear.false, c.backend_answer.ensures))

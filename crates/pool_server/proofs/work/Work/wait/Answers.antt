@@ -8,7 +8,7 @@ use Rattle.pool_server.specs.Sights.{with_work}
 use Rattle.pool_server.specs.Servings.{stepped}
 use Rattle.pool_server.proofs.Going.{went_from}
 use Rattle.pool_server.proofs.Linking.{heard_so, lost_so, same_work, settled}
-use Rattle.pool_server.proofs.Working.{missed, peeks, took, unseen, untried, waited_due}
+use Rattle.pool_server.proofs.Working.{missed_link, peeks, took_so, unseen, untried, waited_due}
 use Rattle.pool_server.proofs.work.Work.wait.Goals as goal
 
 pub returns-then-not-is_awaited-clause-went : goal.returns-then-not-is_awaited-clause-went
@@ -18,13 +18,13 @@ returns-then-not-is_awaited-clause-went g c = λ w p s.
 
 pub returns-in-Answered-clause-went : goal.returns-in-Answered-clause-went
 returns-in-Answered-clause-went g c = λ w p s.
-    took w p s c.args.b c.in-Answered.answer c.hear.result (machine_in c.args.self.now.core) (machine_in c.hear.new.self.core) (g.G.GatePass.calls c.args.gate.now) (reach g.L.Link.pending g.L.Link.plan c.args.self.now.links.slots.items s.reach.plans (g.G.GatePass.stand c.args.gate.now)) (reach g.L.Link.pending g.L.Link.plan c.hear.new.self.links.slots.items s.reach.plans (g.G.GatePass.stand c.args.gate.now))
+    took_so w p s c.args.b c.in-Answered.answer c.hear.result (machine_in c.args.self.now.core) (machine_in c.hear.new.self.core) (g.G.GatePass.calls c.args.gate.now) (reach g.L.Link.pending g.L.Link.plan c.args.self.now.links.slots.items s.reach.plans (g.G.GatePass.stand c.args.gate.now)) (reach g.L.Link.pending g.L.Link.plan c.hear.new.self.links.slots.items s.reach.plans (g.G.GatePass.stand c.args.gate.now))
     c.requires (heard_so g.L.Link.pending g.L.Link.plan _ _ _ s.reach.plans c.args.b c.in-Answered.answer _ c.in-Answered.ensures.told c.poll.ensures.others c.hear.ensures.links) c.hear.ensures.happens
 
 pub returns-in-Lost-clause-went : goal.returns-in-Lost-clause-went
 returns-in-Lost-clause-went g c = λ w p s.
-    missed w p s c.args.b c.in-Lost.loss.before c.in-Lost.loss.after c.lose.result (machine_in c.args.self.now.core) (machine_in c.lose.new.self.core) (g.G.GatePass.calls c.args.gate.now) (reach g.L.Link.pending g.L.Link.plan c.args.self.now.links.slots.items s.reach.plans (g.G.GatePass.stand c.args.gate.now)) (reach g.L.Link.pending g.L.Link.plan c.lose.new.self.links.slots.items s.reach.plans (g.G.GatePass.stand c.args.gate.now))
-    c.requires c.in-Lost.loss.rose (lost_so g.L.Link.pending g.L.Link.plan _ _ _ s.reach.plans c.args.b _ c.in-Lost.ensures.told c.poll.ensures.others c.lose.ensures.links) c.lose.ensures.happens
+    missed_link w p s c.args.b c.in-Lost.loss.before c.in-Lost.loss.after c.lose_link.result (machine_in c.args.self.now.core) (machine_in c.lose_link.new.self.core) (g.G.GatePass.calls c.args.gate.now) (reach g.L.Link.pending g.L.Link.plan c.args.self.now.links.slots.items s.reach.plans (g.G.GatePass.stand c.args.gate.now)) (reach g.L.Link.pending g.L.Link.plan c.lose_link.new.self.links.slots.items s.reach.plans (g.G.GatePass.stand c.args.gate.now))
+    c.requires c.in-Lost.loss.rose (lost_so g.L.Link.pending g.L.Link.plan _ _ _ s.reach.plans c.args.b _ c.in-Lost.ensures.told c.poll.ensures.others c.lose_link.ensures.links) c.lose_link.ensures.loses
 
 pub returns-in-NotYet-clause-went : goal.returns-in-NotYet-clause-went
 returns-in-NotYet-clause-went g c = λ w p s.
