@@ -2,3 +2,4 @@ pub mod Matched
 pub mod Calls
 pub mod Noted
 pub mod Letting
+pub mod Looking

@@ -2,14 +2,15 @@
 ghost use Rattle.std.specs.Prelude.{◌≡◌, ◌≢◌, IfNone, IfOk, IfSome, Ok, None};
 ghost use Rattle.pool_base.specs.Outside.{Rose};
 ghost use Rattle.schema.specs.Grammar.{IsWithin};
-ghost use Rattle.tcp_server.specs.declared.accept.ServeEnd.TheVariants.{ListenFault};
+ghost use Rattle.tcp_server.specs.declared.accept.ServeEnd.TheVariants.{ListenFault, Stopped};
 
+use crate::control::Control;
 use crate::host::Host;
+use crate::pace::Answers;
 use crate::porch::{Porch, attend};
 use crate::room::{AtGate, House, Room};
-use crate::servers::attached_behind;
 use crate::start::{Job, start};
-use pool_base::NoMemory;
+use pool_base::{BackendSet, NoMemory};
 use pool_config::Config;
 use schema::Catalogue;
 use serve_base::{Keeper, Visit, is_second_over, tell};
@@ -20,18 +21,25 @@ use std::net::{TcpListener, TcpStream};
 use std::sync::Arc;
 use std::time::{Duration, Instant};
 use std::{io, thread};
-use tcp_link::secrets_of;
+use tcp_link::{Witnesses, secrets_of};
 
 /// How long is waited behind a connection that could not be accepted.
 ///
 /// Units: milliseconds.
 const PAUSE: u64 = 50;
 
+/// How often it is looked whether all sessions have ended.
+///
+/// Units: milliseconds.
+const REST: u64 = 10;
+
 /// How the serving ended.
 #[derive(Clone, Copy, Debug, PartialEq, Eq)]
 pub enum ServeEnd {
     /// No more connections come.
     Closed,
+    /// It was told to stop, and nobody is served any more.
+    Stopped,
     /// The address cannot be listened at.
     ListenFault,
     /// Memory was refused before a client was served.
@@ -128,6 +136,45 @@ impl<G: AtGate + Send + Sync + 'static> Door<G> {
         thread::sleep(&rt, Duration::from_millis(PAUSE));
     }
 
+    /// Whether the pool is to stop.
+    fn is_stopping(&self) -> bool {
+        self.room.house.control.is_stopping()
+    }
+
+    /// Takes those who come, until the pool is to stop.
+    fn stand<R: Host>(&mut self, rt: R, listener: &TcpListener) {
+        if self.is_stopping() {
+            return;
+        }
+        for stream in listener.incoming() {
+            if self.is_stopping() {
+                return;
+            }
+            match stream {
+                Ok(stream) => self.welcome(rt, stream),
+                Err(fault) => self.pause(rt, &fault),
+            }
+        }
+    }
+
+    /// Nobody is taken any more, and the last session ends.
+    fn close<R: Host>(&self, rt: R) {
+        self.room.house.control.close();
+        tell(&rt, self.alloc, "stops: no client is taken any more");
+        self.wait(rt);
+        tell(&rt, self.alloc, "has stopped: no session is left");
+    }
+
+    /// Waits until each session has ended.
+    fn wait<R: Host>(&self, rt: R) {
+        for _ in rt.forever() {
+            if self.room.is_empty(&rt) {
+                break;
+            }
+            thread::sleep(&rt, Duration::from_millis(REST));
+        }
+    }
+
     /// There is no thread.
     fn send_home<R: Host>(&self, rt: R, job: Job<G>) {
         let Job {
@@ -154,42 +201,55 @@ fn attend_in_thread<R: Host>(rt: R, porch: &Arc<Porch, Global>, seats: u32) -> b
     thread::spawn(&rt, move || attend(&rt, &theirs, seats)).is_ok()
 }
 
-/// Serves TCP clients of these tables, before the backends of a configuration, until no more come.
-/// `faults` counts the addresses that could not be listened at. Attached are the backends that are
-/// up in the status file and whose servers are there, and each detachment is written into that
-/// file before it is made. `tells_all`: standard error has a line where a session begins and ends,
-/// besides those of faults.
+/// Serves TCP clients of these tables, before the backends of a configuration, until no more come,
+/// or the pool is told to stop. `faults` counts the addresses that could not be listened at, and
+/// `stops` the words to stop that were heeded. These backends are attached, and each detachment is
+/// written into the status file before it is made.
+///
+/// Told to stop it takes no more clients, and answers behind the last session.
 ///
 /// Units: at most 64 seats are given out, and at most eight backends are attached.
 pub fn serve<R: Host>(
     rt: R,
     alloc: Global,
     faults: &mut u64,
+    stops: &mut u64,
     config: Config,
     tables: Catalogue,
     keeper: Keeper,
-    tells_all: bool,
+    attached: BackendSet,
+    control: Arc<Control, Global>,
 ) -> ServeEnd
     requires within { IsWithin tables }
     ensures listen_fault { result ≡ ListenFault → Rose faults.old faults.new }
+    ensures stopped { result ≡ Stopped → Rose stops.old stops.new }
 {
-    let house = match house_of(&rt, alloc, faults, config, tables, keeper, tells_all) {
+    let mut house = match house_of(&rt, alloc, faults, config, tables, keeper, control) {
         Ok(Some(house)) => house,
         Ok(None) => return ServeEnd::ListenFault,
         Err(NoMemory) => return ServeEnd::NoMemory,
     };
-    let attached = attached_behind(&rt, alloc, &house.config, &house.tables, &house.keeper);
+    call_witnesses(&rt, alloc, &mut house, attached);
     let Some(listener) = listen(&rt, alloc, faults, &house.config) else {
         drop(house);
         return ServeEnd::ListenFault;
     };
     match SharedGate::new(&rt, alloc, attached) {
-        Ok((gate, pass)) => end_of(serve_at::<R, Brand>(rt, alloc, &listener, gate, pass, house)),
+        Ok((gate, pass)) => {
+            let served = serve_at::<R, Brand>(rt, alloc, listener, gate, pass, house);
+            end_of(served, stops)
+        }
         Err(NoMemory) => {
             drop(house);
             ServeEnd::NoMemory
         }
     }
+}
+
+/// Begins a connection of the pool's own to each backend that is attached. A backend without one
+/// has nobody who speaks for it.
+fn call_witnesses<R: Host>(rt: &R, alloc: Global, house: &mut House, attached: BackendSet) {
+    drop(house.witnesses.call(rt, alloc, &house.config, attached));
 }
 
 /// What is served, with what clients are asked for their passwords by. `None`: the count of faults
@@ -201,7 +261,7 @@ fn house_of<R: Host>(
     config: Config,
     tables: Catalogue,
     keeper: Keeper,
-    tells_all: bool,
+    control: Arc<Control, Global>,
 ) -> Result<Option<House>, NoMemory>
     requires within { IsWithin tables }
     ensures none { result ≡ Ok None → Rose faults.old faults.new }
@@ -214,42 +274,51 @@ fn house_of<R: Host>(
             tables,
             secrets,
             keeper,
-            tells_all,
+            control,
+            witnesses: Witnesses::new(alloc),
+            answers: Answers::new(rt, alloc),
         })),
         Ok(None) => {
             drop(config);
             drop(tables);
             drop(keeper);
+            drop(control);
             Ok(None)
         }
         Err(NoMemory) => {
             drop(config);
             drop(tables);
             drop(keeper);
+            drop(control);
             Err(NoMemory)
         }
     }
 }
 
-/// How the serving of a gate ended.
-fn end_of(served: Result<(), NoMemory>) -> ServeEnd
-    ensures { result ≢ ListenFault }
+/// How the serving of a gate ended: whether the pool was told to stop, or memory was refused.
+fn end_of(served: Result<bool, NoMemory>, stops: &mut u64) -> ServeEnd
+    ensures listen_fault { result ≢ ListenFault }
+    ensures stopped { result ≡ Stopped → Rose stops.old stops.new }
 {
     match served {
-        Ok(()) => ServeEnd::Closed,
+        Ok(true) => {
+            *stops = stops.saturating_add(1);
+            ServeEnd::Stopped
+        }
+        Ok(false) => ServeEnd::Closed,
         Err(NoMemory) => ServeEnd::NoMemory,
     }
 }
 
-/// Serves the clients of one gate.
+/// Serves the clients of one gate, to the last. Answers whether the pool was told to stop.
 fn serve_at<R: Host, G: AtGate + Send + Sync + 'static>(
     rt: R,
     alloc: Global,
-    listener: &TcpListener,
+    listener: TcpListener,
     gate: SharedGate,
     pass: Pass,
     house: House,
-) -> Result<(), NoMemory>
+) -> Result<bool, NoMemory>
     requires gate { gate ≡ G.gate }
     requires pass { pass.gate ≡ G.gate }
 {
@@ -266,11 +335,8 @@ fn serve_at<R: Host, G: AtGate + Send + Sync + 'static>(
         number: 0,
         told: None,
     };
-    for stream in listener.incoming() {
-        match stream {
-            Ok(stream) => door.welcome(rt, stream),
-            Err(fault) => door.pause(rt, &fault),
-        }
-    }
-    Ok(())
+    door.stand(rt, &listener);
+    drop(listener);
+    door.close(rt);
+    Ok(door.is_stopping())
 }

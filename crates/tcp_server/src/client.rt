@@ -1,8 +1,8 @@
 //! A client's bytes, over its stream.
 //!
 //! ```text
-//! start --read--> long --read_soon--> short --read--> long
-//! start --read--> proof --go_back--> long, where a password is asked for
+//! start --read_soon--> short --silent--> long --read_soon--> short
+//! start --read--> proof --go_back--> endless, where a password is asked for
 //! ```
 //!
 //! A stream has one time that a read of it waits at most. It is set anew only where the next read
@@ -11,17 +11,17 @@
 ghost use Rattle.std.specs.Prelude.{◌≡◌, ◌<◌, ◌≤◌, ◌||◌, ℕ, List, None, length};
 ghost use Rattle.pool_base.specs.Outside.{FaultyRead, Gave, is_end};
 
+use crate::control::Control;
 use crate::desk::Desk;
-use crate::doorway::{Doorway, is_passing};
+use crate::doorway::{Doorway, Greeted, is_passing};
+use pg_messages::Pair;
 use pool_base::{Got, NoMemory, Source};
-use pool_server::ClientSource;
-use serve_base::Threshold;
-use std::alloc::Global;
+use pool_server::{ClientSource, Posture, Spell};
+use std::io;
 use std::io::Read;
 use std::net::TcpStream;
 use std::rt::Clock;
-use std::time::Duration;
-use std::{io, mem};
+use std::time::{Duration, Instant};
 use tcp_link::TcpSink;
 
 /// How long a client may be silent before its servers are told what was held back from them.
@@ -29,12 +29,24 @@ use tcp_link::TcpSink;
 /// Units: milliseconds.
 const SHORT: u64 = 5;
 
+/// How long a silent client is waited for before it is looked whether it is to be put out.
+///
+/// Units: milliseconds.
+const LONG: u64 = 1000;
+
+/// How long a transaction may go on where the pool stops.
+///
+/// Units: seconds.
+const GRACE: u64 = 10;
+
 /// How long a read waits.
 #[derive(Clone, Copy, PartialEq, Eq)]
 enum Patience {
     /// As long as is left for the start message.
     Start,
     /// As long as it takes.
+    Endless,
+    /// A second.
     Long,
     /// A short while.
     Short,
@@ -45,11 +57,22 @@ enum Patience {
 /// The bytes that come over a client's stream.
 #[derive(Drop)]
 pub(crate) struct TcpSource<'a, R> {
+    rt: &'a R,
     stream: TcpStream,
     doorway: Doorway<'a, R>,
     patience: Patience,
     /// How long a read waits behind the start message.
     behind: Patience,
+    control: &'a Control,
+    /// How long the client may send nothing. Zero: as long as it wants.
+    ///
+    /// Units: seconds.
+    idle_limit: u64,
+    /// Since when it is silent, where that was looked at.
+    silent: Option<Instant>,
+    /// When it was seen first that the pool stops.
+    stopping: Option<Instant>,
+    dismissed: bool,
     ended: bool,
     faults: u64,
 }
@@ -58,20 +81,34 @@ pub(crate) struct TcpSource<'a, R> {
 pub(crate) fn split<'a, R>(
     stream: TcpStream,
     desk: &'a Desk<'a, R>,
+    control: &'a Control,
+    idle_limit: u64,
 ) -> io::Result<(TcpSource<'a, R>, TcpSink)> {
     stream.set_nodelay(true)?;
     let other = stream.try_clone()?;
-    Ok((TcpSource::new(stream, desk), TcpSink::new(other)))
+    let source = TcpSource::new(stream, desk, control, idle_limit);
+    Ok((source, TcpSink::new(other)))
 }
 
 impl<'a, R> TcpSource<'a, R> {
     /// A stream of which nothing was read.
-    fn new(stream: TcpStream, desk: &'a Desk<'a, R>) -> TcpSource<'a, R> {
+    fn new(
+        stream: TcpStream,
+        desk: &'a Desk<'a, R>,
+        control: &'a Control,
+        idle_limit: u64,
+    ) -> TcpSource<'a, R> {
         TcpSource {
+            rt: desk.rt,
             stream,
             doorway: Doorway::new(desk),
             patience: Patience::Start,
-            behind: Patience::Long,
+            behind: Patience::Endless,
+            control,
+            idle_limit,
+            silent: None,
+            stopping: None,
+            dismissed: false,
             ended: false,
             faults: 0,
         }
@@ -83,24 +120,28 @@ impl<'a, R> TcpSource<'a, R> {
     }
 
     /// The client has shown its password. These bytes of it are read again first.
-    pub fn go_back(&mut self, alloc: Global, front: &[u8]) -> Result<(), NoMemory> {
-        let mut threshold = Threshold::new(alloc);
-        threshold.take(front)?;
-        threshold.open();
-        drop(mem::replace(&mut self.doorway.threshold, threshold));
-        self.behind = Patience::Long;
+    pub fn go_back(&mut self, front: &[u8]) -> Result<(), NoMemory> {
+        self.doorway.go_back(front)?;
+        self.behind = Patience::Endless;
         Ok(())
+    }
+
+    /// The options of the client's start message, once that has come.
+    pub fn options(&self) -> Option<&[Pair]> {
+        self.doorway.options()
     }
 
     /// Lets a read wait so long.
     fn wait(&mut self, patience: Patience) -> io::Result<()>
         ensures ended { self.new.ended ≡ self.old.ended }
         ensures faults { self.new.faults ≡ self.old.faults }
+        ensures dismissed { self.new.dismissed ≡ self.old.dismissed }
     {
         if self.patience != patience {
             let time = match patience {
                 Patience::Short => Some(Duration::from_millis(SHORT)),
-                Patience::Long | Patience::Start | Patience::Proof => None,
+                Patience::Long => Some(Duration::from_millis(LONG)),
+                Patience::Endless | Patience::Start | Patience::Proof => None,
             };
             self.stream.set_read_timeout(time)?;
             self.patience = patience;
@@ -110,6 +151,7 @@ impl<'a, R> TcpSource<'a, R> {
 
     /// A fault of the stream.
     fn fail(&mut self) -> Got
+        ensures dismissed { self.new.dismissed ≡ self.old.dismissed }
         ensures failed { FaultyRead result self.old.faults self.new.faults }
         ensures gives { (piece : List ℕ) → Gave result piece None None }
         ensures ended { self.new.ended ≡ (self.old.ended || is_end result) }
@@ -121,11 +163,13 @@ impl<'a, R> TcpSource<'a, R> {
 
     /// So many bytes were read: none is the end.
     fn took(&mut self, count: usize) -> Got
+        ensures dismissed { self.new.dismissed ≡ self.old.dismissed }
         ensures gives { (piece : List ℕ) → count ≤ length piece → Gave result piece None None }
         ensures ended { self.new.ended ≡ (self.old.ended || is_end result) }
         ensures faults { self.new.faults ≡ self.old.faults }
         ensures failed { FaultyRead result self.old.faults self.new.faults }
     {
+        self.silent = None;
         if count == 0 {
             self.ended = true;
             return Got::End;
@@ -134,9 +178,76 @@ impl<'a, R> TcpSource<'a, R> {
     }
 }
 
+/// How long a read waits of a client that is listened for so long.
+fn patience_of(spell: Spell) -> Patience {
+    match spell {
+        Spell::Short => Patience::Short,
+        Spell::Long => Patience::Long,
+    }
+}
+
+/// Whether so many seconds are over since then. Where the clock fails they are not. What was not
+/// begun begins now.
+fn is_over<R: Clock>(rt: &R, begun: &mut Option<Instant>, seconds: u64) -> bool {
+    let Ok(now) = Instant::now(rt) else {
+        return false;
+    };
+    match begun {
+        Some(begun) => now.saturating_duration_since(*begun) >= Duration::from_secs(seconds),
+        None => {
+            *begun = Some(now);
+            false
+        }
+    }
+}
+
 impl<'a, R: Clock + Eprint + Copy> TcpSource<'a, R> {
+    /// Waits for the start message, and answers what asks for encryption before it.
+    pub fn greet(&mut self, sink: &mut TcpSink) -> Greeted {
+        self.doorway.greet(&self.stream, sink)
+    }
+
+    /// Whether the pool stops, and a transaction that is under way has had its time.
+    fn is_overdue(&mut self, in_block: bool) -> bool
+        ensures ended { self.new.ended ≡ self.old.ended }
+        ensures faults { self.new.faults ≡ self.old.faults }
+        ensures dismissed { self.new.dismissed ≡ self.old.dismissed }
+    {
+        if !self.control.is_stopping() {
+            return false;
+        }
+        let is_over = is_over(self.rt, &mut self.stopping, GRACE);
+        is_over || !in_block
+    }
+
+    /// Whether the connection has failed or ended.
+    fn is_cut(&mut self) -> bool
+        ensures ended { self.new.ended ≡ self.old.ended }
+        ensures faults { self.new.faults ≡ self.old.faults }
+        ensures dismissed { self.new.dismissed ≡ self.old.dismissed }
+    {
+        if self.wait(Patience::Short).is_err() {
+            return true;
+        }
+        let mut piece = [0u8; 1];
+        match self.stream.peek(&mut piece) {
+            Ok(count) => count == 0,
+            Err(fault) => !is_passing(fault.kind()),
+        }
+    }
+
+    /// Whether the client has sent nothing for longer than it may.
+    fn is_idle_for_too_long(&mut self) -> bool
+        ensures ended { self.new.ended ≡ self.old.ended }
+        ensures faults { self.new.faults ≡ self.old.faults }
+        ensures dismissed { self.new.dismissed ≡ self.old.dismissed }
+    {
+        self.idle_limit > 0 && is_over(self.rt, &mut self.silent, self.idle_limit)
+    }
+
     /// Lets a read wait as long as it takes, or as is left of the time for a password.
     fn is_waiting(&mut self) -> bool
+        ensures dismissed { self.new.dismissed ≡ self.old.dismissed }
         ensures ended { self.new.ended ≡ self.old.ended }
         ensures faults { self.new.faults ≡ self.old.faults }
     {
@@ -144,12 +255,13 @@ impl<'a, R: Clock + Eprint + Copy> TcpSource<'a, R> {
             self.patience = Patience::Proof;
             return self.doorway.limit(&self.stream);
         }
-        self.wait(Patience::Long).is_ok()
+        self.wait(Patience::Endless).is_ok()
     }
 
     /// Reads on, as long as it takes.
     fn read_on(&mut self, into: &mut [u8]) -> Got
         requires { 0 < length into.old }
+        ensures dismissed { self.new.dismissed ≡ self.old.dismissed }
         ensures len { length into.new ≡ length into.old }
         ensures gives { Gave result into.new None None }
         ensures ended { self.new.ended ≡ (self.old.ended || is_end result) }
@@ -168,6 +280,7 @@ impl<'a, R: Clock + Eprint + Copy> TcpSource<'a, R> {
     /// Reads on where the start message may not be whole yet.
     fn read_at_door(&mut self, into: &mut [u8]) -> Got
         requires { 0 < length into.old }
+        ensures dismissed { self.new.dismissed ≡ self.old.dismissed }
         ensures len { length into.new ≡ length into.old }
         ensures gives { Gave result into.new None None }
         ensures ended { self.new.ended ≡ (self.old.ended || is_end result) }
@@ -205,11 +318,31 @@ impl<'a, R: Clock + Eprint + Copy> Source for TcpSource<'a, R> {
 }
 
 impl<'a, R: Clock + Eprint + Copy> ClientSource for TcpSource<'a, R> {
-    fn read_soon(&mut self, into: &mut [u8]) -> Option<Got> {
+    ghost dismissed = { λ s. s.dismissed };
+
+    fn is_dismissed(&mut self, posture: Posture) -> bool {
+        let is = match posture {
+            Posture::Resting => self.is_overdue(false) || self.is_idle_for_too_long(),
+            Posture::InBlock => self.is_overdue(true) || self.is_idle_for_too_long(),
+            Posture::Waiting => self.is_overdue(true),
+        };
+        self.dismissed = self.dismissed || is;
+        is
+    }
+
+    fn is_gone(&mut self) -> bool {
+        let is = self.is_cut();
+        if is {
+            self.faults = self.faults.saturating_add(1);
+        }
+        is
+    }
+
+    fn read_soon(&mut self, spell: Spell, into: &mut [u8]) -> Option<Got> {
         if !self.doorway.threshold.is_passed() {
             return Some(self.read_at_door(into));
         }
-        if self.wait(Patience::Short).is_err() {
+        if self.wait(patience_of(spell)).is_err() {
             return Some(self.fail());
         }
         match self.stream.read(into) {

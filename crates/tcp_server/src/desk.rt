@@ -1,20 +1,17 @@
 //! Where a client is received: what is asked and told of it before its session begins.
 
 use pg_messages::Pair;
+use pool_config::Sessions;
 use serve_base::{Turned, Visit, tell};
 use std::alloc::Global;
 use std::rt::Clock;
 use std::time::{Duration, Instant};
 
-/// How long a client has for its start message, from its connection on.
+/// How long a client that is asked for no password has for its start message at most, from its
+/// connection on.
 ///
 /// Units: seconds.
-const START_PATIENCE: u64 = 10;
-
-/// How long it has for that and to show its password, where it is asked for one.
-///
-/// Units: seconds.
-const PROOF_PATIENCE: u64 = 30;
+const START_PATIENCE: u32 = 10;
 
 /// What is known where a client is received.
 #[derive(Drop)]
@@ -22,17 +19,24 @@ pub(crate) struct Desk<'a, R> {
     pub rt: &'a R,
     pub alloc: Global,
     pub visit: &'a Visit,
-    /// Sessions that begin and end without a fault are told of too.
-    pub tells_all: bool,
+    /// How long it has to be let in, and whether the start of its session is told.
+    pub sessions: Sessions,
     /// It is asked for its password behind its start message.
     pub asks: bool,
     /// When its start message, or its password, is too late. `None`: the clock has failed.
     until: Option<Instant>,
 }
 
-/// How long a client has up to its session.
-fn patience(asks: bool) -> Duration {
-    Duration::from_secs(if asks { PROOF_PATIENCE } else { START_PATIENCE })
+/// How long a client has up to its session: the time of the configuration, but for a start message
+/// alone ten seconds at most.
+fn patience(sessions: Sessions, asks: bool) -> Duration {
+    let limit = sessions.authentication_timeout;
+    let seconds = if asks {
+        limit
+    } else {
+        limit.min(START_PATIENCE)
+    };
+    Duration::from_secs(u64::from(seconds))
 }
 
 impl<'a, R: Clock + Eprint + Copy> Desk<'a, R> {
@@ -41,18 +45,18 @@ impl<'a, R: Clock + Eprint + Copy> Desk<'a, R> {
         rt: &'a R,
         alloc: Global,
         visit: &'a Visit,
-        tells_all: bool,
+        sessions: Sessions,
         asks: bool,
     ) -> Desk<'a, R> {
         let until = match Instant::now(rt) {
-            Ok(now) => now.checked_add(patience(asks)),
+            Ok(now) => now.checked_add(patience(sessions, asks)),
             Err(_) => None,
         };
         Desk {
             rt,
             alloc,
             visit,
-            tells_all,
+            sessions,
             asks,
             until,
         }
@@ -61,7 +65,7 @@ impl<'a, R: Clock + Eprint + Copy> Desk<'a, R> {
     /// How long it is waited for still. `None`: it is too late.
     pub fn time_left(&self) -> Option<Duration> {
         let (Some(until), Ok(now)) = (self.until, Instant::now(self.rt)) else {
-            return Some(patience(self.asks));
+            return Some(patience(self.sessions, self.asks));
         };
         let left = until.saturating_duration_since(now);
         if left.is_zero() {
@@ -71,21 +75,15 @@ impl<'a, R: Clock + Eprint + Copy> Desk<'a, R> {
         Some(left)
     }
 
-    /// An operator is told that its session begins.
+    /// An operator is told that its session begins, where it has said who it is.
     pub fn tell_begins(&self) {
-        if self.tells_all {
+        if self.sessions.log_connections && self.visit.has_names() {
             tell(self.rt, self.alloc, format_args!("{} begins", self.visit));
         }
     }
 
-    /// The client has said who it is. Whether its session begins.
+    /// The client has said who it is. False: memory was refused.
     pub fn admits(&self, options: &[Pair]) -> bool {
-        if self.visit.heed(self.alloc, options).is_err() {
-            return false;
-        }
-        if !self.asks {
-            self.tell_begins();
-        }
-        true
+        self.visit.heed(self.alloc, options).is_ok()
     }
 }

@@ -5,7 +5,9 @@ ghost use Rattle.tcp_server.specs.declared.entrance.Asked.TheVariants as asked;
 
 use crate::client::TcpSource;
 use crate::desk::Desk;
+use crate::doorway::Greeted;
 use crate::host::Host;
+use crate::pace::Paced;
 use crate::room::{AtGate, Room};
 use login::{Entrance, Refusal, enter};
 use pool_base::NoMemory;
@@ -25,7 +27,8 @@ pub(crate) enum Asked {
 }
 
 #[tactic(auto, using(crate::proofs::Letting::begins_with_nobody, crate::proofs::Letting::begins_let_in))]
-/// Where users have passwords, the client is asked for its own before its session begins.
+/// Waits for the client's start message. Where users have passwords, the client is asked for its
+/// own behind it.
 pub(crate) fn ask<R: Host, G: AtGate>(
     desk: &Desk<'_, R>,
     room: &Room<G>,
@@ -36,11 +39,20 @@ pub(crate) fn ask<R: Host, G: AtGate>(
         → MayBegin room.now.house.config.users room.now.house.secrets.users }
 {
     if room.house.config.users.is_empty() {
-        return Asked::MayBegin;
+        return greeted(source, sink);
     }
     match admit(desk, room, source, sink) {
         Ok(asked) => asked,
         Err(NoMemory) => Asked::Ends(EndCause::NoMemory),
+    }
+}
+
+/// Waits for the start message of a client that needs no password.
+fn greeted<R: Host>(source: &mut TcpSource<'_, R>, sink: &mut TcpSink) -> Asked {
+    match source.greet(sink) {
+        Greeted::GoesOn => Asked::MayBegin,
+        Greeted::Gone => Asked::Ends(EndCause::ReadFault),
+        Greeted::Unwritten => Asked::Ends(EndCause::WriteFault),
     }
 }
 
@@ -59,10 +71,18 @@ fn admit<R: Host, G: AtGate>(
         return Ok(Asked::IsTold);
     };
     source.limit();
-    match enter(alloc, source, sink, room.house.secrets.guard(), nonce)? {
+    let mut pace = Paced::new(desk, &room.house.answers);
+    match enter(
+        alloc,
+        source,
+        sink,
+        &mut pace,
+        room.house.secrets.guard(),
+        nonce,
+    )? {
         Entrance::LetIn(front) => {
-            source.go_back(alloc, front.as_slice())?;
-            desk.tell_begins();
+            pace.forgive();
+            source.go_back(front.as_slice())?;
             Ok(Asked::MayBegin)
         }
         Entrance::Refused(Refusal::Password) => {
@@ -70,6 +90,10 @@ fn admit<R: Host, G: AtGate>(
             Ok(Asked::IsTold)
         }
         Entrance::Refused(_) => Ok(Asked::Ends(EndCause::Refused)),
+        Entrance::HeldBack => {
+            tell_why(desk, "from its address passwords are tried too fast");
+            Ok(Asked::IsTold)
+        }
         Entrance::Gone => Ok(Asked::Ends(EndCause::Left)),
         Entrance::ReadFault => Ok(Asked::Ends(EndCause::ReadFault)),
         Entrance::WriteFault => Ok(Asked::Ends(EndCause::WriteFault)),

@@ -18,12 +18,7 @@ use std::sync::Wait;
 const DETACHED: &str = "a session has detached it";
 
 /// An operator is told that the file does not say what it should.
-pub(crate) fn tell_unwritten<R: Clock + Eprint + Copy>(
-    rt: &R,
-    alloc: Global,
-    b: BackendId,
-    noted: Noted,
-) {
+pub fn tell_unwritten<R: Clock + Eprint + Copy>(rt: &R, alloc: Global, b: BackendId, noted: Noted) {
     if let Noted::Failed(fault) = noted {
         let b = b.number;
         tell(
@@ -63,6 +58,8 @@ pub(crate) struct Explained<'a, R, N> {
 }
 
 impl<'a, R: Wait + Clock + Eprint + Copy, N: Notices> Notices for Explained<'a, R, N> {
+    ghost told = { λ e. N.told e.lines };
+
     fn detached(&mut self, s: SessionId, b: BackendId, cause: &Cause) {
         self.lines.detached(s, b, cause);
         let unreached = self.unreached.get() >> b.number & 1 == 1;

@@ -2,7 +2,7 @@
 
 use std::net::{Net, TcpListener, TcpStream};
 use std::random::RandomSource;
-use std::rt::Clock;
+use std::rt::{Clock, Env};
 use std::sync::Wait;
 use std::thread::Threads;
 
@@ -12,6 +12,8 @@ pub trait Host: Net<Listener = TcpListener, Stream = TcpStream>
     + Wait
     + Clock
     + RandomSource
+    + Env
+    + AllocGlobal
     + Eprint
     + Copy
     + Send
@@ -25,6 +27,8 @@ where
         + Wait
         + Clock
         + RandomSource
+        + Env
+        + AllocGlobal
         + Eprint
         + Copy
         + Send

@@ -4,20 +4,24 @@
 
 mod accept;
 mod client;
+mod control;
 mod desk;
 mod doorway;
 mod entrance;
 mod explained;
 mod host;
 mod notices;
+mod pace;
 mod pass_at;
 mod porch;
 mod refusal;
 mod room;
-mod servers;
 mod start;
+mod turned;
 mod turns;
 mod why;
 
 pub use accept::{ServeEnd, serve};
+pub use control::Control;
+pub use explained::tell_unwritten;
 pub use host::Host;

@@ -19,8 +19,6 @@ pub(crate) struct ErrorLines<'a, R> {
     pub visit: &'a Visit,
     /// The backends where the last try began no session, each by its bit.
     pub unreached: &'a Cell<u8>,
-    /// Sessions that begin and end without a fault are told of too.
-    pub tells_all: bool,
 }
 
 impl<'a, R: Eprint + Clock + Copy> ErrorLines<'a, R> {
@@ -40,6 +38,10 @@ impl<'a, R: Eprint + Clock + Copy> ErrorLines<'a, R> {
 }
 
 impl<'a, R: Eprint + Clock + Copy> Notices for ErrorLines<'a, R> {
+    ghost use Rattle.std.specs.Prelude.{None};
+
+    ghost told = { λ _. None };
+
     fn detached(&mut self, _: SessionId, b: BackendId, cause: &Cause) {
         let unreached = self.unreached.get() >> b.number & 1 == 1;
         self.tell_detached(b, Why { cause, unreached });
@@ -66,7 +68,7 @@ impl<'a, R: Eprint + Clock + Copy> Notices for ErrorLines<'a, R> {
                 format_args!("{visit} ends: {why}"),
             ),
             (Turned::No, None) => {
-                if self.tells_all && visit.has_names() {
+                if self.config.sessions.log_disconnections && visit.has_names() {
                     tell(self.rt, self.alloc, format_args!("{visit} ends"));
                 }
             }

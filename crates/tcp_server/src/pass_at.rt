@@ -7,7 +7,7 @@ ghost use Rattle.tcp_server.specs.Noting.{are_noted};
 use crate::explained::note;
 use crate::room::{AtGate, OutPass};
 use crate::turns::Turns;
-use pool_base::{GateAnswer, GateCall};
+use pool_base::{BackendSet, GateAnswer, GateCall};
 use pool_server::{Footing, GatePass};
 use serve_base::{Keeper, Notes};
 use shared_gate::{Pass, SharedGate};
@@ -80,6 +80,19 @@ impl<'a, R, G: AtGate> PassAt<'a, R, G> {
             pass,
             notes,
             of: PhantomData,
+        }
+    }
+}
+
+impl<'a, R: Wait + Clock + Eprint + Copy, G: AtGate> PassAt<'a, R, G> {
+    /// The backends that are attached now.
+    #[tactic(auto, using(crate::proofs::Looking::looks))]
+    pub fn attached(&mut self) -> BackendSet
+        ensures { stand_of self.new.pass.mine ≡ stand_of self.old.pass.mine }
+    {
+        match self.step(GateCall::Look) {
+            GateAnswer::Seen(view) | GateAnswer::Granted(view) => view.attached,
+            GateAnswer::Held(_) | GateAnswer::Spent => BackendSet::EMPTY,
         }
     }
 }

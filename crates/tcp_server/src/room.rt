@@ -4,12 +4,15 @@
 //! ```text
 //! free, its pass is there --take--> taken, its pass is with a session --give--> free
 //! ```
-ghost use Rattle.std.specs.Prelude.{◌≡◌, ◌≤◌, length, IfOk, IfSome, min, true};
+ghost use Rattle.std.specs.Prelude.{◌≡◌, ◌≤◌, ◌↔◌, length, IfOk, IfSome, IsTrue, min, true};
 ghost use Rattle.schema.specs.Grammar.{IsWithin};
+ghost use Rattle.pool_server.specs.Seats.{AreFree};
 ghost use Rattle.shared_gate.specs.History.{IsOut};
 ghost use Rattle.tcp_server.specs.Noting.{are_noted};
 ghost use Rattle.tcp_server.specs.Rooms.{AreMatched};
 
+use crate::control::Control;
+use crate::pace::Answers;
 use crate::turns::Turns;
 use pool_base::{NoMemory, SessionId};
 use pool_config::Config;
@@ -20,8 +23,8 @@ use shared_gate::{Pass, SharedGate};
 use std::alloc::Global;
 use std::marker::{Brand, PhantomData};
 use std::mem;
-use std::sync::{Mutex, Wait};
-use tcp_link::Secrets;
+use std::sync::{Arc, Mutex, Wait};
+use tcp_link::{Secrets, Witnesses};
 
 /// How many seats there are at most.
 const MOST: u32 = 64;
@@ -82,11 +85,18 @@ impl<G: AtGate> Places<G> {
         })
     }
 
-    /// The lowest free seat with its pass, if there is one.
+    /// The free seat whose turn it is with its pass, if there is one.
     fn take(&mut self) -> Option<(SessionId, OutPass<G>)> {
         let s = self.seats.take()?;
         let pass = mem::replace(&mut self.passes[s.number as usize - 1], None)?;
         Some((s, pass))
+    }
+
+    /// Whether each seat is free.
+    fn are_free(&self) -> bool
+        ensures { IsTrue result ↔ AreFree self.now.seats.count self.now.seats.taken }
+    {
+        self.seats.are_free()
     }
 
     /// A session is over: its seat is free again, and its pass is there.
@@ -119,8 +129,12 @@ pub(crate) struct House {
     pub tables: Catalogue,
     pub secrets: Secrets,
     pub keeper: Keeper,
-    /// Sessions that begin and end without a fault are told of too.
-    pub tells_all: bool,
+    /// Whether the pool is to stop.
+    pub control: Arc<Control, Global>,
+    /// Who speaks for a server to which a connection has broken.
+    pub witnesses: Witnesses,
+    /// How fast clients try passwords.
+    pub answers: Answers,
     ghost within: { IsWithin tables },
 }
 
@@ -162,9 +176,14 @@ impl<G: AtGate> Room<G> {
         }
     }
 
-    /// The lowest free seat with its pass, if there is one.
+    /// The free seat whose turn it is with its pass, if there is one.
     pub fn take<R: Wait>(&self, rt: &R) -> Option<(SessionId, OutPass<G>)> {
         self.places.lock(rt).take()
+    }
+
+    /// Whether each seat is free and has its pass, so that nobody is served.
+    pub fn is_empty<R: Wait>(&self, rt: &R) -> bool {
+        self.places.lock(rt).are_free()
     }
 
     /// A session is over, and its pass is out.

@@ -10,15 +10,17 @@ use crate::host::Host;
 use crate::notices::ErrorLines;
 use crate::pass_at::PassAt;
 use crate::room::{AtGate, OutPass, Room};
-use pool_base::{SessionId, SystemClock};
-use pool_server::{Around, EndCause, Notices, serve_session};
+use crate::turned::{part, turn_away};
+use pool_base::{BackendSet, SessionId, SystemClock};
+use pool_server::{Around, EndCause, Notices, serve_noted};
 use serve_base::Visit;
+use session_links::{Verdict, verdict_of};
 use std::alloc::Global;
 use std::cell::Cell;
 use std::net::TcpStream;
 use std::sync::{Arc, Mutex};
 use std::thread;
-use tcp_link::{TcpMaker, TcpSink};
+use tcp_link::{Held, TcpMaker, TcpSink};
 
 /// A connection that has a seat.
 #[derive(Drop)]
@@ -37,9 +39,10 @@ fn run<R: Host, G: AtGate>(rt: &R, alloc: Global, room: &Room<G>, job: Job<G>) {
         stream,
         visit,
     } = job;
-    let asks = !room.house.config.users.is_empty();
-    let desk = Desk::new(rt, alloc, &visit, room.house.tells_all, asks);
-    match split(stream, &desk) {
+    let config = &room.house.config;
+    let desk = Desk::new(rt, alloc, &visit, config.sessions, !config.users.is_empty());
+    let idle_limit = u64::from(config.sessions.client_idle_limit);
+    match split(stream, &desk, &room.house.control, idle_limit) {
         Ok((source, sink)) => {
             let pass = receive(&desk, room, s, pass, source, sink);
             room.give(rt, s, pass);
@@ -92,7 +95,6 @@ fn notices_of<'a, R, G: AtGate>(
             config: &room.house.config,
             visit: desk.visit,
             unreached,
-            tells_all: desk.tells_all,
         },
     }
 }
@@ -109,7 +111,25 @@ fn end<'a, R: Host, G: AtGate>(
     notices.ended(s, cause);
 }
 
-/// Serves a client to its end. The pass comes back, and is out.
+/// What makes the links of a client.
+fn maker_of<'a, R: Host, G: AtGate>(
+    desk: &'a Desk<'a, R>,
+    room: &'a Room<G>,
+    unreached: &'a Cell<u8>,
+) -> TcpMaker<'a, R> {
+    TcpMaker {
+        rt: desk.rt,
+        alloc: desk.alloc,
+        tables: &room.house.tables,
+        config: &room.house.config,
+        unreached,
+        held: Held::new(desk.alloc),
+        witnesses: &room.house.witnesses,
+        faults: 0,
+    }
+}
+
+/// Serves a client to its end, once its links are made. The pass comes back, and is out.
 fn serve_client<'a, R: Host, G: AtGate>(
     desk: &'a Desk<'a, R>,
     room: &'a Room<G>,
@@ -120,31 +140,65 @@ fn serve_client<'a, R: Host, G: AtGate>(
 ) -> OutPass<G>
     requires { MayBegin room.now.house.config.users room.now.house.secrets.users }
 {
-    let (rt, alloc) = (desk.rt, desk.alloc);
     let unreached = Cell::new(0);
+    let keeper = &room.house.keeper;
+    let mut gate = PassAt::new(desk.rt, &room.gate, &room.turns, keeper, pass);
+    let attached = gate.attached();
+    let mut maker = maker_of(&*desk, &*room, &unreached);
+    let verdict = verdict_on(&source, &mut maker, attached);
+    match verdict.code() {
+        None => serve_linked(&*desk, &*room, s, gate, source, sink, maker),
+        Some(code) => {
+            drop(source);
+            drop(maker);
+            turn_away(desk, room, verdict, code, sink);
+            gate.into_pass()
+        }
+    }
+}
+
+/// Makes a link to each backend that is attached, for a client whose start message has come.
+/// Answers whether its session begins.
+fn verdict_on<R: Host>(
+    source: &TcpSource<'_, R>,
+    maker: &mut TcpMaker<'_, R>,
+    attached: BackendSet,
+) -> Verdict {
+    match source.options() {
+        Some(options) => {
+            let opened = maker.open(attached, options);
+            verdict_of(&opened[..])
+        }
+        None => Verdict::LetIn,
+    }
+}
+
+/// Serves a client whose links are made. The pass comes back, and is out.
+fn serve_linked<'a, R: Host, G: AtGate>(
+    desk: &'a Desk<'a, R>,
+    room: &'a Room<G>,
+    s: SessionId,
+    gate: PassAt<'a, R, G>,
+    source: TcpSource<'a, R>,
+    sink: TcpSink,
+    maker: TcpMaker<'a, R>,
+) -> OutPass<G>
+    requires { MayBegin room.now.house.config.users room.now.house.secrets.users }
+{
+    desk.tell_begins();
     let (config, tables) = (&room.house.config, &room.house.tables);
+    let notices = notices_of(desk, room, maker.unreached);
     let mut around = Around {
         source,
         sink,
-        maker: TcpMaker {
-            rt,
-            alloc,
-            tables,
-            config,
-            unreached: &unreached,
-            faults: 0,
-        },
-        clock: SystemClock::new(*rt),
-        gate: PassAt::new(rt, &room.gate, &room.turns, &room.house.keeper, pass),
-        notices: notices_of(desk, room, &unreached),
-    };
-    let cause = serve_session(alloc, &mut around, config, tables, s);
-    let Around {
+        maker,
+        clock: SystemClock::new(*desk.rt),
         gate,
-        mut notices,
-        ..
-    } = around;
-    notices.ended(s, cause);
+        notices,
+    };
+    let cause = serve_noted(desk.alloc, &mut around, config, tables, s);
+    let Around { sink, gate, .. } = around;
+    part(cause, sink);
     gate.into_pass()
 }
 

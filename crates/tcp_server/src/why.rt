@@ -59,6 +59,10 @@ pub(crate) fn why_ended(cause: EndCause) -> Option<&'static str> {
         EndCause::ReadFault => Some("its client could not be read"),
         EndCause::WriteFault => Some("its client could not be written to"),
         EndCause::CutOff => Some("it was cut off in a commit, with no backend left"),
+        EndCause::PutOut => Some("it was put out: it was silent for too long, or the pool stops"),
+        EndCause::Broken => {
+            Some("a server ended its connection, or let it in no more, and serves others")
+        }
         EndCause::NoMemory => Some("there was no memory"),
         EndCause::Stopped => Some("it met a defect of the pool"),
     }

@@ -1,5 +1,5 @@
 use Rattle.pool_server.proofs.Entries.{one_more}
-use Rattle.tcp_server.proofs.Calls.{made_leaves}
+use Rattle.pool_server.proofs.Granted.{made_leaves}
 use Rattle.tcp_server.proofs.Noted.{noted_more}
 use Rattle.tcp_server.proofs.pass_at.PassAtGatePass.step.Goals as goal
 
