@@ -8,6 +8,7 @@ import socket
 import struct
 import subprocess
 import tempfile
+import threading
 import time
 
 from postgres import POSTGRES
@@ -117,8 +118,9 @@ class Login:
         if told and told[0] == b"R":
             assert told[1] == struct.pack("!i", 12) + self.expected, f"the pool shows {told[1]}, not {self.expected}"
             told = self.hear()
-            assert told == (b"R", bytes(4)), f"behind the proof comes {told}"
-            return None
+            if told is None or told[0] != b"E":
+                assert told == (b"R", bytes(4)), f"behind the proof comes {told}"
+                return None
         if told is None:
             return "closed"
         return re.search(rb"\0C(.....)\0", b"\0" + told[1])[1].decode() if told[0] == b"E" else f"{told[0]}"
@@ -336,7 +338,8 @@ def refused_at_servers(pool):
     """The code that a statement of the pool's own user gets, who is let in at the pool by no password."""
     login = Login(pool)
     try:
-        assert login.run(OPEN) is None
+        if code := login.run(OPEN):
+            return code
         while (told := login.hear()) and told[0] != b"Z":
             pass
         body = READ.encode() + b"\0"
@@ -376,6 +379,44 @@ def hostile_trial(servers, words, expect):
         for _ in range(50):
             expect(ends(pool) is None, "a right login is refused")
         return f"{count} cuts, {(time.monotonic() - begun) / 50 * 1000:.0f} ms a login"
+    finally:
+        pool.stop()
+
+
+def at_once(pool, password, count):
+    """So many logins at once: how each ends, and behind which time."""
+    told, begun = [], time.monotonic()
+
+    def one():
+        end = ends(pool, password)
+        told.append((end, time.monotonic() - begun))
+
+    threads = [threading.Thread(target=one) for _ in range(count)]
+    for thread in threads:
+        thread.start()
+    for thread in threads:
+        thread.join()
+    return told
+
+
+def tries_trial(servers, words, expect):
+    """Three answers a second are told at one address; right passwords do not count."""
+    let_in_by(servers, "trust")
+    pool = pool_of(servers, words)
+    try:
+        told = at_once(pool, "wrong", 12)
+        expect(all(end == "28P01" for end, _ in told), f"wrong passwords: {told}")
+        times = sorted(moment for _, moment in told)
+        near = [(a, b) for a, b in zip(times, times[3:]) if b - a < 0.9]
+        expect(not near, f"four answers within a second: {times}")
+        lines = [line for line in pool.lines() if "tried too fast" in line]
+        expect(len(lines) == 1, f"it is told {len(lines)} times")
+        time.sleep(1)
+        right = at_once(pool, OPEN, 30)
+        expect(all(end is None for end, _ in right), f"right passwords: {right}")
+        slowest = max(moment for _, moment in right)
+        expect(slowest < 8, f"30 right passwords take {slowest:.1f} s")
+        return f"12 wrong in {times[-1]:.1f} s, 30 right in {slowest:.1f} s"
     finally:
         pool.stop()
 

@@ -2,6 +2,7 @@
 import glob
 import os
 import shutil
+import signal
 import socket
 import subprocess
 import tempfile
@@ -24,6 +25,15 @@ class NotServed(Exception):
     """The pool does not listen."""
 
 
+def is_program(word):
+    """Whether a file is a program and no script."""
+    try:
+        with open(word, "rb") as file:
+            return file.read(4) == b"\x7fELF"
+    except OSError:
+        return False
+
+
 class Pool:
     """The pool before servers. Its lines are those that it wrote on standard error."""
 
@@ -42,14 +52,15 @@ class Pool:
 
     def start(self):
         """Starts the pool. What it told before is gone."""
-        words = [*self.words, "serve", f"{self.folder}/config", f"{self.folder}/schema"]
+        hears = [f"{TOP}/scripts/served"] if is_program(self.words[-1]) else []
+        words = [*hears, *self.words, "serve", f"{self.folder}/config", f"{self.folder}/schema"]
         with open(self.lines_path, "wb") as lines:
             self.child = subprocess.Popen(words, stdin=subprocess.DEVNULL, stdout=lines, stderr=lines)
 
     def again(self, kill=False):
         """Ends the pool, by SIGKILL or by SIGTERM, and starts it again."""
         if kill:
-            self.child.kill()
+            self.kill()
         self.stop()
         self.start()
         self.wait()
@@ -85,10 +96,32 @@ class Pool:
         """A session of the pool."""
         return Client(("127.0.0.1", self.port), DATABASE)
 
-    def stop(self):
-        """Ends the pool."""
-        self.child.terminate()
+    def number(self):
+        """The number of the program's process: that of the child of the script that runs it."""
+        with open(f"/proc/{self.child.pid}/task/{self.child.pid}/children", encoding="ascii") as file:
+            return int((file.read().split() or [self.child.pid])[0])
+
+    def kill(self):
+        """Kills the program."""
+        os.kill(self.number(), signal.SIGKILL)
         self.child.wait()
+
+    def configure(self, line):
+        """Puts a line at the end of the configuration, in place of one of the same name."""
+        name = line.partition(" ")[0]
+        with open(f"{self.folder}/config", encoding="utf-8") as file:
+            lines = [one for one in file.read().splitlines() if one.partition(" ")[0] != name]
+        with open(f"{self.folder}/config", "w", encoding="utf-8") as file:
+            file.write("\n".join([*lines, line]) + "\n")
+
+    def stop(self):
+        """Ends the pool, and at once where it does not end in some seconds."""
+        self.child.terminate()
+        try:
+            self.child.wait(3)
+        except subprocess.TimeoutExpired:
+            self.child.terminate()
+            self.child.wait()
 
 
 class Servers:

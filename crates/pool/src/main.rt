@@ -1,15 +1,22 @@
 //! The pool: `pool play CONFIG SCHEMA SCRIPT` plays a script and writes its transcript;
-//! `pool serve CONFIG SCHEMA` serves TCP clients before PostgreSQL servers; `pool attach CONFIG N`
-//! lets a backend be attached again.
+//! `pool serve CONFIG SCHEMA` serves TCP clients before PostgreSQL servers; `pool check CONFIG
+//! SCHEMA` tells whether these servers are equal; `pool attach CONFIG N` lets a backend be attached
+//! again.
 #![tactic(auto)]
 
 mod advice;
 mod attach;
+mod check;
 mod limits;
+mod reasons;
 mod serving;
+mod standing;
+mod waiting;
+mod words;
 
 use crate::advice::advise;
 use crate::attach::attach_by;
+use crate::check::check_by;
 use crate::limits::seats_of;
 use crate::serving::{place_by, serve, warn};
 use pool_base::{Files, NoMemory, Sink, SystemFiles, WriterSink};
@@ -50,14 +57,6 @@ fn args_of(rt: &HostRuntime) -> Result<Vec<String>, NoMemory> {
     Ok(args)
 }
 
-/// Whether `serve` tells of sessions that begin and end: unless `POOL_LOG_SESSIONS` is `off`.
-fn tells_sessions(rt: &HostRuntime) -> bool {
-    match env::var(rt, "POOL_LOG_SESSIONS") {
-        Ok(value) => value.as_str() != "off",
-        Err(_) => true,
-    }
-}
-
 /// Runs the command of the words, and serves with what the host has. `place` is where the status
 /// file of a command that serves is.
 fn run<R: Host, F: Files, O: Sink>(
@@ -68,10 +67,9 @@ fn run<R: Host, F: Files, O: Sink>(
     place: &str,
     files: &mut F,
     out: &mut O,
-    tells_all: bool,
 ) -> Result<u8, NoMemory> {
     match ask_to_serve(alloc, words, files, out) {
-        Ok(Some(served)) => begin(rt, host, alloc, words, place, served, tells_all),
+        Ok(Some(served)) => begin(rt, host, alloc, words, place, served),
         Ok(None) => run_over_stores(alloc, words, files, out),
         Err(code) => Ok(code),
     }
@@ -85,11 +83,10 @@ fn begin<R: Host>(
     words: &[&str],
     place: &str,
     served: Served,
-    tells_all: bool,
 ) -> Result<u8, NoMemory> {
     warn(rt, words, &served);
     match seats_of(rt, &served.config) {
-        Ok(seats) => Ok(serve(rt, host, alloc, place, served, seats, tells_all)),
+        Ok(seats) => Ok(serve(rt, host, alloc, place, served, seats)),
         Err(NoMemory) => {
             drop(served);
             Err(NoMemory)
@@ -106,17 +103,7 @@ fn run_at<R: Host, F: Files, O: Sink>(
     out: &mut O,
 ) -> Result<u8, NoMemory> {
     let place = place_by(rt, words)?;
-    let tells_all = tells_sessions(rt);
-    run(
-        rt,
-        host,
-        rt.alloc(),
-        words,
-        place.as_str(),
-        files,
-        out,
-        tells_all,
-    )
+    run(rt, host, rt.alloc(), words, place.as_str(), files, out)
 }
 
 /// Runs the command of the words. Standard error has why it ends where it ends before it begins.
@@ -128,6 +115,9 @@ fn run_words<R: Host, F: Files, O: Sink>(
     out: &mut O,
 ) -> Result<u8, NoMemory> {
     if let Some(code) = attach_by(rt, &host, words, files, out)? {
+        return Ok(code);
+    }
+    if let Some(code) = check_by(rt, &host, words, files, out)? {
         return Ok(code);
     }
     let code = run_at(rt, host, words, files, out)?;

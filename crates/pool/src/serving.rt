@@ -1,14 +1,20 @@
 //! The command `serve`, from what was read to its status.
+ghost use Rattle.schema.specs.Grammar.{IsWithin};
 
+use crate::check::DIFFERENT;
+use crate::standing::attached_at;
+use crate::words::hear_words;
 use pool_base::{BackendId, BackendSet, NoMemory};
 use pool_command::{Command, read_words};
 use pool_config::Config;
 use pool_run::{Served, Status};
+use schema::Catalogue;
 use serve_base::{Keeper, OpenFault, place_of, tell};
 use std::alloc::Global;
 use std::fs;
 use std::os::unix::fs::PermissionsExt;
-use tcp_server::{Host, ServeEnd};
+use std::sync::Arc;
+use tcp_server::{Control, Host, ServeEnd};
 
 /// The bits of a file that its group and others may read.
 const READ_BY_OTHERS: u32 = 0o044;
@@ -66,7 +72,6 @@ pub(crate) fn serve<R: Host>(
     place: &str,
     served: Served,
     seats: u32,
-    tells_all: bool,
 ) -> u8 {
     let Served { config, tables } = served;
     let mut config = config;
@@ -80,9 +85,63 @@ pub(crate) fn serve<R: Host>(
         }
     };
     tell_detached(&rt, alloc, &config, &keeper);
-    let mut faults = 0;
-    match tcp_server::serve(rt, alloc, &mut faults, config, tables, keeper, tells_all) {
-        ServeEnd::Closed => Status::Done.code(),
+    let control = match hear_words(system, rt, &config) {
+        Ok(control) => control,
+        Err(NoMemory) => {
+            drop(config);
+            drop(tables);
+            drop(keeper);
+            return Status::NoMemory.code();
+        }
+    };
+    match attached_at(system, &rt, &config, &tables, &keeper) {
+        Ok(Some(attached)) => serve_at(rt, alloc, config, tables, keeper, attached, control),
+        Ok(None) => end(config, tables, keeper, control, DIFFERENT),
+        Err(NoMemory) => end(config, tables, keeper, control, Status::NoMemory.code()),
+    }
+}
+
+/// Nothing is served. Answers the status.
+fn end(
+    config: Config,
+    tables: Catalogue,
+    keeper: Keeper,
+    control: Arc<Control, Global>,
+    code: u8,
+) -> u8 {
+    drop(config);
+    drop(tables);
+    drop(keeper);
+    drop(control);
+    code
+}
+
+/// Serves TCP clients before these backends, and answers the status.
+fn serve_at<R: Host>(
+    rt: R,
+    alloc: Global,
+    config: Config,
+    tables: Catalogue,
+    keeper: Keeper,
+    attached: BackendSet,
+    control: Arc<Control, Global>,
+) -> u8
+    requires within { IsWithin tables }
+{
+    let (mut faults, mut stops) = (0, 0);
+    let end = tcp_server::serve(
+        rt,
+        alloc,
+        &mut faults,
+        &mut stops,
+        config,
+        tables,
+        keeper,
+        attached,
+        control,
+    );
+    match end {
+        ServeEnd::Closed | ServeEnd::Stopped => Status::Done.code(),
         ServeEnd::NoMemory => Status::NoMemory.code(),
         ServeEnd::ListenFault => LISTEN_FAULT,
     }
