@@ -318,10 +318,11 @@ DRIVERS = {
 }
 
 
-def by_driver(pool, name, expect):
+def by_driver(servers, pool, name, expect):
     """A driver with a right password and a wrong one. None: it is not there."""
     is_there, words, wanted = DRIVERS[name]
-    environment = {**os.environ, "NODE_PATH": "/usr/share/nodejs"}
+    # (where the trial of node-pg has unpacked it)
+    environment = {**os.environ, "NODE_PATH": f"/usr/share/nodejs:{servers.folder}/node/usr/share/nodejs"}
     given = {"env": environment, "cwd": "/", "stdin": subprocess.DEVNULL, "capture_output": True, "timeout": 60, "check": False}
     try:
         if subprocess.run(is_there, **given).returncode:
@@ -356,7 +357,7 @@ def clients_trial(servers, words, expect):
     pool = pool_of(servers, words, backend_password=KEPT)
     try:
         by_psql(pool, expect)
-        seen = [name for name in DRIVERS if by_driver(pool, name, expect)]
+        seen = [name for name in DRIVERS if by_driver(servers, pool, name, expect)]
         lines = [line for line in pool.lines() if "its password is wrong" in line]
         expect(len(lines) >= 3, f"the pool says {pool.lines()}")
         lines = [line for line in pool.lines() if "others than its owner" in line]

@@ -52,7 +52,8 @@ class Pool:
 
     def start(self):
         """Starts the pool. What it told before is gone."""
-        hears = [f"{TOP}/scripts/served"] if is_program(self.words[-1]) else []
+        # (a shell that was started with a signal ignored never hears it, and this may be a job in the background)
+        hears = ["env", "--default-signal=INT,HUP,TERM", f"{TOP}/scripts/served"] if is_program(self.words[-1]) else []
         words = [*hears, *self.words, "serve", f"{self.folder}/config", f"{self.folder}/schema"]
         with open(self.lines_path, "wb") as lines:
             self.child = subprocess.Popen(words, stdin=subprocess.DEVNULL, stdout=lines, stderr=lines)
