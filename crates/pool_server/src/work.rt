@@ -64,6 +64,8 @@ pub(crate) struct Work<L: Link> {
     tries: u32,
     /// How many turns of the wire have passed since the last post.
     turns: u32,
+    /// The backend that was asked last is waited for no longer: it hangs, or is attached no more.
+    gave_up: bool,
 }
 
 /// Whether a request may wait for another session.
@@ -101,6 +103,7 @@ impl<L: Link> Work<L> {
             limit: seconds.saturating_mul(HALF_A_SECOND).max(1),
             tries: 0,
             turns: 0,
+            gave_up: false,
         })
     }
 
@@ -333,6 +336,7 @@ impl<L: Link> Work<L> {
             Sent::Accepted => {
                 self.tries = 0;
                 self.turns = 0;
+                self.gave_up = false;
                 self.core.posted();
                 Step::Goes
             }
@@ -431,9 +435,17 @@ impl<L: Link> Work<L> {
             (machine_in self.new.core) }
     {
         match severed(&self.core, b) {
-            Some(answer) => self.part_with(b, loss, answer, maker.lives(b)),
+            Some(answer) => {
+                let lives = self.is_vouched(b, maker);
+                self.part_with(b, loss, answer, lives)
+            }
             None => self.lose(b, loss),
         }
+    }
+
+    /// Whether a link that is lost has broken by itself, and its server serves others.
+    fn is_vouched<M: LinkMaker<L = L>>(&self, b: BackendId, maker: &M) -> bool {
+        !self.gave_up && maker.lives(b)
     }
 
     /// The link to a backend is lost, where nothing has to be completed there.
@@ -512,6 +524,7 @@ impl<L: Link> Work<L> {
     {
         self.tries = self.tries.saturating_add(1);
         if self.hangs(b, maker) {
+            self.gave_up = true;
             return self.links.give_up(b);
         }
         self.peek(b, gate);
@@ -527,6 +540,7 @@ impl<L: Link> Work<L> {
     {
         let answer = gate.step(GateCall::Look);
         if is_away(b, answer) {
+            self.gave_up = true;
             self.links.give_up(b);
         }
     }

@@ -157,7 +157,18 @@ impl Witness {
         }
     }
 
-    /// Whether it answers a question that comes long enough behind that moment.
+    /// Whether it answers now. One that does not is gone.
+    fn stands<R: Clock>(&mut self, rt: &R) -> bool {
+        self.asked = Instant::now(rt).ok();
+        let there = self.is_there();
+        if !there {
+            drop(mem::replace(&mut self.inquiry, None));
+        }
+        there
+    }
+
+    /// Whether it answers now, and a question that comes long enough behind that moment: a server
+    /// that is gone is found so at once.
     fn vouches<R: Wait + Clock>(&mut self, rt: &R, noticed: Instant) -> bool {
         let Some(due) = noticed.checked_add(Duration::from_millis(NOTICE)) else {
             return false;
@@ -168,15 +179,13 @@ impl Witness {
         if self.was_asked(due) {
             return true;
         }
+        if !self.stands(rt) {
+            return false;
+        }
         if let Ok(now) = Instant::now(rt) {
             thread::sleep(rt, due.saturating_duration_since(now));
         }
-        self.asked = Instant::now(rt).ok();
-        let there = self.is_there();
-        if !there {
-            drop(mem::replace(&mut self.inquiry, None));
-        }
-        there
+        self.stands(rt)
     }
 }
 
