@@ -45,16 +45,21 @@ def line_of(pool, what, expect):
     return lines[-1].split(" pool: ")[1]
 
 
+def turned_away(pool, number, code, expect, **client):
+    """Three such clients are told the code of that server, a line says so, and no server is detached. Gives the line."""
+    told = [told_at(pool, **client) for _ in range(3)]
+    expect(told == [code] * 3, f"the clients are told {told}")
+    line = line_of(pool, "turns it away", expect)
+    expect(f"backend {number} " in line and code in line, line)
+    all_served(pool, expect)
+    return line
+
+
 def database_of_one(servers, pool, expect):
     """A database that one server alone has."""
     servers.at(servers.all[1], "DROP DATABASE IF EXISTS alone", "postgres")
     servers.at(servers.all[1], "CREATE DATABASE alone", "postgres")
-    told = [told_at(pool, database="alone") for _ in range(3)]
-    expect(told == ["3D000"] * 3, f"the clients are told {told}")
-    line = line_of(pool, "turns it away", expect)
-    expect("backend 0 " in line and "3D000" in line, line)
-    all_served(pool, expect)
-    return line
+    return turned_away(pool, 0, "3D000", expect, database="alone")
 
 
 def role_of_two(servers, pool, expect):
@@ -64,12 +69,7 @@ def role_of_two(servers, pool, expect):
         if number != 2:
             servers.at(server, "CREATE ROLE half LOGIN")
             servers.at(server, "GRANT ALL ON accounts TO half")
-    told = [told_at(pool, user="half") for _ in range(3)]
-    expect(told == ["28000"] * 3, f"the clients are told {told}")
-    line = line_of(pool, "turns it away", expect)
-    expect("backend 2 " in line and "28000" in line, line)
-    all_served(pool, expect)
-    return line
+    return turned_away(pool, 2, "28000", expect, user="half")
 
 
 def limit_of_one(servers, pool, expect):
