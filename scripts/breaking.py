@@ -143,8 +143,7 @@ def ends_victims(servers, pool, expect):
 def ended_under_writers(servers, words, expect):
     """pg_terminate_backend of one session after another, under writers: the session ends, and no server is detached. The pool has
     PGDATABASE, and so a connection of its own."""
-    named = ["env", "PGUSER=pool", f"PGDATABASE={DATABASE}", *words]
-    pool = servers.pool(named, folder=tempfile.mkdtemp(dir=servers.folder))
+    pool = servers.pool_of_its_own(words)
     over, counts = threading.Event(), {}
     writers = [threading.Thread(target=write_on, args=(pool, number, over, counts)) for number in range(WRITERS)]
     try:

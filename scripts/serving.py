@@ -208,6 +208,11 @@ class Servers:
             raise
         return pool
 
+    def pool_of_its_own(self, words):
+        """A pool beside others that has PGDATABASE, and so a connection of its own to each server."""
+        named = ["env", "PGUSER=pool", f"PGDATABASE={DATABASE}", *words]
+        return self.pool(named, folder=tempfile.mkdtemp(dir=self.folder))
+
 
 def words_of(pool, program="psql"):
     """The words that start a program of PostgreSQL as a client of the pool."""
