@@ -19,6 +19,8 @@ SALT_AT = re.compile(rb"^r=([^,]+),s=([^,]+),i=(\d+)$")
 WAY = b"SCRAM-SHA-256\0"
 ASKED = bytes.fromhex("52000000170000000a534352414d2d5348412d3235360000")
 READ = "SELECT v FROM accounts WHERE id = 1"
+LOGINS = 50  # so many are made to see what one takes
+MOST = 20  # milliseconds
 
 
 def verifier(password, rounds=4096):
@@ -335,15 +337,15 @@ def by_driver(servers, pool, name, expect):
     return name
 
 
-def refused_at_servers(pool):
-    """The code that a statement of the pool's own user gets, who is let in at the pool by no password."""
+def refused_at_servers(pool, text=READ):
+    """The code that a statement of the pool's own user gets, who is let in at the pool by its password."""
     login = Login(pool)
     try:
         if code := login.run(OPEN):
             return code
         while (told := login.hear()) and told[0] != b"Z":
             pass
-        body = READ.encode() + b"\0"
+        body = text.encode() + b"\0"
         login.socket.sendall(b"Q" + struct.pack("!i", len(body) + 4) + body)
         told = login.hear()
         return re.search(rb"\0C(.....)\0", b"\0" + told[1])[1].decode() if told and told[0] == b"E" else None
@@ -367,6 +369,38 @@ def clients_trial(servers, words, expect):
         pool.stop()
 
 
+def ticks_of(number):
+    """How much processor a process has taken, in hundredths of a second."""
+    with open(f"/proc/{number}/stat", encoding="latin-1") as file:
+        parts = file.read().rpartition(")")[2].split()
+    return int(parts[11]) + int(parts[12])
+
+
+def cost_of(pool, count, expect):
+    """How many milliseconds of processor the pool takes for a client's login: for its own at the servers too, where they ask."""
+    ticks = ticks_of(pool.number())
+    for _ in range(count):
+        expect(ends(pool) is None, "a right login is refused")
+    return (ticks_of(pool.number()) - ticks) * 10 / count
+
+
+def cost_trial(servers, words, expect):
+    """A login of 4,096 rounds takes the pool less than 20 milliseconds of processor: that of a client, and its own at each server."""
+    costs = {}
+    for way in ("trust", "scram-sha-256"):
+        let_in_by(servers, way)
+        pool = pool_of(servers, words, backend_password=KEPT)
+        try:
+            cost_of(pool, 5, expect)
+            costs[way] = cost_of(pool, LOGINS, expect)
+        finally:
+            pool.stop()
+    let_in_by(servers, "trust")
+    own = (costs["scram-sha-256"] - costs["trust"]) / len(servers.all)
+    expect(costs["trust"] < MOST and own < MOST, f"a client's login takes {costs['trust']:.1f} ms, and one at a server {own:.1f} ms")
+    return f"a client's {costs['trust']:.1f} ms of processor, one at a server {own:.1f} ms"
+
+
 def hostile_trial(servers, words, expect):
     """Logins that are cut and bent."""
     let_in_by(servers, "scram-sha-256")
@@ -376,10 +410,7 @@ def hostile_trial(servers, words, expect):
         strangers(pool, expect)
         count = cut(pool, expect)
         expect(ends(pool) is None, "behind them a right login is refused")
-        begun = time.monotonic()
-        for _ in range(50):
-            expect(ends(pool) is None, "a right login is refused")
-        return f"{count} cuts, {(time.monotonic() - begun) / 50 * 1000:.0f} ms a login"
+        return f"{count} cuts"
     finally:
         pool.stop()
 

@@ -1,4 +1,4 @@
-"""Three PostgreSQL servers with one schema, and the pool before them, in a folder that goes again."""
+"""PostgreSQL servers with one schema, and the pool before them, in a folder that goes again."""
 import glob
 import os
 import shutil
@@ -126,17 +126,19 @@ class Pool:
 
 
 class Servers:
-    """Three servers whose tables are those of the schema."""
+    """Servers whose tables are those of the schema, three where nothing else is said, with settings beside those of all."""
 
-    def __init__(self):
+    def __init__(self, count=3, **settings):
+        self.count, self.settings = count, settings
         self.folder = tempfile.mkdtemp(prefix="pool-servers-", dir="/tmp")
         os.chmod(self.folder, 0o755)
         self.all = []
 
     def __enter__(self):
         try:
-            for number in range(3):
-                server = Server(f"{self.folder}/{number}", free_port(), max_connections=SEATS + 16)
+            for number in range(self.count):
+                settings = {"max_connections": SEATS + 16, **self.settings}
+                server = Server(f"{self.folder}/{number}", free_port(), **settings)
                 self.all.append(server)
                 server.make()
                 server.start()
@@ -198,9 +200,10 @@ class Servers:
         server = next(server for server in self.all if server.is_running())
         return int(self.at(server, "SELECT sum(v) FROM accounts").rows[0][0])
 
-    def pool(self, words, folder=None, **given):
-        """The pool before the servers, as soon as it listens. Pools that run at once have a folder each."""
-        pool = Pool(folder or self.folder, words, self.ports(), **given)
+    def pool(self, words, folder=None, ports=None, **given):
+        """The pool before the servers, as soon as it listens: at their ports, or at those of what stands before them. Pools that run
+        at once have a folder each."""
+        pool = Pool(folder or self.folder, words, ports or self.ports(), **given)
         try:
             pool.wait()
         except BaseException:
