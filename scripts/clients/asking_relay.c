@@ -23,27 +23,14 @@ struct outbox {
   char bytes[ROOM];
 };
 
-struct session {
-  struct wire client, links[MOST];
-  struct answer answer;
+/* a session, and what it has at its links */
+struct asking {
+  struct session session;
   struct outbox out[MOST];
   struct statement statements[STATEMENTS];
   const char *values[VALUES];
-  int lengths[VALUES], value_count, statement_count;
-  int is_block, is_live, is_owed, has_written, has_failed;
+  int lengths[VALUES], value_count, statement_count, is_owed;
 };
-
-static void begin(void *given, int client) {
-  struct session *self = given;
-  self->client.socket = client;
-  for (int at = 0; at < servers; at++) self->links[at].socket = -1;
-}
-
-static void let_go(void *given) {
-  struct session *self = given;
-  for (int at = 0; at < servers; at++) close(self->links[at].socket);
-  close(self->client.socket), free(self);
-}
 
 /* a message behind what a link is to be sent */
 static void say(struct outbox *out, char type, const char *body, size_t size) {
@@ -66,7 +53,7 @@ static void prepare(struct outbox *out, const char *name, const char *text) {
   say(out, 'P', body, size + 2);
 }
 
-static void bind_values(struct session *self, struct outbox *out, const char *name, int count) {
+static void bind_values(struct asking *self, struct outbox *out, const char *name, int count) {
   char body[2 * TEXT] = {0};
   size_t size = 1 + sprintf(body + 1, "%s", name) + 1 + 2;
   body[size + 1] = count, size += 2;
@@ -79,18 +66,18 @@ static void bind_values(struct session *self, struct outbox *out, const char *na
 }
 
 /* binds one of the fixed texts, which have no values */
-static void bind_fixed(struct session *self, int at, int which) {
+static void bind_fixed(struct asking *self, int at, int which) {
   char name[2] = {'a' + which, 0};
   bind_values(self, &self->out[at], name, 0);
 }
 
-static void push(struct session *self, int at) {
-  if (self->out[at].size) put(self->links[at].socket, self->out[at].bytes, self->out[at].size);
+static void push(struct asking *self, int at) {
+  if (self->out[at].size) put(self->session.links[at].socket, self->out[at].bytes, self->out[at].size);
   self->out[at].size = 0;
 }
 
 /* the statement of a text, with $n in place of its numbers, which are its values */
-static struct statement *statement_of(struct session *self, const char *text) {
+static struct statement *statement_of(struct asking *self, const char *text) {
   char found[TEXT];
   size_t size = 0;
   self->value_count = 0;
@@ -114,7 +101,7 @@ static struct statement *statement_of(struct session *self, const char *text) {
 }
 
 /* a statement at a server, behind what it is to be sent, up to its end */
-static void ask(struct session *self, int at, struct statement *statement) {
+static void ask(struct asking *self, int at, struct statement *statement) {
   char name[8], described[9] = "S";
   sprintf(name, "s%d", (int)(statement - self->statements));
   if (!(statement->known >> at & 1)) {
@@ -128,41 +115,42 @@ static void ask(struct session *self, int at, struct statement *statement) {
 }
 
 /* whether the answer that is awaited next is no error, up to its ReadyForQuery. What it says is kept where a statement is given. */
-static int hear(struct session *self, int at, struct statement *kept) {
+static int hear(struct asking *self, int at, struct statement *kept) {
   for (int is_good = 1;;) {
     size_t size;
-    char *found = message(&self->links[at], 1, &size);
+    char *found = message(&self->session.links[at], 1, &size);
     switch (found[0]) {
     case 'Z': return self->out[at].awaited--, is_good;
-    case 'E': is_good = 0; if (kept) keep(&self->answer, found, size); break;
+    case 'E': is_good = 0; if (kept) keep(&self->session.answer, found, size); break;
     case 'T': if (kept && size <= sizeof kept->columns) memcpy(kept->columns, found, kept->size = size); break;
-    case '2': if (kept && kept->size) keep(&self->answer, kept->columns, kept->size); break;
-    case 'C': case 'D': case 'I': if (kept) keep(&self->answer, found, size);
+    case '2': if (kept && kept->size) keep(&self->session.answer, kept->columns, kept->size); break;
+    case 'C': case 'D': case 'I': if (kept) keep(&self->session.answer, found, size);
     }
   }
 }
 
 /* waits until the snapshot of a group is told, in front of the statement behind it */
-static void hear_snapshot(struct session *self, int at) {
+static void hear_snapshot(struct asking *self, int at) {
   for (int bound = 0; bound < 2;) {
     size_t size;
-    char *found = message(&self->links[at], 1, &size);
+    char *found = message(&self->session.links[at], 1, &size);
     must(found[0] != 'E');
     bound += found[0] == '2';
   }
 }
 
 /* the snapshot at a server, behind the end that it is still to be told of; the statement, where one is given, is in the same group */
-static void snapshot(struct session *self, int at, struct statement *first) {
+static void snapshot(struct asking *self, int at, struct statement *first) {
   bind_fixed(self, at, self->is_owed ? CHAINS : BEGINS), execute(&self->out[at]), bind_fixed(self, at, LOOKS);
   if (!first) synchronize(&self->out[at]);
   else say(&self->out[at], 'H', "", 0), ask(self, at, first);
   push(self, at);
 }
 
-static void finish(struct session *self, int is_commit) {
-  if (!self->is_live) return;
-  self->is_owed = is_commit && !self->has_written;
+static void finish(struct session *session, int is_commit) {
+  struct asking *self = (struct asking *)session;
+  if (!self->session.is_live) return;
+  self->is_owed = is_commit && !self->session.has_written;
   if (!self->is_owed) {
     if (is_commit) enter(1);
     for (int at = 0; at < servers; at++) {
@@ -172,14 +160,15 @@ static void finish(struct session *self, int is_commit) {
     for (int at = 0; at < servers; at++) while (self->out[at].awaited) hear(self, at, NULL);
     if (is_commit) leave(1);
   }
-  self->is_live = self->has_written = 0;
+  self->session.is_live = self->session.has_written = 0;
 }
 
 /* a statement that reads at the first server, or writes at all of them */
-static void run(struct session *self, const char *text) {
+static void run(struct session *session, const char *text) {
+  struct asking *self = (struct asking *)session;
   struct statement *statement = statement_of(self, text);
   int is_read = text[0] == 'S';
-  if (self->is_live) ask(self, 0, statement), push(self, 0);
+  if (self->session.is_live) ask(self, 0, statement), push(self, 0);
   else {
     enter(0);
     for (int at = 0; at < servers; at++) snapshot(self, at, at ? NULL : statement);
@@ -189,62 +178,30 @@ static void run(struct session *self, const char *text) {
     self->is_owed = 0;
   }
   int is_good = hear(self, 0, statement);
-  self->is_live = 1, self->has_written |= !is_read;
+  self->session.is_live = 1, self->session.has_written |= !is_read;
   if (!is_read && is_good) {
     for (int at = 1; at < servers; at++) ask(self, at, statement), push(self, at);
-    size_t said = self->answer.size;
     for (int at = 1; at < servers; at++) is_good &= hear(self, at, NULL);
-    self->answer.size = said;
   }
-  self->has_failed = !is_good;
-  if (self->has_failed || !self->is_block) finish(self, !self->has_failed);
-  self->has_failed = self->has_failed && self->is_block;
-}
-
-static void query(struct session *self, const char *text) {
-  int is_commit = text[0] == 'C' && !self->has_failed, is_end = is_commit || text[0] == 'C' || text[0] == 'R';
-  self->answer.size = 0;
-  if (text[0] == 'B') keep(&self->answer, "C\0\0\0\12BEGIN", 11);
-  else if (!is_end) run(self, text);
-  else {
-    finish(self, is_commit);
-    keep(&self->answer, is_commit ? "C\0\0\0\13COMMIT" : "C\0\0\0\15ROLLBACK", is_commit ? 12 : 14);
-  }
-  if (is_end || text[0] == 'B') self->is_block = !is_end, self->has_failed = 0;
-  keep(&self->answer, self->has_failed ? "Z\0\0\0\5E" : self->is_block ? "Z\0\0\0\5T" : "Z\0\0\0\5I", 6);
-  put(self->client.socket, self->answer.bytes, self->answer.size);
+  settle(session, is_good);
 }
 
 /* a link, let in, that knows the fixed texts; what the first server says of its settings is kept for the client */
-static void join(struct session *self, int at, const char *start, size_t size) {
-  self->links[at].socket = joined(&places[1 + at]);
-  put(self->links[at].socket, start, size);
+static void join(struct session *session, int at, const char *start, size_t size) {
+  struct asking *self = (struct asking *)session;
+  put(self->session.links[at].socket, start, size);
   for (char type = 0; type != 'Z';) {
     size_t length;
-    char *found = message(&self->links[at], 1, &length);
+    char *found = message(&self->session.links[at], 1, &length);
     type = found[0];
     must(type != 'E');
-    if (at == 0 && type != 'Z') keep(&self->answer, found, length);
+    if (at == 0 && type != 'Z') keep(&self->session.answer, found, length);
   }
   for (int which = 0; which < FIXED; which++) prepare(&self->out[at], (char[]){'a' + which, 0}, fixed[which]);
   synchronize(&self->out[at]), push(self, at), must(hear(self, at, NULL));
 }
 
-static void *serve(void *given) {
-  struct session *self = given;
-  size_t size;
-  pthread_cleanup_push(let_go, self);
-  char *start = message(&self->client, 0, &size);
-  for (; size == 8; start = message(&self->client, 0, &size)) put(self->client.socket, "N", 1); /* there is no encryption */
-  for (int at = 0; at < servers; at++) join(self, at, start, size);
-  keep(&self->answer, "Z\0\0\0\5I", 6);
-  put(self->client.socket, self->answer.bytes, self->answer.size);
-  for (char *next; (next = message(&self->client, 1, &size))[0] == 'Q';) query(self, next + 5);
-  pthread_cleanup_pop(1);
-  return NULL;
-}
-
 int main(int count, char **words) {
   is_gated = 1;
-  return take(count - 1, words + 1, serve, sizeof(struct session), begin);
+  return take(count - 1, words + 1, sizeof(struct asking));
 }

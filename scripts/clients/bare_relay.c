@@ -4,25 +4,6 @@
    another. */
 #include "relay.h"
 
-/* a client, its links, and where its transaction stands */
-struct session {
-  struct wire client, links[MOST];
-  struct answer answer;
-  int is_block, is_live, has_written, has_failed;
-};
-
-static void begin(void *given, int client) {
-  struct session *self = given;
-  self->client.socket = client;
-  for (int at = 0; at < servers; at++) self->links[at].socket = -1;
-}
-
-static void let_go(void *given) {
-  struct session *self = given;
-  for (int at = 0; at < servers; at++) close(self->links[at].socket);
-  close(self->client.socket), free(self);
-}
-
 /* whether what comes up to ReadyForQuery is no error; it is kept, without that, if it is to be */
 static int hear(struct session *self, struct wire *link, int is_kept) {
   for (int is_good = 1;;) {
@@ -64,45 +45,16 @@ static void run(struct session *self, const char *text) {
     leave(0);
   }
   self->is_live = 1, self->has_written |= text[0] != 'S';
-  self->has_failed = !all(self, text[0] == 'S' ? 1 : servers, text, 1);
-  if (self->has_failed || !self->is_block) finish(self, !self->has_failed);
-  self->has_failed = self->has_failed && self->is_block;
+  settle(self, all(self, text[0] == 'S' ? 1 : servers, text, 1));
 }
 
-static void query(struct session *self, const char *text) {
-  int is_commit = text[0] == 'C' && !self->has_failed, is_end = is_commit || text[0] == 'C' || text[0] == 'R';
-  self->answer.size = 0;
-  if (text[0] == 'B') keep(&self->answer, "C\0\0\0\12BEGIN", 11);
-  else if (!is_end) run(self, text);
-  else {
-    finish(self, is_commit);
-    keep(&self->answer, is_commit ? "C\0\0\0\13COMMIT" : "C\0\0\0\15ROLLBACK", is_commit ? 12 : 14);
-  }
-  if (is_end || text[0] == 'B') self->is_block = !is_end, self->has_failed = 0;
-  keep(&self->answer, self->has_failed ? "Z\0\0\0\5E" : self->is_block ? "Z\0\0\0\5T" : "Z\0\0\0\5I", 6);
-  put(self->client.socket, self->answer.bytes, self->answer.size);
-}
-
-static void *serve(void *given) {
-  struct session *self = given;
-  size_t size;
-  pthread_cleanup_push(let_go, self);
-  char *start = message(&self->client, 0, &size);
-  for (; size == 8; start = message(&self->client, 0, &size)) put(self->client.socket, "N", 1); /* there is no encryption */
-  for (int at = 0; at < servers; at++) {
-    self->links[at].socket = joined(&places[1 + at]);
-    put(self->links[at].socket, start, size);
-    must(hear(self, &self->links[at], at == 0));
-  }
-  keep(&self->answer, "Z\0\0\0\5I", 6);
-  put(self->client.socket, self->answer.bytes, self->answer.size);
-  for (char *next; (next = message(&self->client, 1, &size))[0] == 'Q';) query(self, next + 5);
-  pthread_cleanup_pop(1);
-  return NULL;
+static void join(struct session *self, int at, const char *start, size_t size) {
+  put(self->links[at].socket, start, size);
+  must(hear(self, &self->links[at], at == 0));
 }
 
 int main(int count, char **words) {
   if (count < 4) return 1;
   is_gated = strcmp(words[1], "gate") == 0;
-  return take(count - 2, words + 2, serve, sizeof(struct session), begin);
+  return take(count - 2, words + 2, sizeof(struct session));
 }

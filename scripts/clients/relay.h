@@ -1,4 +1,4 @@
-/* What the relays share: sockets, messages of the protocol, the pool's rule of the gate. */
+/* What the relays share: sockets, messages of the protocol, the pool's rule of the gate, and a client's blocks. */
 #include <netinet/in.h>
 #include <netinet/tcp.h>
 #include <pthread.h>
@@ -95,8 +95,64 @@ static int joined(const struct sockaddr_in *place) {
   return made;
 }
 
-/* takes clients at the first port, each in a thread with so many bytes of its own, the client's wire first; the rest are the servers' ports */
-static int take(int count, char **ports, void *(*serve)(void *), size_t room, void (*begin)(void *, int)) {
+/* a client, its links, and where its transaction stands */
+struct session {
+  struct wire client, links[MOST];
+  struct answer answer;
+  int is_block, is_live, has_written, has_failed;
+};
+
+/* What each relay does in its own way: a link is let in, and what the first server says of its settings is kept for the client; a statement
+   runs at one server, if it reads, or at all; a transaction that is under way ends. */
+static void join(struct session *self, int at, const char *start, size_t size);
+static void run(struct session *self, const char *text);
+static void finish(struct session *self, int is_commit);
+
+static void let_go(void *given) {
+  struct session *self = given;
+  for (int at = 0; at < servers; at++) close(self->links[at].socket);
+  close(self->client.socket), free(self);
+}
+
+static void query(struct session *self, const char *text) {
+  int is_commit = text[0] == 'C' && !self->has_failed, is_end = is_commit || text[0] == 'C' || text[0] == 'R';
+  self->answer.size = 0;
+  if (text[0] == 'B') keep(&self->answer, "C\0\0\0\12BEGIN", 11);
+  else if (!is_end) run(self, text);
+  else {
+    finish(self, is_commit);
+    keep(&self->answer, is_commit ? "C\0\0\0\13COMMIT" : "C\0\0\0\15ROLLBACK", is_commit ? 12 : 14);
+  }
+  if (is_end || text[0] == 'B') self->is_block = !is_end, self->has_failed = 0;
+  keep(&self->answer, self->has_failed ? "Z\0\0\0\5E" : self->is_block ? "Z\0\0\0\5T" : "Z\0\0\0\5I", 6);
+  put(self->client.socket, self->answer.bytes, self->answer.size);
+}
+
+/* a single statement's transaction ends with it, and so does one that has failed */
+static void settle(struct session *self, int is_good) {
+  if (!is_good || !self->is_block) finish(self, is_good);
+  self->has_failed = !is_good && self->is_block;
+}
+
+static void *serve(void *given) {
+  struct session *self = given;
+  size_t size;
+  pthread_cleanup_push(let_go, self);
+  char *start = message(&self->client, 0, &size);
+  for (; size == 8; start = message(&self->client, 0, &size)) put(self->client.socket, "N", 1); /* there is no encryption */
+  for (int at = 0; at < servers; at++) {
+    self->links[at].socket = joined(&places[1 + at]);
+    join(self, at, start, size);
+  }
+  keep(&self->answer, "Z\0\0\0\5I", 6);
+  put(self->client.socket, self->answer.bytes, self->answer.size);
+  for (char *next; (next = message(&self->client, 1, &size))[0] == 'Q';) query(self, next + 5);
+  pthread_cleanup_pop(1);
+  return NULL;
+}
+
+/* takes clients at the first port, each in a thread with so many bytes of its own, a session in front; the other ports are the servers' */
+static int take(int count, char **ports, size_t room) {
   servers = count - 1;
   if (servers < 1 || servers > MOST) return 1;
   for (int at = 0; at <= servers; at++) {
@@ -107,9 +163,10 @@ static int take(int count, char **ports, void *(*serve)(void *), size_t room, vo
   setsockopt(door, IPPROTO_TCP, TCP_NODELAY, &(int){1}, sizeof(int));
   if (bind(door, (struct sockaddr *)places, sizeof *places) || listen(door, 128)) return 1;
   for (;;) {
-    void *self = calloc(1, room);
+    struct session *self = calloc(1, room);
     pthread_t thread;
-    begin(self, accept(door, NULL, NULL));
+    for (int at = 0; at < servers; at++) self->links[at].socket = -1;
+    self->client.socket = accept(door, NULL, NULL);
     if (pthread_create(&thread, NULL, serve, self)) return 1;
     pthread_detach(thread);
   }
