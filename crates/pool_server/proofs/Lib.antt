@@ -3,10 +3,10 @@ pub mod Begun
 pub mod Counts
 pub mod SeatLaws
 pub mod Going
-pub mod Linking
 pub mod Working
 pub mod Talking
 pub mod Stepping
+mod Recovering
 pub mod Entries
 pub mod Telling
 mod MachineLaws

@@ -27,15 +27,15 @@ use Rattle.session_wire.specs.declared.wire.WireStep.{WireStep}
 use Rattle.session_wire.specs.declared.wire.WireStep.TheVariants as wires
 use Rattle.session_wire.specs.Shown.{View, with_end, with_piece, with_written}
 use Rattle.session_wire.specs.Steps.{IsNext}
-use Rattle.pool_server.specs.declared.end.EndCause.{EndCause}
-use Rattle.pool_server.specs.declared.end.EndCause.TheVariants as causes
+use Rattle.served_recovery.specs.declared.end.EndCause.{EndCause}
+use Rattle.served_recovery.specs.declared.end.EndCause.TheVariants as causes
 use Rattle.pool_server.specs.declared.parting.Step.{Step}
 use Rattle.pool_server.specs.declared.parting.Step.TheVariants as steps
 use Rattle.pool_server.specs.Deeds.{Deed, Reads, ReadsEnd, Turns, Writes, Does, Loses, Miss, Plainly, Behind, Farewell, Unfed, Unturned, Untaken, Untold}
 use Rattle.pool_server.specs.Farewells.{farewell}
-use Rattle.pool_server.specs.Places.{Setting, Place, waits_freely, AsServed, CausesMiss, Moves, Takes, Tells, TellsOf, Turned, at_moment, leaves_by, led, tells_leave}
+use Rattle.pool_server.specs.Places.{Setting, Place, waits_freely, AsServed, CausesMiss, Moves, Takes, Tells, TellsOf, Turned, at_moment, leaves_by, led, tells_leave, NoRecovery}
 use Rattle.pool_server.specs.Sights.{Seen, Shows, Went, with_given, with_reads, with_taken}
-use Rattle.pool_server.specs.Servings.{EndsIn, IsFed, IsGiven, IsHad, IsOrdered, IsPutOut, closed_by, leaves_with, lost_with, passing_by, talked, talking}
+use Rattle.pool_server.specs.Servings.{EndsIn, IsFed, IsGiven, IsHad, IsOrdered, IsPutOut, closed_by, leaves_with, lost_with, passing_by, talked, talking, course_with}
 use Rattle.pool_server.proofs.Going.{gives_nothing, went_none, went_on, went_one, went_same}
 
 or_false : (b : Bool) → (b || false) ≡ b
@@ -69,6 +69,35 @@ passing_leaves (orders.Recover number) leaving = refl
 passing_leaves (orders.Refuse code name) leaving = refl
 passing_leaves orders.Leave leaving = refl
 
+passing_alone : (body : OrderBody) → course_with (passing_by body) ≡ NoRecovery
+passing_alone (orders.Statement checked) = refl
+passing_alone orders.Begin = refl
+passing_alone orders.Commit = refl
+passing_alone orders.Rollback = refl
+passing_alone orders.Settle = refl
+passing_alone orders.ShowNodes = refl
+passing_alone (orders.Recover number) = refl
+passing_alone (orders.Refuse code name) = refl
+passing_alone orders.Leave = refl
+
+never_recovers : (body : OrderBody) (moment : ℤ) (number : ℕ) {P : Type 0} → passing_by body ≡ steps.Recovers moment number → P
+never_recovers (orders.Statement checked) moment number is = let never : steps.Goes ≡ steps.Recovers moment number = is in absurd (cc)
+never_recovers orders.Begin moment number is = let never : steps.Goes ≡ steps.Recovers moment number = is in absurd (cc)
+never_recovers orders.Commit moment number is = let never : steps.Goes ≡ steps.Recovers moment number = is in absurd (cc)
+never_recovers orders.Rollback moment number is = let never : steps.Goes ≡ steps.Recovers moment number = is in absurd (cc)
+never_recovers orders.Settle moment number is = let never : steps.Goes ≡ steps.Recovers moment number = is in absurd (cc)
+never_recovers orders.ShowNodes moment number is = let never : steps.Goes ≡ steps.Recovers moment number = is in absurd (cc)
+never_recovers (orders.Recover other) moment number is = let never : steps.Goes ≡ steps.Recovers moment number = is in absurd (cc)
+never_recovers (orders.Refuse code name) moment number is = let never : steps.Goes ≡ steps.Recovers moment number = is in absurd (cc)
+never_recovers orders.Leave moment number is = let never : steps.Leaves ≡ steps.Recovers moment number = is in absurd (cc)
+
+-- the order of a recovery leaves the machine where it is
+pub handed_on : (order : Order) (m n : Machine) (step : Step) (moment : ℤ) (number : ℕ) → IsOrdered order m step n → step ≡ steps.Recovers moment number → n ≡ m
+handed_on order m n step moment number (inl (inl (passing, takes))) is = never_recovers order.body moment number (sym passing ∙ is)
+handed_on order m n step moment number (inl (inr (inl (stops, (body, served, not, same))))) is = same
+handed_on order m n step moment number (inl (inr (inr (lost, same)))) is = same
+handed_on order m n step moment number (inr (number', body, (hands, same))) is = same
+
 pub goes_by : (body : OrderBody) → (body ≡ orders.Leave → ⊥) → steps.Goes ≡ passing_by body
 goes_by (orders.Statement checked) other = refl
 goes_by orders.Begin other = refl
@@ -100,10 +129,10 @@ module _ (w : Setting) (p : Place) (s : Seen) where
       (refl, (refl, ap (talking p m) leads))
       (record { read = gives_nothing s.left; ended = refl; written = subst (λ (z : List ℕ). Appends taken taken' z) (sym (append-nil v.output)) takes; moments = appends_nothing s.given; calls = sym (append-nil s.calls); reaches = (s.reach, refl, refl) })
 
-  pub wrote_front : (m : Machine) (v v' : View) (taken taken' : Option (List ℕ)) (step : Step) → AppendsFront taken taken' v.output → v' ≡ v → lost_with None step ≡ Some causes.WriteFault → leaves_with step p.leaving ≡ p.leaving
+  pub wrote_front : (m : Machine) (v v' : View) (taken taken' : Option (List ℕ)) (step : Step) → AppendsFront taken taken' v.output → v' ≡ v → lost_with None step ≡ Some causes.WriteFault → leaves_with step p.leaving ≡ p.leaving → course_with step ≡ NoRecovery
       → Went w (talking p m v) (with_taken s taken) (talked p m v' step) (with_taken s taken')
-  wrote_front m v v' taken taken' step takes same lost leaving = went_one w (talking p m v) (talked p m v' step) (Loses causes.WriteFault (Behind takes.front)) (with_taken s taken) (with_taken s taken')
-      (lost, (leaving, (tt, (refl, (same, (takes.rest, takes.parts))))))
+  wrote_front m v v' taken taken' step takes same lost leaving alone = went_one w (talking p m v) (talked p m v' step) (Loses causes.WriteFault (Behind takes.front)) (with_taken s taken) (with_taken s taken')
+      (inl alone, (lost, (leaving, (tt, (refl, (same, (takes.rest, takes.parts)))))))
       (record { read = gives_nothing s.left; ended = refl; written = subst (λ (z : List ℕ). Appends taken taken' z) (sym (append-nil takes.front)) takes.has; moments = appends_nothing s.given; calls = sym (append-nil s.calls); reaches = (s.reach, refl, refl) })
 
   -- it is put out, or the sink fails
@@ -112,18 +141,18 @@ module _ (w : Setting) (p : Place) (s : Seen) where
   farewelled m v taken taken' step may none (inl (is, takes)) =
       subst (λ (st : Step). Went w (talking p m v) (with_taken s taken) (talked p m v st) (with_taken s taken')) (sym is)
       (went_one w (talking p m v) (talked p m v (steps.Lost causes.PutOut)) (Loses causes.PutOut (Farewell farewell)) (with_taken s taken) (with_taken s taken')
-      (refl, (refl, (((may, refl), (none, refl)), (refl, (refl, ([], sym (append-nil farewell)))))))
+      (inl refl, (refl, (refl, (((may, refl), (none, refl)), (refl, (refl, ([], sym (append-nil farewell))))))))
       (record { read = gives_nothing s.left; ended = refl; written = subst (λ (z : List ℕ). Appends taken taken' z) (sym (append-nil farewell)) takes; moments = appends_nothing s.given; calls = sym (append-nil s.calls); reaches = (s.reach, refl, refl) }))
   farewelled m v taken taken' step may none (inr (is, takes)) =
       subst (λ (st : Step). Went w (talking p m v) (with_taken s taken) (talked p m v st) (with_taken s taken')) (sym is)
       (went_one w (talking p m v) (talked p m v (steps.Lost causes.WriteFault)) (Loses causes.WriteFault (Farewell takes.front)) (with_taken s taken) (with_taken s taken')
-      (refl, (refl, (((may, refl), none), (refl, (refl, (takes.rest, takes.parts))))))
+      (inl refl, (refl, (refl, (((may, refl), none), (refl, (refl, (takes.rest, takes.parts)))))))
       (record { read = gives_nothing s.left; ended = refl; written = subst (λ (z : List ℕ). Appends taken taken' z) (sym (append-nil takes.front)) takes.has; moments = appends_nothing s.given; calls = sym (append-nil s.calls); reaches = (s.reach, refl, refl) }))
 
   -- it is gone
   pub vanished : (m : Machine) (v : View) → Went w (talking p m v) s (talked p m v (steps.Lost causes.ReadFault)) s
   vanished m v = went_one w (talking p m v) (talked p m v (steps.Lost causes.ReadFault)) (Loses causes.ReadFault Plainly) s s
-      (refl, (refl, (tt, (refl, refl))))
+      (inl refl, (refl, (refl, (tt, (refl, refl)))))
       (record { read = gives_nothing s.left; ended = refl; written = appends_nothing s.taken; moments = appends_nothing s.given; calls = sym (append-nil s.calls); reaches = (s.reach, refl, refl) })
 
   -- Reads.
@@ -138,7 +167,7 @@ module _ (w : Setting) (p : Place) (s : Seen) where
   fed m v v' bytes step left left' ended ended' (inr (lost, leads)) gives same =
       subst (λ (st : Step). Went w (talking p m v) (with_reads s left ended) (talked p m v' st) (with_reads s left' ended')) (sym lost)
       (went_one w (talking p m v) (talked p m v' (steps.Lost causes.NoMemory)) (Loses causes.NoMemory (Unfed bytes)) (with_reads s left ended) (with_reads s left' ended')
-      (refl, (refl, (tt, (refl, leads))))
+      (inl refl, (refl, (refl, (tt, (refl, leads)))))
       (record { read = subst (λ (z : List ℕ). Gives left left' z) (sym (append-nil bytes)) gives; ended = same; written = appends_nothing s.taken; moments = appends_nothing s.given; calls = sym (append-nil s.calls); reaches = (s.reach, refl, refl) }))
 
   pub had : (m : Machine) (v v' : View) (given : Got) (piece : List ℕ) (step : Step) (left left' : Option (List ℕ)) (ended ended' : Bool) → IsHad given piece v step v' → Gave given piece left left' → ended' ≡ (ended || is_end given)
@@ -152,7 +181,7 @@ module _ (w : Setting) (p : Place) (s : Seen) where
   had m v v' got.Failed piece step left left' ended ended' (lost, leads) gave same =
       subst (λ (st : Step). Went w (talking p m v) (with_reads s left ended) (talked p m v' st) (with_reads s left' ended')) (sym lost)
       (went_one w (talking p m v) (talked p m v' (steps.Lost causes.ReadFault)) (Loses causes.ReadFault Plainly) (with_reads s left ended) (with_reads s left' ended')
-      (refl, (refl, (tt, (refl, leads))))
+      (inl refl, (refl, (refl, (tt, (refl, leads)))))
       (record { read = subst (λ (z : Option (List ℕ)). Gives left z []) (sym gave) (gives_nothing left); ended = same ∙ or_false ended; written = appends_nothing s.taken; moments = appends_nothing s.given; calls = sym (append-nil s.calls); reaches = (s.reach, refl, refl) }))
 
   -- nothing has come
@@ -163,39 +192,44 @@ module _ (w : Setting) (p : Place) (s : Seen) where
 
   -- What comes next of the client.
 
-  turned_by : (m n : Machine) (v v' : View) (moment : ℤ) (next : WireStep) (step : Step) (given given' : Option (List ℤ)) → lost_with None step ≡ None → leaves_with step p.leaving ≡ leaves_by next p.leaving → IsNext w.tables moment v next v' → Turned next m n → Appends given given' (moment ∷ [])
+  turned_by : (m n : Machine) (v v' : View) (moment : ℤ) (next : WireStep) (step : Step) (given given' : Option (List ℤ)) → lost_with None step ≡ None → leaves_with step p.leaving ≡ leaves_by next p.leaving → course_with step ≡ NoRecovery → IsNext w.tables moment v next v' → Turned next m n → Appends given given' (moment ∷ [])
       → Went w (talking p m v) (with_given s given) (talked p n v' step) (with_given s given')
-  turned_by m n v v' moment next step given given' lost leaving is leads reads = went_one w (talking p m v) (talked p n v' step) (Turns moment next) (with_given s given) (with_given s given')
-      (refl, (lost, (leaving, (is, leads))))
+  turned_by m n v v' moment next step given given' lost leaving alone is leads reads = went_one w (talking p m v) (talked p n v' step) (Turns moment next) (with_given s given) (with_given s given')
+      (refl, (refl, (lost, (leaving, (is, inl (leads, alone))))))
       (record { read = gives_nothing s.left; ended = refl; written = appends_nothing s.taken; moments = reads; calls = sym (append-nil s.calls); reaches = (s.reach, refl, refl) })
 
   pub turned : (m n : Machine) (v v' : View) (moment : ℤ) (next : WireStep) (given given' : Option (List ℤ)) → p.leaving ≡ leaves_by next p.leaving → IsNext w.tables moment v next v' → Turned next m n → Appends given given' (moment ∷ [])
       → Went w (talking p m v) (with_given s given) (talking p n v') (with_given s given')
-  turned m n v v' moment next given given' leaving is leads reads = turned_by m n v v' moment next steps.Goes given given' refl leaving is leads reads
+  turned m n v v' moment next given given' leaving is leads reads = turned_by m n v v' moment next steps.Goes given given' refl leaving refl is leads reads
 
-  pub not_turned : (cause : EndCause) (m n : Machine) (v v' : View) (moment : ℤ) (step : Step) (given given' : Option (List ℤ)) → CausesMiss w cause (Unturned moment) (talking p m v) (talked p n v' step) → lost_with None step ≡ Some cause → leaves_with step p.leaving ≡ p.leaving → n ≡ m
+  pub not_turned : (cause : EndCause) (m n : Machine) (v v' : View) (moment : ℤ) (step : Step) (given given' : Option (List ℤ)) → CausesMiss w cause (Unturned moment) (talking p m v) (talked p n v' step) → lost_with None step ≡ Some cause → leaves_with step p.leaving ≡ p.leaving → course_with step ≡ NoRecovery → n ≡ m
       → Appends given given' (moment ∷ []) → Went w (talking p m v) (with_given s given) (talked p n v' step) (with_given s given')
-  not_turned cause m n v v' moment step given given' may lost leaving same reads = went_one w (talking p m v) (talked p n v' step) (Loses cause (Unturned moment)) (with_given s given) (with_given s given')
-      (lost, (leaving, (may, same)))
+  not_turned cause m n v v' moment step given given' may lost leaving alone same reads = went_one w (talking p m v) (talked p n v' step) (Loses cause (Unturned moment)) (with_given s given) (with_given s given')
+      (inl alone, (lost, (leaving, (may, same))))
       (record { read = gives_nothing s.left; ended = refl; written = appends_nothing s.taken; moments = reads; calls = sym (append-nil s.calls); reaches = (s.reach, refl, refl) })
 
-  not_taken : (cause : EndCause) (m n : Machine) (v v' : View) (moment : ℤ) (order : Order) (given given' : Option (List ℤ)) → CausesMiss w cause (Untaken moment order) (talking p m v) (record p { machine = n; view = v'; lost = Some cause }) → IsNext w.tables moment v (wires.Order order) v' → n ≡ m
-      → Appends given given' (moment ∷ []) → Went w (talking p m v) (with_given s given) (record p { machine = n; view = v'; lost = Some cause }) (with_given s given')
-  not_taken cause m n v v' moment order given given' may is same reads = went_one w (talking p m v) (record p { machine = n; view = v'; lost = Some cause }) (Loses cause (Untaken moment order)) (with_given s given) (with_given s given')
-      (refl, (refl, (may, (same, is))))
+  not_taken : (cause : EndCause) (m n : Machine) (v v' : View) (moment : ℤ) (order : Order) (given given' : Option (List ℤ)) → CausesMiss w cause (Untaken moment order) (talking p m v) (record p { machine = n; view = v'; lost = Some cause; course = NoRecovery }) → IsNext w.tables moment v (wires.Order order) v' → n ≡ m
+      → Appends given given' (moment ∷ []) → Went w (talking p m v) (with_given s given) (record p { machine = n; view = v'; lost = Some cause; course = NoRecovery }) (with_given s given')
+  not_taken cause m n v v' moment order given given' may is same reads = went_one w (talking p m v) (record p { machine = n; view = v'; lost = Some cause; course = NoRecovery }) (Loses cause (Untaken moment order)) (with_given s given) (with_given s given')
+      (inl refl, (refl, (refl, (may, (same, is)))))
       (record { read = gives_nothing s.left; ended = refl; written = appends_nothing s.taken; moments = reads; calls = sym (append-nil s.calls); reaches = (s.reach, refl, refl) })
 
   pub ordered : (m n : Machine) (v v' : View) (moment : ℤ) (order : Order) (step : Step) (given given' : Option (List ℤ)) → next_action m ≡ actions.Rest → IsNext w.tables moment v (wires.Order order) v' → IsOrdered order m step n → Appends given given' (moment ∷ [])
       → Went w (talking p m v) (with_given s given) (talked p n v' step) (with_given s given')
-  ordered m n v v' moment order step given given' rests is (inl (passing, takes)) reads =
+  ordered m n v v' moment order step given given' rests is (inl (inl (passing, takes))) reads =
       subst (λ (st : Step). Went w (talking p m v) (with_given s given) (talked p n v' st) (with_given s given')) (sym passing)
-      (turned_by m n v v' moment (wires.Order order) (passing_by order.body) given given' (passing_lost order.body) (passing_leaves order.body p.leaving) is takes reads)
-  ordered m n v v' moment order step given given' rests is (inr (inl (stops, (body, served, not, same)))) reads =
+      (turned_by m n v v' moment (wires.Order order) (passing_by order.body) given given' (passing_lost order.body) (passing_leaves order.body p.leaving) (passing_alone order.body) is takes reads)
+  ordered m n v v' moment order step given given' rests is (inl (inr (inl (stops, (body, served, not, same))))) reads =
       subst (λ (st : Step). Went w (talking p m v) (with_given s given) (talked p n v' st) (with_given s given')) (sym stops)
       (not_taken causes.Stopped m n v v' moment order given given' ((rests, refl), (body, served, not)) is same reads)
-  ordered m n v v' moment order step given given' rests is (inr (inr (lost, same))) reads =
+  ordered m n v v' moment order step given given' rests is (inl (inr (inr (lost, same)))) reads =
       subst (λ (st : Step). Went w (talking p m v) (with_given s given) (talked p n v' st) (with_given s given')) (sym lost)
       (not_taken causes.NoMemory m n v v' moment order given given' tt is same reads)
+  ordered m n v v' moment order step given given' rests is (inr (number, body, (hands, same))) reads =
+      subst (λ (st : Step). Went w (talking p m v) (with_given s given) (talked p n v' st) (with_given s given')) (sym hands)
+      (went_one w (talking p m v) (talked p n v' (steps.Recovers order.moment number)) (Turns moment (wires.Order order)) (with_given s given) (with_given s given')
+      (refl, (refl, (refl, (sym (ap (λ (o : OrderBody). tells_leave o p.leaving) body), (is, inr (number, body, (same, refl)))))))
+      (record { read = gives_nothing s.left; ended = refl; written = appends_nothing s.taken; moments = reads; calls = sym (append-nil s.calls); reaches = (s.reach, refl, refl) }))
 
   -- The wire is closed.
 
@@ -211,13 +245,13 @@ module _ (w : Setting) (p : Place) (s : Seen) where
   pub told : (m n : Machine) (v v' : View) (outcome : Outcome) (status : Status) → actions.Reply outcome status ≡ next_action m → n ≡ led m (events.Replied outcome status)
       → TellsOf w.nodes v.due outcome (status_byte status) v v' → Went w (talking p m v) s (talking p n v') s
   told m n v v' outcome status due leads tells = went_one w (talking p m v) (talking p n v') (Does (events.Replied outcome status)) s s
-      (refl, (refl, (record { may = sym due; leads = leads }, (refl, tells))))
+      ((refl, refl), (refl, (refl, (record { may = sym due; leads = leads }, (refl, tells)))))
       (record { read = gives_nothing s.left; ended = refl; written = appends_nothing s.taken; moments = appends_nothing s.given; calls = sym (append-nil s.calls); reaches = (s.reach, refl, refl) })
 
-  pub not_told : (cause : EndCause) (m n : Machine) (v v' : View) (outcome : Outcome) (status : Status) (step : Step) → CausesMiss w cause (Untold outcome status) (talking p m v) (talked p n v' step) → lost_with None step ≡ Some cause → leaves_with step p.leaving ≡ p.leaving → actions.Reply outcome status ≡ next_action m
+  pub not_told : (cause : EndCause) (m n : Machine) (v v' : View) (outcome : Outcome) (status : Status) (step : Step) → CausesMiss w cause (Untold outcome status) (talking p m v) (talked p n v' step) → lost_with None step ≡ Some cause → leaves_with step p.leaving ≡ p.leaving → course_with step ≡ NoRecovery → actions.Reply outcome status ≡ next_action m
       → n ≡ led m (events.Replied outcome status) → Went w (talking p m v) s (talked p n v' step) s
-  not_told cause m n v v' outcome status step may lost leaving due leads = went_one w (talking p m v) (talked p n v' step) (Loses cause (Untold outcome status)) s s
-      (lost, (leaving, (may, record { may = sym due; leads = leads })))
+  not_told cause m n v v' outcome status step may lost leaving alone due leads = went_one w (talking p m v) (talked p n v' step) (Loses cause (Untold outcome status)) s s
+      (inl alone, (lost, (leaving, (may, record { may = sym due; leads = leads }))))
       (record { read = gives_nothing s.left; ended = refl; written = appends_nothing s.taken; moments = appends_nothing s.given; calls = sym (append-nil s.calls); reaches = (s.reach, refl, refl) })
 
 -- a reading of the clock, as it is passed on
@@ -246,9 +280,9 @@ as_other (orders.Refuse code name) other = refl
 as_other orders.Leave other = refl
 
 pub taken_by : (order : Order) (body : OrderBody) (passing step : Step) (m n : Machine) → AsServed order.body body → passing ≡ passing_by order.body → IsGiven (at_moment order.moment body) m passing step n → IsOrdered order m step n
-taken_by order body passing step m n served is (inl (same, moves)) = inl (same ∙ is, record { body = body; served = served; moves = moves })
-taken_by order body passing step m n served is (inr (inl (stops, (not, same)))) = inr (inl (stops, (body, served, not, same)))
-taken_by order body passing step m n served is (inr (inr lost)) = inr (inr lost)
+taken_by order body passing step m n served is (inl (same, moves)) = inl (inl (same ∙ is, record { body = body; served = served; moves = moves }))
+taken_by order body passing step m n served is (inr (inl (stops, (not, same)))) = inl (inr (inl (stops, (body, served, not, same))))
+taken_by order body passing step m n served is (inr (inr lost)) = inl (inr (inr lost))
 
 -- The reply of an outcome.
 

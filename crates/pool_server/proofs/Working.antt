@@ -23,20 +23,22 @@ use Rattle.session_machine.specs.Rules.{after, next_action}
 use Rattle.session_engine.specs.declared.ask.Ask.{Ask}
 use Rattle.session_engine.specs.declared.ask.Ask.TheVariants as asks
 use Rattle.session_engine.specs.Handing.{asked_of, gate_event, Detaches, Posts}
-use Rattle.pool_server.specs.declared.end.EndCause.{EndCause}
-use Rattle.pool_server.specs.declared.end.EndCause.TheVariants as causes
+use Rattle.served_recovery.specs.declared.end.EndCause.{EndCause}
+use Rattle.served_recovery.specs.declared.end.EndCause.TheVariants as causes
 use Rattle.pool_server.specs.declared.parting.Step.{Step}
 use Rattle.pool_server.specs.declared.parting.Step.TheVariants as steps
 use Rattle.session_links.specs.declared.slot.Sent.TheVariants as sents
 use Rattle.session_links.specs.Plans.{Linked, Puts}
 use Rattle.session_links.specs.Rising.{has_risen}
-use Rattle.pool_server.specs.Deeds.{Call, made, Deed, Does, Holds, Peeks, Connects, GivesUp, Loses, Miss, Plainly, Unheard, Unused, Severed, TurnedAway}
-use Rattle.pool_server.specs.Places.{Setting, Place, with_machine, Moves, IsHeard, CausesMiss, Comes, Fails, Misses, call_due, first_loss, leaves_at}
-use Rattle.pool_server.specs.Reaches.{Reach, DeedAt, EventAt, IsAnswered, IsLost, IsMade, IsPosted, IsTaken, MissAt}
+use Rattle.served_recovery.specs.Calls.{Call, made}
+use Rattle.pool_server.specs.Deeds.{Deed, Does, Holds, Peeks, Connects, GivesUp, Loses, Miss, Plainly, Unheard, Unused, Severed, TurnedAway}
+use Rattle.pool_server.specs.Places.{Setting, NoRecovery, Place, with_machine, Moves, IsHeard, CausesMiss, Comes, Fails, Misses, call_due, first_loss, leaves_at}
+use Rattle.served_recovery.specs.Reach.{Reach, IsAnswered, IsLost, IsMade, IsPosted, IsTaken}
+use Rattle.pool_server.specs.Reaches.{DeedAt, EventAt, MissAt}
 use Rattle.pool_server.specs.Sights.{Seen, Shows, Went, with_work, calls_at, calls_by, ends_by, moments_by, read_by, written_by}
 use Rattle.pool_server.specs.Servings.{Happens, Hears, IsPeeked, LosesLink, stepped}
 use Rattle.pool_server.proofs.Going.{gives_nothing, went_none, went_on, went_one, went_same, went_to}
-use Rattle.pool_server.proofs.Linking.{is_made, made_at, same_reach, set_else, set_here}
+use Rattle.served_recovery.proofs.Linking.{is_made, made_at, same_reach, set_else, set_here}
 
 -- What is asked for is what is due.
 
@@ -115,15 +117,15 @@ module _ (w : Setting) (p : Place) (s : Seen) where
   }
 
   -- the client is lost, or the session stopped, and its client has seen nothing of it
-  missing : (cause : EndCause) (miss : Miss) (m n : Machine) (calls later : List Call) (r t : Reach) → IsUnseen (Loses cause miss) → CausesMiss w cause miss (with_machine p m) (record p { machine = n; lost = first_loss p.lost cause }) → Misses w miss (with_machine p m) (record p { machine = n; lost = first_loss p.lost cause })
+  missing : (cause : EndCause) (miss : Miss) (m n : Machine) (calls later : List Call) (r t : Reach) → IsUnseen (Loses cause miss) → CausesMiss w cause miss (with_machine p m) (record p { machine = n; lost = first_loss p.lost cause; course = NoRecovery }) → Misses w miss (with_machine p m) (record p { machine = n; lost = first_loss p.lost cause; course = NoRecovery })
       → MissAt miss r t → later ≡ calls ++ calls_by (Loses cause miss)
-      → Went w (with_machine p m) (with_work s calls r) (record p { machine = n; lost = first_loss p.lost cause }) (with_work s later t)
-  missing cause miss m n calls later r t is may misses reaches heard = went_one w (with_machine p m) (record p { machine = n; lost = first_loss p.lost cause }) (Loses cause miss) (with_work s calls r) (with_work s later t)
-      (refl, (refl, (may, misses)))
+      → Went w (with_machine p m) (with_work s calls r) (record p { machine = n; lost = first_loss p.lost cause; course = NoRecovery }) (with_work s later t)
+  missing cause miss m n calls later r t is may misses reaches heard = went_one w (with_machine p m) (record p { machine = n; lost = first_loss p.lost cause; course = NoRecovery }) (Loses cause miss) (with_work s calls r) (with_work s later t)
+      (inl refl, (refl, (refl, (may, misses))))
       (unseen_shows (Loses cause miss) calls later r t is reaches heard)
 
-  pub plainly : (cause : EndCause) (m n : Machine) (calls later : List Call) (r t : Reach) → CausesMiss w cause Plainly (with_machine p m) (record p { machine = n; lost = first_loss p.lost cause }) → n ≡ m → later ≡ calls → t ≡ r
-      → Went w (with_machine p m) (with_work s calls r) (record p { machine = n; lost = first_loss p.lost cause }) (with_work s later t)
+  pub plainly : (cause : EndCause) (m n : Machine) (calls later : List Call) (r t : Reach) → CausesMiss w cause Plainly (with_machine p m) (record p { machine = n; lost = first_loss p.lost cause; course = NoRecovery }) → n ≡ m → later ≡ calls → t ≡ r
+      → Went w (with_machine p m) (with_work s calls r) (record p { machine = n; lost = first_loss p.lost cause; course = NoRecovery }) (with_work s later t)
   plainly cause m n calls later r t may same heard kept = missing cause Plainly m n calls later r t (unseen refl refl refl (λ ended. refl)) may (same, refl) kept (heard ∙ sym (append-nil calls))
 
   -- a test has failed before anything was done
@@ -141,14 +143,14 @@ module _ (w : Setting) (p : Place) (s : Seen) where
   pub does : (event : SessionEvent) (m n : Machine) (calls later : List Call) (r t : Reach) → Moves m event n → leaves_at event p.leaving ≡ p.leaving → IsHeard w event (with_machine p m) p.view → EventAt event r t → later ≡ calls ++ calls_at event
       → Went w (with_machine p m) (with_work s calls r) (with_machine p n) (with_work s later t)
   does event m n calls later r t moves told heard reaches gate = went_one w (with_machine p m) (with_machine p n) (Does event) (with_work s calls r) (with_work s later t)
-      (refl, (sym told, (moves, heard)))
+      ((refl, refl), (refl, (sym told, (moves, heard))))
       (record { read = gives_nothing s.left; ended = refl; written = appends_nothing s.taken; moments = appends_nothing s.given; calls = gate ∙ ap (λ (z : List Call). calls ++ z) (sym (append-nil (calls_at event))); reaches = (t, reaches, refl) })
 
   -- the gate holds a call
   pub holds : (call : GateCall) (answer : GateAnswer) (count : ℕ) (m n : Machine) (calls mid later : List Call) (r t : Reach) → asked_of (next_action m) ≡ asks.Gate call → answer ≡ answers.Held count → n ≡ m
       → mid ≡ calls ++ made call answer ∷ [] → later ≡ mid → t ≡ r → Went w (with_machine p m) (with_work s calls r) (with_machine p n) (with_work s later t)
   holds call answer count m n calls mid later r t asked held same heard kept stays-there = went_one w (with_machine p m) (with_machine p n) (Holds call count) (with_work s calls r) (with_work s later t)
-      (called_due (next_action m) call asked, ap (with_machine p) same)
+      (refl, (called_due (next_action m) call asked, ap (with_machine p) same))
       (record {
         read = gives_nothing s.left;
         ended = refl;
@@ -162,9 +164,9 @@ module _ (w : Setting) (p : Place) (s : Seen) where
   pub peeks : (b : BackendId) (m n : Machine) (calls later : List Call) (r t : Reach) → asked_of (next_action m) ≡ asks.WaitFor b → n ≡ m → IsPeeked b calls later r t
       → Went w (with_machine p m) (with_work s calls r) (with_machine p n) (with_work s later t)
   peeks b m n calls later r t asked same (inl (none, given)) =
-      stays (GivesUp b) m n calls later r t (unseen refl refl refl (λ ended. refl)) (waited_due (next_action m) b asked, refl) given same (none ∙ sym (append-nil calls))
+      stays (GivesUp b) m n calls later r t (unseen refl refl refl (λ ended. refl)) (refl, (waited_due (next_action m) b asked, refl)) given same (none ∙ sym (append-nil calls))
   peeks b m n calls later r t asked same (inr (answer, (heard, given))) =
-      stays (Peeks b answer) m n calls later r t (unseen refl refl refl (λ ended. refl)) (waited_due (next_action m) b asked, refl) given same heard
+      stays (Peeks b answer) m n calls later r t (unseen refl refl refl (λ ended. refl)) (refl, (waited_due (next_action m) b asked, refl)) given same heard
 
   -- the gate's answer is none to what was due
   unheard : (call : GateCall) (answer : GateAnswer) (m n : Machine) (calls later : List Call) (r t : Reach) → call_due (next_action m) ≡ Some call → (MayHappen m (gate_event (next_action m) answer) → ⊥) → n ≡ m → IsAnswered call answer r t
@@ -201,7 +203,7 @@ module _ (w : Setting) (p : Place) (s : Seen) where
   posted_there b request m n calls r t due leads reaches = does (events.Posted b request) m n calls calls r t (record { may = due; leads = leads }) refl refl reaches (sym (append-nil calls))
 
   connected : (b : BackendId) (request : Request) (m : Machine) (calls : List Call) (r t : Reach) → next_action m ≡ actions.Post b request → IsMade b r t → Went w (with_machine p m) (with_work s calls r) (with_machine p m) (with_work s calls t)
-  connected b request m calls r t due made-there = stays (Connects b) m m calls calls r t (unseen refl refl refl (λ ended. refl)) ((request, due), refl) made-there refl (sym (append-nil calls))
+  connected b request m calls r t due made-there = stays (Connects b) m m calls calls r t (unseen refl refl refl (λ ended. refl)) (refl, ((request, due), refl)) made-there refl (sym (append-nil calls))
 
   -- a request was taken by the links: there is a deed of it, and one before it where a link was made
   pub posted : (b : BackendId) (request : Request) (m n : Machine) (calls : List Call) (r t : Reach) → asked_of (next_action m) ≡ asks.Post b → Posts (next_action m) request → n ≡ after m (events.Posted b request)

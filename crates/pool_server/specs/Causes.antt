@@ -1,7 +1,7 @@
 -- Which causes stand in what a step comes to, in how a session parts, and in its answer.
 use Rattle.std.specs.Prelude.{◌≡◌, Bool, true, false, Option, Some, None}
-use Rattle.pool_server.specs.declared.end.EndCause.{EndCause}
-use Rattle.pool_server.specs.declared.end.EndCause.TheVariants as causes
+use Rattle.served_recovery.specs.declared.end.EndCause.{EndCause}
+use Rattle.served_recovery.specs.declared.end.EndCause.TheVariants as causes
 use Rattle.pool_server.specs.declared.parting.Step.{Step}
 use Rattle.pool_server.specs.declared.parting.Step.TheVariants as steps
 use Rattle.pool_server.specs.declared.parting.Parting.{Parting}
@@ -58,6 +58,7 @@ in_step test steps.Silent = false
 in_step test steps.Leaves = false
 in_step test (steps.Lost cause) = test cause
 in_step test steps.Ended = false
+in_step test (steps.Recovers moment number) = false
 in_step test (steps.Over cause) = test cause
 
 -- the client was lost by such a cause
@@ -72,5 +73,19 @@ in_answer test None = false
 in_answer test (Some cause) = test cause
 
 -- no fault of the client's bytes, nothing that was cut off, and nobody who was put out
+abbrev pub IsCalm : Step → Type 0
+IsCalm step = (in_step is_read_fault step ≡ false) × (in_step is_write_fault step ≡ false) × (in_step is_cut_off step ≡ false) × (in_step is_put_out step ≡ false)
+
+-- the step hands on the order of a recovery
+abbrev pub is_recovery : Step → Bool
+is_recovery steps.Goes = false
+is_recovery steps.Silent = false
+is_recovery steps.Leaves = false
+is_recovery (steps.Lost cause) = false
+is_recovery steps.Ended = false
+is_recovery (steps.Recovers moment number) = true
+is_recovery (steps.Over cause) = false
+
+-- .. nor the order of a recovery
 abbrev pub IsQuiet : Step → Type 0
-IsQuiet step = (in_step is_read_fault step ≡ false) × (in_step is_write_fault step ≡ false) × (in_step is_cut_off step ≡ false) × (in_step is_put_out step ≡ false)
+IsQuiet step = IsCalm step × (is_recovery step ≡ false)

@@ -9,15 +9,8 @@ use Rattle.session_orders.specs.declared.outcome.Outcome.{Outcome}
 use Rattle.session_machine.specs.declared.status.Status.{Status}
 use Rattle.session_machine.specs.declared.action.SessionEvent.{SessionEvent}
 use Rattle.session_wire.specs.declared.wire.WireStep.{WireStep}
-use Rattle.pool_server.specs.declared.end.EndCause.{EndCause}
-
--- a call of the gate with its answer
-pub record Call : Type 0 where
-  pub call : GateCall
-  pub answer : GateAnswer
-
-abbrev pub made : GateCall → GateAnswer → Call
-made call answer = record { call = call; answer = answer }
+use Rattle.served_recovery.specs.Acts.{Act, Stray}
+use Rattle.served_recovery.specs.declared.end.EndCause.{EndCause}
 
 -- what was under way where a session lost its client, or was stopped
 pub data Miss : Type 0 where
@@ -34,6 +27,9 @@ pub data Miss : Type 0 where
   Unasked : BackendId → Miss  -- a request was due for a backend of which an answer is awaited already
   Unawaited : BackendId → Miss  -- an answer was due of a backend of which none is awaited
   Unused : BackendId → Answer → Miss  -- a backend has answered so, and this is no answer
+  Unstarted : Miss  -- a recovery was ordered where none can begin
+  Unanswered : Outcome → Miss  -- the reply of a recovery is no answer to an order
+  Astray : Stray → Miss  -- a recovery is under way, and a test of its own has failed, or memory was refused with an answer in its hand
   Severed : BackendId → Answer → ℕ → ℕ → Miss  -- the link to a backend was lost, by these counts of faults, and its server serves others: the machine was told this in place of an answer
   TurnedAway : BackendId → Answer → Miss  -- a backend has answered so where a snapshot was asked for: its server lets this client no more in
 
@@ -51,5 +47,7 @@ pub data Deed : Type 0 where
   -- of its links: one to a backend is made, or is waited for no longer
   Connects : BackendId → Deed
   GivesUp : BackendId → Deed
+  -- of a recovery that its client has ordered: an act takes place, where it brings that backend in
+  Recovers : BackendId → Act → Deed
   -- the client is lost, or the session is stopped, by this cause
   Loses : EndCause → Miss → Deed

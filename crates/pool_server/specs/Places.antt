@@ -1,5 +1,5 @@
 -- Where a served session stands, and which deed may come there: the session's machine and the dialogue with its client allow it.
-use Rattle.std.specs.Prelude.{◌≡◌, ◌⊎◌, ℕ, ℤ, Bool, true, false, List, [], ◌∷◌, ◌++◌, Option, Some, None, is_some, codes, length}
+use Rattle.std.specs.Prelude.{◌≡◌, ◌⊎◌, ◌<◌, ℕ, ℤ, Bool, true, false, List, [], ◌∷◌, ◌++◌, Option, Some, None, is_some, length}
 use Rattle.pool_base.specs.declared.backend_id.BackendId.{BackendId}
 use Rattle.pool_base.specs.declared.gate_call.GateCall.{GateCall}
 use Rattle.pool_base.specs.declared.gate_call.GateCall.TheVariants as gatecalls
@@ -10,6 +10,7 @@ use Rattle.session_orders.specs.declared.order.Order.{Order}
 use Rattle.session_orders.specs.declared.order.OrderBody.{OrderBody}
 use Rattle.session_orders.specs.declared.order.OrderBody.TheVariants as orders
 use Rattle.session_orders.specs.declared.outcome.Outcome.{Outcome}
+use Rattle.session_machine.specs.declared.status.Status.{Status}
 use Rattle.session_machine.specs.declared.action.Action.{Action}
 use Rattle.session_machine.specs.declared.action.Action.TheVariants as actions
 use Rattle.session_machine.specs.declared.action.SessionEvent.{SessionEvent}
@@ -29,10 +30,19 @@ use Rattle.session_wire.specs.Shown.{View, frame_of, with_end, with_piece, with_
 use Rattle.session_wire.specs.Steps.{IsNext}
 use Rattle.pool_base.specs.Outside.{Rose}
 use Rattle.pool_server.specs.Breaks.{SeversAt, OpensAt, turns_away}
-use Rattle.pool_server.specs.declared.end.EndCause.{EndCause}
-use Rattle.pool_server.specs.declared.end.EndCause.TheVariants as causes
+use Rattle.served_recovery.specs.declared.end.EndCause.{EndCause}
+use Rattle.served_recovery.specs.declared.end.EndCause.TheVariants as causes
 use Rattle.pool_server.specs.Farewells.{farewell}
-use Rattle.pool_server.specs.Deeds.{Deed, Reads, ReadsEnd, Turns, Writes, Does, Holds, Peeks, Connects, GivesUp, Loses, Miss, Plainly, Unbidden, Behind, Farewell, Unfed, Unturned, Untaken, Untold, Unheard, Unmade, Unasked, Unawaited, Unused, Severed, TurnedAway}
+use Rattle.pool_server.specs.Deeds.{Deed, Reads, ReadsEnd, Turns, Writes, Does, Holds, Peeks, Connects, GivesUp, Loses, Miss, Plainly, Unbidden, Behind, Farewell, Unfed, Unturned, Untaken, Untold, Unheard, Unmade, Unasked, Unawaited, Unused, Unstarted, Unanswered, Astray, Severed, TurnedAway, Recovers}
+use Rattle.session_machine.specs.declared.status.Status.TheVariants.{Idle, InBlock, Failed}
+use Rattle.session_machine.specs.declared.machine.GatePhase.{GatePhase}
+use Rattle.session_machine.specs.declared.machine.GatePhase.TheVariants.{Out, InSnapshot, Live, InCommit}
+use Rattle.online_recovery.specs.declared.layout.Layout.{Layout}
+use Rattle.online_recovery.specs.declared.standing.Standing.{Standing}
+use Rattle.online_recovery.specs.Rules.{after as recovery_after}
+use Rattle.online_recovery.specs.State.{new_standing}
+use Rattle.served_recovery.specs.Acts.{Act, Stray, Comes as ActComes, Fails as StrayFails, LacksMemory as StrayLacks}
+use Rattle.served_recovery.specs.Acts.{Does as ActDoes, Holds as ActHolds, Peeks as ActPeeks, Connects as ActConnects, GivesUp as ActGivesUp, Readies, FindsUnfit}
 
 -- the tables that are served, and the nodes that are configured
 pub record Setting : Type 0 where
@@ -42,19 +52,27 @@ pub record Setting : Type 0 where
 abbrev pub setting : List TableDef → List Node → Setting
 setting tables nodes = record { tables = tables; nodes = nodes }
 
--- the machine of the session, its client's wire, by which cause its client was lost, or the session stopped, and whether the machine was
--- told to leave
+-- a recovery of the session: none is under way; one was ordered, at that moment and of the backend of that number; its machine stands there
+pub data Course : Type 0 where
+  NoRecovery : Course
+  Ordered : ℤ → ℕ → Course
+  UnderWay : Standing → Course
+
+-- the machine of the session, its client's wire, by which cause its client was lost, or the session stopped, whether the machine was
+-- told to leave, and the recovery
 pub record Place : Type 0 where
   pub machine : Machine
   pub view : View
   pub lost : Option EndCause
   pub leaving : Bool
+  pub course : Course
 
+-- .. without a recovery
 abbrev pub place : Machine → View → Option EndCause → Bool → Place
-place machine view lost leaving = record { machine = machine; view = view; lost = lost; leaving = leaving }
+place machine view lost leaving = record { machine = machine; view = view; lost = lost; leaving = leaving; course = NoRecovery }
 
 abbrev pub with_machine : Place → Machine → Place
-with_machine p machine = record p { machine = machine }
+with_machine p machine = record p { machine = machine; course = NoRecovery }
 
 -- The machine.
 
@@ -68,9 +86,8 @@ pub record Moves (old : Machine) (event : SessionEvent) (new : Machine) : Type 0
   pub may : MayHappen old event
   pub leads : new ≡ led old event
 
--- an order as this server takes it: a recovery is refused, under the name that its SQL has
+-- an order that the machine takes, as the wire gives it; that of a recovery it does not take
 abbrev pub AsServed : OrderBody → OrderBody → Type 0
-AsServed (orders.Recover number) (orders.Refuse code name) = (code.bytes ≡ codes "0A000") × (name ≡ codes "recover")
 AsServed (orders.Recover number) body = ⊥
 AsServed asked body = body ≡ asked
 
@@ -111,6 +128,14 @@ Turned (wires.Order order) old new = Takes order.moment order.body old new
 Turned wires.NeedInput old new = new ≡ old
 Turned wires.NeedOutcome old new = new ≡ old
 Turned (wires.Close refused) old new = new ≡ old
+
+-- the order of a recovery is kept for its machine
+abbrev pub KeepsOrder : WireStep → Place → Place → Type 0
+KeepsOrder (wires.Order order) old new =
+    (number : ℕ) × (order.body ≡ orders.Recover number) × ((new.machine ≡ old.machine) × (new.course ≡ Ordered order.moment number))
+KeepsOrder wires.NeedInput old new = ⊥
+KeepsOrder wires.NeedOutcome old new = ⊥
+KeepsOrder (wires.Close refused) old new = ⊥
 
 -- The wire.
 
@@ -160,6 +185,19 @@ IsTurn old = (next_action old.machine ≡ actions.Rest) × (old.lost ≡ None)
 abbrev pub IsUnbidden : Place → Type 0
 IsUnbidden old = (next_action old.machine ≡ actions.End) × ((old.lost ≡ None) × (old.leaving ≡ false))
 
+-- in no block and no transaction
+abbrev pub is_outside : Status → GatePhase → Bool
+is_outside Idle Out = true
+is_outside Idle InSnapshot = false
+is_outside Idle (Live wrote tables) = false
+is_outside Idle InCommit = false
+is_outside InBlock gate = false
+is_outside Failed gate = false
+
+-- the session rests there
+abbrev pub IsOutside : Machine → Type 0
+IsOutside m = (next_action m ≡ actions.Rest) × (is_outside m.session.status m.session.gate ≡ true)
+
 -- the test that has failed where the session is stopped: what was done is not what the machine, the wire, the pass or the links wait for
 abbrev pub Fails : Setting → Miss → Place → Place → Type 0
 Fails w Plainly old new = ⊥
@@ -176,17 +214,21 @@ Fails w (Unmade call) old new = call_due (next_action old.machine) ≡ Some call
 Fails w (Unasked b) old new = (request : Request) × (next_action old.machine ≡ actions.Post b request)
 Fails w (Unawaited b) old new = next_action old.machine ≡ actions.WaitFor b
 Fails w (Unused b answer) old new = (next_action old.machine ≡ actions.WaitFor b) × (MayHappen old.machine (events.Taken b answer) → ⊥)
+Fails w Unstarted old new = (moment : ℤ) × (number : ℕ) × (old.course ≡ Ordered moment number) × (IsOutside old.machine × (length w.nodes < 256) → ⊥)
+Fails w (Unanswered outcome) old new = MayAnswer outcome → ⊥
+Fails w (Astray stray) old new = (s : Standing) × (old.course ≡ UnderWay s) × StrayFails stray s
 Fails w (Severed b answer before after) old new = ⊥
 Fails w (TurnedAway b answer) old new = ⊥
 
 -- where memory was refused a step was under way, but for a write and a call of the gate
-abbrev pub LacksMemory : Miss → Type 0
-LacksMemory Plainly = Unit {0}
-LacksMemory (Unfed bytes) = Unit {0}
-LacksMemory (Unturned moment) = Unit {0}
-LacksMemory (Untaken moment order) = Unit {0}
-LacksMemory (Untold outcome status) = Unit {0}
-LacksMemory miss = ⊥
+abbrev pub LacksMemory : Miss → Place → Type 0
+LacksMemory Plainly old = Unit {0}
+LacksMemory (Unfed bytes) old = Unit {0}
+LacksMemory (Unturned moment) old = Unit {0}
+LacksMemory (Untaken moment order) old = Unit {0}
+LacksMemory (Untold outcome status) old = Unit {0}
+LacksMemory (Astray stray) old = (s : Standing) × (old.course ≡ UnderWay s) × StrayLacks stray s
+LacksMemory miss old = ⊥
 
 abbrev pub IsPlain : Miss → Type 0
 IsPlain Plainly = Unit {0}
@@ -232,7 +274,7 @@ CausesMiss w causes.WriteFault miss old new = FailsBehind miss old
 CausesMiss w causes.CutOff miss old new = CutsOff miss old
 CausesMiss w causes.PutOut miss old new = PutsOut miss old
 CausesMiss w causes.Broken miss old new = Breaks miss old
-CausesMiss w causes.NoMemory miss old new = LacksMemory miss
+CausesMiss w causes.NoMemory miss old new = LacksMemory miss old
 CausesMiss w causes.Stopped miss old new = Fails w miss old new
 
 -- what was under way, and is done in part
@@ -249,24 +291,98 @@ Misses w (Severed b answer before after) old new = Moves old.machine (events.Tak
 Misses w (TurnedAway b answer) old new = Moves old.machine (events.Taken b answer) new.machine × (new.view ≡ old.view)
 Misses w miss old new = (new.machine ≡ old.machine) × (new.view ≡ old.view)
 
+-- A recovery.
+
+-- the layout of what is served
+pub record IsLayout (w : Setting) (layout : Layout) : Type 0 where
+  pub of_nodes : layout.nodes ≡ length w.nodes
+  pub of_tables : layout.tables ≡ w.tables
+
+abbrev pub to_recover : ℤ → ℕ → SessionEvent
+to_recover moment number = events.Ordered (at_moment moment (orders.Recover number))
+
+-- it begins by its order, where the session is in no block
+pub record Begins (w : Setting) (moment : ℤ) (number : ℕ) (old : Place) (act : Act) (new : Place) : Type 0 where
+  pub is : act ≡ ActDoes (to_recover moment number)
+  pub outside : IsOutside old.machine
+  pub layout : Layout
+  pub planned : IsLayout w layout
+  pub leads : new.course ≡ UnderWay (recovery_after (new_standing old.machine.session.id layout) (to_recover moment number))
+
+-- behind its reply and its end there is none
+abbrev pub course_at : SessionEvent → Standing → Course
+course_at (events.Replied outcome status) s = NoRecovery
+course_at events.Ended s = NoRecovery
+course_at event s = UnderWay s
+
+abbrev pub course_by : Act → Standing → Course
+course_by (ActDoes event) s = course_at event s
+course_by (FindsUnfit before later outcome status) s = NoRecovery
+course_by (ActHolds call count) s = UnderWay s
+course_by (ActPeeks b answer) s = UnderWay s
+course_by (ActConnects b) s = UnderWay s
+course_by (ActGivesUp b) s = UnderWay s
+course_by (Readies b) s = UnderWay s
+
+-- an act of it comes where its machine lets it come
+abbrev pub Proceeds : Setting → Course → BackendId → Act → Place → Place → Type 0
+Proceeds w NoRecovery target act old new = ⊥
+Proceeds w (Ordered moment number) target act old new = Begins w moment number old act new
+Proceeds w (UnderWay s) target act old new = (target ≡ s.held.target) × ((t : Standing) × ActComes s act t × (new.course ≡ course_by act t))
+
+-- its reply is told, as long as its client is there
+abbrev pub IsTold : Setting → Outcome → Status → Place → View → Type 0
+IsTold w outcome status old view =
+    ((old.lost ≡ None) × TellsOf w.nodes old.view.due outcome (status_byte status) old.view view) ⊎ (is_some old.lost ≡ true)
+
+-- what an event of it is to the wire. It is given up only after the loss of its client
+abbrev pub IsHeardOf : Setting → SessionEvent → Place → View → Type 0
+IsHeardOf w (events.Replied outcome status) old view = IsTold w outcome status old view
+IsHeardOf w (events.Ordered order) old view = ((order.body ≡ orders.Leave) → (is_some old.lost ≡ true)) × (view ≡ old.view)
+IsHeardOf w event old view = view ≡ old.view
+
+abbrev pub IsHeardBy : Setting → Act → Place → View → Type 0
+IsHeardBy w (ActDoes event) old view = IsHeardOf w event old view
+IsHeardBy w (FindsUnfit before later outcome status) old view = IsTold w outcome status old view
+IsHeardBy w (ActHolds call count) old view = view ≡ old.view
+IsHeardBy w (ActPeeks b answer) old view = view ≡ old.view
+IsHeardBy w (ActConnects b) old view = view ≡ old.view
+IsHeardBy w (ActGivesUp b) old view = view ≡ old.view
+IsHeardBy w (Readies b) old view = view ≡ old.view
+
+-- the machine of the session stays where it is
+pub record RecoversTo (w : Setting) (old : Place) (target : BackendId) (act : Act) (new : Place) : Type 0 where
+  pub machine : new.machine ≡ old.machine
+  pub lost : new.lost ≡ old.lost
+  pub leaving : new.leaving ≡ old.leaving
+  pub proceeds : Proceeds w old.course target act old new
+  pub heard : IsHeardBy w act old new.view
+
 -- All of it.
 
--- a deed leads from one place to the next. What is of the client comes as long as it was not lost
+-- the machine of the session moves only where no recovery is under way
+abbrev pub IsAlone : Place → Place → Type 0
+IsAlone old new = (old.course ≡ NoRecovery) × (new.course ≡ NoRecovery)
+
+-- a deed leads from one place to the next. What is of the client comes as long as it was not lost. Behind its loss a recovery goes on to its
+-- end; one that has not begun, and that of a session that is stopped, is dropped
 abbrev pub Comes : Setting → Place → Deed → Place → Type 0
 Comes w old (Reads bytes) new = (old.lost ≡ None) × (new ≡ record old { view = with_piece old.view bytes })
 Comes w old ReadsEnd new = (old.lost ≡ None) × (new ≡ record old { view = with_end old.view })
 Comes w old (Turns moment next) new =
-    (old.lost ≡ None) × ((new.lost ≡ None) × ((new.leaving ≡ leaves_by next old.leaving) × (IsNext w.tables moment old.view next new.view × Turned next old.machine new.machine)))
+    (old.course ≡ NoRecovery) × ((old.lost ≡ None) × ((new.lost ≡ None) × ((new.leaving ≡ leaves_by next old.leaving) × (IsNext w.tables moment old.view next new.view
+    × ((Turned next old.machine new.machine × (new.course ≡ NoRecovery)) ⊎ KeepsOrder next old new)))))
 Comes w old (Writes bytes) new =
     (old.lost ≡ None) × ((old.view.output ≡ bytes) × (new ≡ record old { view = with_written old.view (length bytes) }))
-Comes w old (Does event) new =
-    (new.lost ≡ old.lost) × ((new.leaving ≡ leaves_at event old.leaving) × (Moves old.machine event new.machine × IsHeard w event old new.view))
-Comes w old (Holds call count) new = (next_action old.machine ≡ actions.Gate call) × (new ≡ old)
-Comes w old (Peeks b answer) new = (next_action old.machine ≡ actions.WaitFor b) × (new ≡ old)
-Comes w old (Connects b) new = ((request : Request) × (next_action old.machine ≡ actions.Post b request)) × (new ≡ old)
-Comes w old (GivesUp b) new = (next_action old.machine ≡ actions.WaitFor b) × (new ≡ old)
-Comes w old (Loses cause miss) new =
-    (new.lost ≡ first_loss old.lost cause) × ((new.leaving ≡ old.leaving) × (CausesMiss w cause miss old new × Misses w miss old new))
+Comes w old (Does event) new = IsAlone old new
+    × ((new.lost ≡ old.lost) × ((new.leaving ≡ leaves_at event old.leaving) × (Moves old.machine event new.machine × IsHeard w event old new.view)))
+Comes w old (Holds call count) new = (old.course ≡ NoRecovery) × ((next_action old.machine ≡ actions.Gate call) × (new ≡ old))
+Comes w old (Peeks b answer) new = (old.course ≡ NoRecovery) × ((next_action old.machine ≡ actions.WaitFor b) × (new ≡ old))
+Comes w old (Connects b) new = (old.course ≡ NoRecovery) × (((request : Request) × (next_action old.machine ≡ actions.Post b request)) × (new ≡ old))
+Comes w old (GivesUp b) new = (old.course ≡ NoRecovery) × ((next_action old.machine ≡ actions.WaitFor b) × (new ≡ old))
+Comes w old (Recovers target act) new = RecoversTo w old target act new
+Comes w old (Loses cause miss) new = ((new.course ≡ old.course) ⊎ (new.course ≡ NoRecovery))
+    × ((new.lost ≡ first_loss old.lost cause) × ((new.leaving ≡ old.leaving) × (CausesMiss w cause miss old new × Misses w miss old new)))
 
 -- one deed after another
 abbrev pub Runs : Setting → Place → List Deed → Place → Type 0

@@ -7,33 +7,37 @@ use Rattle.pool_base.specs.declared.gate_call.GateCall.TheVariants as gatecalls
 use Rattle.pool_base.specs.declared.outside.Got.{Got}
 use Rattle.pool_base.specs.declared.outside.Got.TheVariants as got
 use Rattle.pool_base.specs.declared.session_id.SessionId.{SessionId}
+use Rattle.pool_config.specs.declared.config.Node.{Node}
+use Rattle.session_orders.specs.declared.outcome.Outcome.{Outcome}
+use Rattle.session_machine.specs.declared.status.Status.{Status}
+use Rattle.session_wire.specs.Answers.{MayAnswer}
+use Rattle.online_recovery.specs.declared.standing.Standing.{Standing}
 use Rattle.backend_trait.specs.declared.answer.Answer.{Answer}
 use Rattle.session_links.specs.Plans.{Told}
 use Rattle.session_orders.specs.declared.order.Order.{Order}
 use Rattle.session_orders.specs.declared.order.OrderBody.{OrderBody}
 use Rattle.session_orders.specs.declared.order.OrderBody.TheVariants as orders
-use Rattle.shared_gate.specs.History.{Stand}
 use Rattle.session_machine.specs.declared.action.SessionEvent.{SessionEvent}
 use Rattle.session_machine.specs.declared.action.SessionEvent.TheVariants as events
 use Rattle.session_machine.specs.declared.machine.Machine.{Machine}
 use Rattle.session_machine.specs.declared.machine.ReadPolicy.{ReadPolicy}
 use Rattle.session_machine.specs.Allowed.{MayHappen, TakesOrder}
 use Rattle.session_machine.specs.declared.action.Action.TheVariants as actions
-use Rattle.session_machine.specs.Rules.{after, new_machine, next_action}
+use Rattle.session_machine.specs.Rules.{after, new_machine, next_action, status_byte}
 use Rattle.session_wire.specs.declared.wire.Stage.TheVariants.{Closed}
 use Rattle.session_wire.specs.Shown.{View, IsFresh, with_piece, with_end}
-use Rattle.pool_server.specs.declared.end.EndCause.{EndCause}
-use Rattle.pool_server.specs.declared.end.EndCause.TheVariants as causes
+use Rattle.served_recovery.specs.declared.end.EndCause.{EndCause}
+use Rattle.served_recovery.specs.declared.end.EndCause.TheVariants as causes
 use Rattle.pool_server.specs.declared.parting.Step.{Step}
 use Rattle.pool_server.specs.declared.parting.Step.TheVariants as steps
 use Rattle.pool_server.specs.declared.parting.Parting.{Parting}
 use Rattle.pool_server.specs.declared.parting.Parting.TheVariants as partings
 use Rattle.pool_server.specs.Breaks.{SeversAt, OpensAt, turns_away}
 use Rattle.pool_server.specs.Farewells.{farewell}
-use Rattle.pool_server.specs.Passes.{is_leave}
-use Rattle.pool_server.specs.Deeds.{Call, made}
-use Rattle.pool_server.specs.Places.{AsServed, Setting, Place, place, first_loss, Moves, Takes}
-use Rattle.pool_server.specs.Reaches.{Reach, IsGivenUp, PeeksBy, is_away}
+use Rattle.served_recovery.specs.Passes.{Station, is_leave}
+use Rattle.served_recovery.specs.Calls.{Call, made}
+use Rattle.pool_server.specs.Places.{AsServed, Course, NoRecovery, Ordered, UnderWay, Setting, Place, place, first_loss, Moves, Takes, TellsOf}
+use Rattle.served_recovery.specs.Reach.{Reach, IsGivenUp, PeeksBy, is_away}
 use Rattle.pool_server.specs.Sights.{Seen, with_links, with_pass, Went}
 
 -- A step.
@@ -68,6 +72,7 @@ lost_with lost steps.Silent = lost
 lost_with lost steps.Leaves = lost
 lost_with lost (steps.Lost cause) = first_loss lost cause
 lost_with lost steps.Ended = lost
+lost_with lost (steps.Recovers moment number) = lost
 lost_with lost (steps.Over cause) = lost_over lost cause
 
 abbrev pub leaves_with : Step → Bool → Bool
@@ -76,24 +81,47 @@ leaves_with steps.Silent leaving = leaving
 leaves_with steps.Leaves leaving = true
 leaves_with (steps.Lost cause) leaving = leaving
 leaves_with steps.Ended leaving = leaving
+leaves_with (steps.Recovers moment number) leaving = leaving
 leaves_with (steps.Over cause) leaving = leaving
+
+-- the recovery that a step leaves
+abbrev pub course_with : Step → Course
+course_with steps.Goes = NoRecovery
+course_with steps.Silent = NoRecovery
+course_with steps.Leaves = NoRecovery
+course_with (steps.Lost cause) = NoRecovery
+course_with steps.Ended = NoRecovery
+course_with (steps.Recovers moment number) = Ordered moment number
+course_with (steps.Over cause) = NoRecovery
+
+-- a place after a step
+abbrev pub placed : Machine → View → Option EndCause → Bool → Step → Place
+placed machine view lost leaving step = record { machine = machine; view = view; lost = lost; leaving = leaving; course = course_with step }
 
 -- the place of a session that parts so, and after a step of it
 abbrev pub standing : Machine → View → Parting → Place
 standing machine view parting = place machine view (lost_by parting) (is_leaving parting)
 
 abbrev pub standing_by : Machine → View → Parting → Step → Place
-standing_by machine view parting step = place machine view (lost_with (lost_by parting) step) (leaves_with step (is_leaving parting))
+standing_by machine view parting step = placed machine view (lost_with (lost_by parting) step) (leaves_with step (is_leaving parting)) step
 
 -- the place after a step; a place with a client that is not lost, and the place after a step of it
 abbrev pub stepped : Place → Machine → Step → Place
-stepped p machine step = record p { machine = machine; lost = lost_with p.lost step; leaving = leaves_with step p.leaving }
+stepped p machine step = record p { machine = machine; lost = lost_with p.lost step; leaving = leaves_with step p.leaving; course = course_with step }
 
 abbrev pub talking : Place → Machine → View → Place
-talking p machine view = record p { machine = machine; view = view; lost = None }
+talking p machine view = record p { machine = machine; view = view; lost = None; course = NoRecovery }
 
 abbrev pub talked : Place → Machine → View → Step → Place
-talked p machine view step = record p { machine = machine; view = view; lost = lost_with None step; leaving = leaves_with step p.leaving }
+talked p machine view step = record p { machine = machine; view = view; lost = lost_with None step; leaving = leaves_with step p.leaving; course = course_with step }
+
+-- a place with that view, whose client was lost so
+abbrev pub waiting : Place → View → Option EndCause → Place
+waiting p view lost = record p { view = view; lost = lost }
+
+-- a place where a recovery is under way
+abbrev pub pursuing : Machine → View → Option EndCause → Bool → Standing → Place
+pursuing machine view lost leaving s = record { machine = machine; view = view; lost = lost; leaving = leaving; course = UnderWay s }
 
 -- Parts of a step.
 
@@ -145,17 +173,48 @@ passing_by orders.Leave = steps.Leaves
 abbrev pub IsPutOut : Step → Option (List ℕ) → Option (List ℕ) → Type 0
 IsPutOut step old new = ((step ≡ steps.Lost causes.PutOut) × Appends old new farewell) ⊎ ((step ≡ steps.Lost causes.WriteFault) × AppendsFront old new farewell)
 
+-- the client was told a farewell; or the sink has failed, and has taken a front of it
+abbrev pub IsBidden : EndCause → Option (List ℕ) → Option (List ℕ) → Type 0
+IsBidden cause old new = ((cause ≡ causes.PutOut) × Appends old new farewell) ⊎ ((cause ≡ causes.WriteFault) × AppendsFront old new farewell)
+
+-- the client was told the reply of a recovery; or that is no answer, and the session is stopped; or memory was refused
+abbrev pub RepliesSo : List Node → Outcome → Status → View → Step → View → Type 0
+RepliesSo nodes outcome status old step new =
+    ((step ≡ steps.Goes) × TellsOf nodes old.due outcome (status_byte status) old new)
+    ⊎ (((step ≡ steps.Over causes.Stopped) × ((MayAnswer outcome → ⊥) × (new ≡ old))) ⊎ (step ≡ steps.Lost causes.NoMemory))
+
+-- .. as long as it was there
+abbrev pub ToldSo : Option EndCause → List Node → Outcome → Status → View → Step → View → Type 0
+ToldSo None nodes outcome status old step new = RepliesSo nodes outcome status old step new
+ToldSo (Some cause) nodes outcome status old step new = (step ≡ steps.Lost cause) × (new ≡ old)
+
+-- what a recovery comes to that has ended without a reply: its client was lost so
+abbrev pub ended_by : Option EndCause → Step
+ended_by None = steps.Over causes.Stopped
+ended_by (Some cause) = steps.Lost cause
+
+-- what a recovery comes to: nothing of its client but the loss by which it was lost, or by want of memory, or a test that has failed
+abbrev pub ComesOf : Option EndCause → Step → Type 0
+ComesOf gone steps.Goes = Unit {0}
+ComesOf gone steps.Silent = ⊥
+ComesOf gone steps.Leaves = ⊥
+ComesOf gone (steps.Lost cause) = (gone ≡ Some cause) ⊎ (cause ≡ causes.NoMemory)
+ComesOf gone steps.Ended = ⊥
+ComesOf gone (steps.Recovers moment number) = ⊥
+ComesOf gone (steps.Over cause) = (gone ≡ Some cause) ⊎ ((cause ≡ causes.NoMemory) ⊎ (cause ≡ causes.Stopped))
+
 -- an order was given to the machine; or it does not take it, and is stopped; or memory was refused
 abbrev pub IsGiven : Order → Machine → Step → Step → Machine → Type 0
 IsGiven order old passing step new =
     ((step ≡ passing) × Moves old (events.Ordered order) new)
     ⊎ (((step ≡ steps.Over causes.Stopped) × ((TakesOrder old order.body → ⊥) × (new ≡ old))) ⊎ ((step ≡ steps.Lost causes.NoMemory) × (new ≡ old)))
 
--- the wire's order was
+-- the wire's order was; that of a recovery is handed on
 abbrev pub IsOrdered : Order → Machine → Step → Machine → Type 0
 IsOrdered order old step new =
-    ((step ≡ passing_by order.body) × Takes order.moment order.body old new)
-    ⊎ (((step ≡ steps.Over causes.Stopped) × ((body : OrderBody) × AsServed order.body body × (TakesOrder old body → ⊥) × (new ≡ old))) ⊎ ((step ≡ steps.Lost causes.NoMemory) × (new ≡ old)))
+    (((step ≡ passing_by order.body) × Takes order.moment order.body old new)
+    ⊎ (((step ≡ steps.Over causes.Stopped) × ((body : OrderBody) × AsServed order.body body × (TakesOrder old body → ⊥) × (new ≡ old))) ⊎ ((step ≡ steps.Lost causes.NoMemory) × (new ≡ old))))
+    ⊎ ((number : ℕ) × (order.body ≡ orders.Recover number) × ((step ≡ steps.Recovers order.moment number) × (new ≡ old)))
 
 -- bytes were fed to the wire, or memory was refused
 abbrev pub IsFed : List ℕ → View → Step → View → Type 0
@@ -173,6 +232,11 @@ abbrev pub AreThere : Got → List ℕ → Type 0
 AreThere (got.Bytes count) piece = count ≤ length piece
 AreThere got.End piece = Unit {0}
 AreThere got.Failed piece = Unit {0}
+
+-- a recovery goes on, or is over by that step
+abbrev pub PacedTo : Setting → Bool → Machine → View → Option EndCause → Standing → Seen → Option Step → View → Option EndCause → Standing → Seen → Type 0
+PacedTo w leaving m f gone s x None f' gone' t y = Went w (pursuing m f gone leaving s) x (pursuing m f' gone' leaving t) y
+PacedTo w leaving m f gone s x (Some step) f' gone' t y = Went w (pursuing m f gone leaving s) x (placed m f' (lost_with None step) (leaves_with step leaving) step) y
 
 -- The end.
 
@@ -219,6 +283,7 @@ EndsIn steps.Silent last = Unit {0}
 EndsIn steps.Leaves last = Unit {0}
 EndsIn (steps.Lost cause) last = Unit {0}
 EndsIn steps.Ended last = next_action last.machine ≡ actions.End
+EndsIn (steps.Recovers moment number) last = Unit {0}
 EndsIn (steps.Over cause) last = EndsBy cause last
 
 -- there are deeds by which the session ends so
@@ -257,6 +322,6 @@ pub record ComesOut (old new : List Call) : Type 0 where
 -- a session was served: there are deeds of it by which it has ended so, and then its pass comes out
 pub record IsServed (w : Setting) (s : SessionId) (policy : ReadPolicy) (before : Seen) (cause : EndCause) (later : Seen) : Type 0 where
   pub calls : List Call
-  pub stand : Stand
+  pub stand : Station
   pub serves : Serves w s policy before cause (with_pass later calls stand)
   pub out : ComesOut calls later.calls

@@ -7,10 +7,10 @@ ghost use Rattle.pool_server.specs.Causes.{IsQuiet};
 ghost use Rattle.pool_server.specs.Places.{Place};
 ghost use Rattle.pool_server.specs.Servings.{BehindAnswer, EndsIn};
 
-use crate::end::EndCause;
 use crate::parting::Step;
 use backend_trait::Answer;
 use pool_base::{BackendId, Code};
+use served_recovery::EndCause;
 use session_engine::{Core, Due, Standing};
 use session_machine::Stage;
 

@@ -1,6 +1,6 @@
 //! What is done of what is due of the wire: an order taken, a reply told, bytes written and read,
 //! the end.
-ghost use Rattle.std.specs.Prelude.{◌≡◌, ◌≤◌, [], List, length, true, false, IfOk, OnOk};
+ghost use Rattle.std.specs.Prelude.{◌≡◌, ◌≤◌, [], ℕ, ℤ, List, length, true, false, None, Some, IfSome, OnOk, IfOk};
 ghost use Rattle.pool_base.specs.Outside.{Appends, AppendsFront, Rose};
 ghost use Rattle.pool_base.specs.declared.outside.Got.TheVariants.{Failed};
 ghost use Rattle.pool_config.specs.declared.config.Node.{Node};
@@ -13,20 +13,21 @@ ghost use Rattle.session_engine.specs.Cores.{machine_in};
 ghost use Rattle.session_wire.specs.Answers.{MayAnswer};
 ghost use Rattle.session_wire.specs.declared.wire.Stage.TheVariants.{Closed};
 ghost use Rattle.session_wire.specs.Shown.{IsFresh, shown, with_end, with_written};
-ghost use Rattle.pool_server.specs.Causes.{IsQuiet, in_step, is_cut_off, is_put_out, is_read_fault, is_write_fault};
-ghost use Rattle.pool_server.specs.Places.{AsServed, Place, Setting, TellsOf, at_moment, setting, waits_freely};
+ghost use Rattle.pool_server.specs.Causes.{IsCalm, IsQuiet, in_answer, in_step, is_cut_off, is_put_out, is_read_fault, is_recovery, is_write_fault};
+ghost use Rattle.pool_server.specs.Places.{Place, Setting, TellsOf, at_moment, setting, waits_freely};
 ghost use Rattle.pool_server.specs.Sights.{Seen, Went, with_client, with_reads, with_taken, with_talk};
-ghost use Rattle.pool_server.specs.Servings.{AreThere, EndsIn, IsFed, IsGiven, IsHad, IsOrdered, IsPutOut, closed_by, passing_by, talked, talking};
+ghost use Rattle.pool_server.specs.Servings.{AreThere, EndsIn, IsBidden, IsFed, IsGiven, IsHad, IsOrdered, IsPutOut, RepliesSo, closed_by, lost_over, passing_by, talked, talking, waiting};
 ghost use Rattle.pool_server.specs.Told.{Begins};
 
-use crate::end::EndCause;
 use crate::farewell::farewell_bytes;
 use crate::outside::{ClientSource, Posture, Spell};
 use crate::parting::Step;
 use catalogue::Catalogue;
-use pool_base::{Clock, Code, Got, NoMemory, SessionId, Sink, SinkFailed, Text, write_all};
+use pool_base::{Clock, Got, NoMemory, SessionId, Sink, SinkFailed, write_all};
 use pool_config::Config;
+use served_recovery::EndCause;
 use session_engine::Core;
+use session_machine::Status;
 use session_orders::{Order, OrderBody, Outcome};
 use session_wire::{Wire, WireStep, may_answer};
 use std::alloc::Global;
@@ -39,19 +40,6 @@ const PIECE: usize = 8192;
 pub(crate) struct Talk {
     alloc: Global,
     pub wire: Wire,
-}
-
-/// An order as this server takes it: a recovery is refused, under the name that its SQL has.
-fn served(alloc: Global, body: OrderBody) -> Result<OrderBody, NoMemory>
-    ensures { IfOk result (λ taken. AsServed body taken) }
-{
-    match body {
-        OrderBody::Recover(_) => Ok(OrderBody::Refuse {
-            code: Code { bytes: *b"0A000" },
-            name: Text::from_str(alloc, "recover")?,
-        }),
-        other => Ok(other),
-    }
 }
 
 /// What a session does after an order.
@@ -86,17 +74,19 @@ fn give(core: &mut Core, moment: i64, body: OrderBody, behind: Step) -> Step
     }
 }
 
-/// The wire's order is taken.
-fn take(alloc: Global, order: Order, core: &mut Core) -> Step
-    ensures quiet { IsQuiet result }
+/// The wire's order is taken. That of a recovery is handed on.
+fn take(order: Order, core: &mut Core) -> Step
+    ensures calm { IsCalm result }
     ensures ends { (last : Place) → EndsIn result last }
     ensures taken { IsOrdered order (machine_in core.old) result (machine_in core.new) }
 {
     let Order { moment, body } = order;
-    let behind = behind(&body);
-    match served(alloc, body) {
-        Ok(body) => give(core, moment, body, behind),
-        Err(NoMemory) => Step::Lost(EndCause::NoMemory),
+    match body {
+        OrderBody::Recover(number) => Step::Recovers(moment, number),
+        body => {
+            let behind = behind(&body);
+            give(core, moment, body, behind)
+        }
     }
 }
 
@@ -141,6 +131,57 @@ impl Talk {
         self.wire.answer(config, outcome, status)
     }
 
+    /// The client is told what became of the recovery that it has ordered.
+    pub fn recovered(&mut self, config: &Config, outcome: Outcome, status: Status) -> Step
+        ensures quiet { IsQuiet result }
+        ensures ends { (last : Place) → EndsIn result last }
+        ensures replies { RepliesSo config.now.nodes outcome status (shown self.old.wire) result
+            (shown self.new.wire) }
+    {
+        if !may_answer(&outcome) {
+            drop(outcome);
+            return Step::Over(EndCause::Stopped);
+        }
+        let as_byte = status.byte();
+        match self.tell(config, outcome, as_byte) {
+            Ok(()) => Step::Goes,
+            Err(NoMemory) => Step::Lost(EndCause::NoMemory),
+        }
+    }
+
+    /// A client that awaits the end of a recovery goes on to wait. Some: it is put out.
+    #[tactic(auto, using(crate::proofs::Begun::begins_all, crate::proofs::Begun::begins_front, crate::proofs::Begun::begins_same, crate::proofs::Begun::begins_trans))]
+    pub fn stay<I: ClientSource, O: Sink>(
+        &mut self,
+        source: &mut I,
+        sink: &mut O,
+    ) -> Option<EndCause>
+        ensures read { in_answer is_read_fault result ≡ false }
+        ensures write { in_answer is_write_fault result ≡ true
+            → Rose (O.fault_count sink.old) (O.fault_count sink.new) }
+        ensures cut { in_answer is_cut_off result ≡ false }
+        ensures put_out { in_answer is_put_out result ≡ true → I.dismissed source.new ≡ true }
+        ensures dismissed { I.dismissed source.old ≡ true → I.dismissed source.new ≡ true }
+        ensures faults { I.fault_count source.new ≡ I.fault_count source.old }
+        ensures write_later { O.fault_count sink.old ≤ O.fault_count sink.new }
+        ensures taken { Begins (O.taken sink.old) (O.taken sink.new) }
+        ensures lasts { IfSome result (λ cause. lost_over None cause ≡ Some cause) }
+        ensures went { (w : Setting) → (p : Place) → (s : Seen)
+            → next_action p.machine ≡ actions.Rest → Went w
+            (waiting p (shown self.old.wire) None)
+            (with_talk s (I.left source.old) (I.ended source.old) (O.taken sink.old))
+            (waiting p (shown self.new.wire) result)
+            (with_talk s (I.left source.new) (I.ended source.new) (O.taken sink.new)) }
+    {
+        if !source.is_dismissed(Posture::Recovering) {
+            return None;
+        }
+        if !self.flush(sink) {
+            return Some(EndCause::WriteFault);
+        }
+        Some(bid_farewell(sink))
+    }
+
     /// The wire's next step is taken.
     #[tactic(auto, using(crate::proofs::Begun::begins_same))]
     pub fn turn<I: ClientSource, O: Sink, C: Clock>(
@@ -172,12 +213,14 @@ impl Talk {
             (talked p (machine_in core.new) (shown self.new.wire) result)
             (with_client s (I.left source.new) (I.ended source.new) (O.taken sink.new)
             (C.given clock.new)) }
+        ensures same { (moment : ℤ) → (number : ℕ) → result ≡ Step.Recovers moment number
+            → machine_in core.new ≡ machine_in core.old }
         ensures ends { (p : Place) → EndsIn result
             (talked p (machine_in core.new) (shown self.new.wire) result) }
     {
         let moment = clock.now();
         match self.wire.next(tables, moment) {
-            Ok(WireStep::Order(order)) => take(self.alloc, order, core),
+            Ok(WireStep::Order(order)) => take(order, core),
             Ok(WireStep::NeedInput) => self.exchange(Spell::Short, posture, source, sink),
             Ok(WireStep::Close { refused }) => self.close(refused, sink),
             Ok(WireStep::NeedOutcome) => Step::Over(EndCause::Stopped),
@@ -266,6 +309,7 @@ impl Talk {
             (with_talk s (I.left source.old) (I.ended source.old) (O.taken sink.old))
             (talked p m (shown self.new.wire) result)
             (with_talk s (I.left source.new) (I.ended source.new) (O.taken sink.new)) }
+        ensures alone { is_recovery result ≡ false }
         ensures ends { (p : Place) → EndsIn result p }
     {
         if source.is_gone() {
@@ -368,6 +412,24 @@ impl Talk {
     }
 }
 
+/// A client is told a farewell. The cause by which it is lost then.
+#[tactic(auto, using(crate::proofs::Begun::begins_all, crate::proofs::Begun::begins_front))]
+fn bid_farewell<O: Sink>(sink: &mut O) -> EndCause
+    ensures read { is_read_fault result ≡ false }
+    ensures write { is_write_fault result ≡ true
+        → Rose (O.fault_count sink.old) (O.fault_count sink.new) }
+    ensures cut { is_cut_off result ≡ false }
+    ensures later { O.fault_count sink.old ≤ O.fault_count sink.new }
+    ensures taken { Begins (O.taken sink.old) (O.taken sink.new) }
+    ensures lasts { lost_over None result ≡ Some result }
+    ensures is { IsBidden result (O.taken sink.old) (O.taken sink.new) }
+{
+    match write_all(sink, farewell_bytes()) {
+        Ok(()) => EndCause::PutOut,
+        Err(SinkFailed) => EndCause::WriteFault,
+    }
+}
+
 /// A client is told a farewell, and is put out.
 #[tactic(auto, using(crate::proofs::Begun::begins_all, crate::proofs::Begun::begins_front))]
 fn put_out<O: Sink>(sink: &mut O) -> Step
@@ -375,6 +437,7 @@ fn put_out<O: Sink>(sink: &mut O) -> Step
     ensures write { in_step is_write_fault result ≡ true
         → Rose (O.fault_count sink.old) (O.fault_count sink.new) }
     ensures cut { in_step is_cut_off result ≡ false }
+    ensures alone { is_recovery result ≡ false }
     ensures later { O.fault_count sink.old ≤ O.fault_count sink.new }
     ensures taken { Begins (O.taken sink.old) (O.taken sink.new) }
     ensures is { IsPutOut result (O.taken sink.old) (O.taken sink.new) }

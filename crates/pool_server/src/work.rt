@@ -10,18 +10,17 @@ ghost use Rattle.session_engine.specs.Handing.{IsDetach, IsPost, Posts, asked_of
 ghost use Rattle.session_engine.specs.Cores.{machine_in};
 ghost use Rattle.pool_server.specs.Causes.{IsQuiet};
 ghost use Rattle.pool_server.specs.Places.{Place, Setting, with_machine};
-ghost use Rattle.pool_server.specs.Reaches.{Keeps, KeepsAt, is_away, reach, view_in};
+ghost use Rattle.served_recovery.specs.Reach.{Keeps, KeepsAt, is_away, reach, view_in};
 ghost use Rattle.pool_server.specs.Sights.{Seen, Went, with_work};
 ghost use Rattle.pool_server.specs.Breaks.{SeversAt};
 ghost use Rattle.pool_server.specs.Servings.{EndsIn, Happens, Hears, IsPeeked, LosesLink, stepped};
 
 use crate::breaks::{behind_answer, severed};
-use crate::end::EndCause;
-use crate::outside::{GatePass, Notices};
 use crate::parting::Step;
 use backend_trait::{Answer, Link, Request};
 use pg_messages::Pair;
 use pool_base::{BackendId, BackendSet, GateAnswer, GateCall, NoMemory, SessionId, View};
+use served_recovery::{EndCause, GatePass, Notices};
 use session_engine::Core;
 use session_links::{Found, LinkMaker, Links, Loss, Sent};
 use session_machine::{Cause, ReadPolicy};
@@ -50,16 +49,16 @@ enum Patience {
 /// The session's core with its links.
 #[derive(Drop)]
 pub(crate) struct Work<L: Link> {
-    id: SessionId,
+    pub id: SessionId,
     pub core: Core,
-    links: Links<L>,
+    pub links: Links<L>,
     patience: Patience,
     /// The epoch of the last snapshot that was entered.
     epoch: Option<u32>,
     /// How many looks may come to nothing where another session may be waited for, before the
     /// server is asked whether it answers at all. It is asked again after as many more. Where no
     /// other session is waited for, twice as many may.
-    limit: u32,
+    pub limit: u32,
     /// How often the same step was tried without an answer.
     tries: u32,
     /// How many turns of the wire have passed since the last post.

@@ -6,7 +6,7 @@ use Rattle.session_links.specs.Plans.{NoLink}
 use Rattle.session_wire.specs.Shown.{shown}
 use Rattle.pool_server.specs.Causes.{in_parting, is_cut_off, is_put_out, is_read_fault, is_write_fault}
 use Rattle.pool_server.specs.Places.{place, setting}
-use Rattle.pool_server.specs.Reaches.{alone, reach}
+use Rattle.served_recovery.specs.Reach.{alone, reach}
 use Rattle.pool_server.specs.Sights.{Went, seen}
 use Rattle.pool_server.specs.Servings.{standing}
 use Rattle.pool_server.proofs.Going.{went_on}

@@ -5,7 +5,7 @@ use Rattle.pool_server.specs.Causes.{in_parting, is_cut_off, is_put_out, is_read
 use Rattle.session_engine.specs.Cores.{machine_in}
 use Rattle.session_wire.specs.Shown.{shown}
 use Rattle.pool_server.specs.Places.{place, setting}
-use Rattle.pool_server.specs.Reaches.{reach}
+use Rattle.served_recovery.specs.Reach.{reach}
 use Rattle.pool_server.specs.Sights.{Went, seen}
 use Rattle.pool_server.specs.Servings.{standing}
 use Rattle.pool_server.specs.Told.{Begins}

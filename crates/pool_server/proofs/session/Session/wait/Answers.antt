@@ -3,7 +3,7 @@ use Rattle.std.specs.Prelude.{is_some}
 use Rattle.session_engine.specs.Cores.{machine_in}
 use Rattle.session_wire.specs.Shown.{shown}
 use Rattle.pool_server.specs.declared.parting.Parting.{Parting}
-use Rattle.pool_server.specs.Reaches.{reach}
+use Rattle.served_recovery.specs.Reach.{reach}
 use Rattle.pool_server.specs.Sights.{seen}
 use Rattle.pool_server.specs.Servings.{lost_by, standing}
 use Rattle.pool_server.proofs.Stepping.{there}

@@ -1,5 +1,5 @@
 use Rattle.std.proofs.Common.{refl, inl}
-use Rattle.pool_server.specs.declared.end.EndCause.TheVariants as causes
+use Rattle.served_recovery.specs.declared.end.EndCause.TheVariants as causes
 use Rattle.pool_server.specs.declared.parting.Step.TheVariants as steps
 use Rattle.session_wire.specs.Shown.{shown}
 use Rattle.pool_server.proofs.Talking.{closed, closes, wrote_front}
@@ -8,7 +8,7 @@ use Rattle.pool_server.proofs.talk.Talk.close.Goals as goal
 pub returns-then-not-flush-clause-went : goal.returns-then-not-flush-clause-went
 returns-then-not-flush-clause-went g c = λ w p m s.
     wrote_front w p s m (shown c.args.self.now.wire) (shown c.flush.new.self.wire) (g.O.Sink.taken c.args.sink.now) (g.O.Sink.taken c.flush.new.sink)
-    (steps.Over causes.WriteFault) (c.flush.ensures.front c.if-not-flush.true) (c.flush.ensures.same c.if-not-flush.true) refl refl
+    (steps.Over causes.WriteFault) (c.flush.ensures.front c.if-not-flush.true) (c.flush.ensures.same c.if-not-flush.true) refl refl refl
 
 pub returns-then-not-flush-clause-ends : goal.returns-then-not-flush-clause-ends
 returns-then-not-flush-clause-ends g c = λ p m. inl refl

@@ -1,5 +1,5 @@
 use Rattle.std.proofs.Common.{refl, inl}
-use Rattle.pool_server.specs.declared.end.EndCause.TheVariants as causes
+use Rattle.served_recovery.specs.declared.end.EndCause.TheVariants as causes
 use Rattle.pool_server.specs.declared.parting.Step.TheVariants as steps
 use Rattle.session_wire.specs.Shown.{shown}
 use Rattle.pool_server.specs.Sights.{with_reads, with_taken, with_talk}
@@ -12,7 +12,7 @@ use Rattle.pool_server.proofs.talk.Talk.exchange.Goals as goal
 pub returns-then-not-flush-clause-went : goal.returns-then-not-flush-clause-went
 returns-then-not-flush-clause-went g c = λ w p m s rests.
     wrote_front w p (with_reads s (g.I.Source.left c.args.source.now) (g.I.Source.ended c.args.source.now)) m (shown c.args.self.now.wire) (shown c.flush.new.self.wire) (g.O.Sink.taken c.args.sink.now) (g.O.Sink.taken c.flush.new.sink)
-    (steps.Lost causes.WriteFault) (c.flush.ensures.front c.if-not-flush.true) (c.flush.ensures.same c.if-not-flush.true) refl refl
+    (steps.Lost causes.WriteFault) (c.flush.ensures.front c.if-not-flush.true) (c.flush.ensures.same c.if-not-flush.true) refl refl refl
 
 pub returns-then-is_dismissed-clause-went : goal.returns-then-is_dismissed-clause-went
 returns-then-is_dismissed-clause-went g c = λ w p m s rests.

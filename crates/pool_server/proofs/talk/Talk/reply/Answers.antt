@@ -1,7 +1,7 @@
 use Rattle.std.proofs.Common.{ℕ, refl, sym, ◌∙◌, subst}
 use Rattle.std.proofs.lemmas.Bool.{false≢true}
 use Rattle.session_engine.specs.Cores.{machine_in}
-use Rattle.pool_server.specs.declared.end.EndCause.TheVariants as causes
+use Rattle.served_recovery.specs.declared.end.EndCause.TheVariants as causes
 use Rattle.pool_server.specs.declared.parting.Step.TheVariants as steps
 use Rattle.session_wire.specs.Shown.{shown}
 use Rattle.pool_server.specs.Places.{TellsOf, setting}
@@ -11,7 +11,7 @@ use Rattle.pool_server.proofs.talk.Talk.reply.Goals as goal
 pub returns-then-not-may_answer-clause-went : goal.returns-then-not-may_answer-clause-went
 returns-then-not-may_answer-clause-went c = λ tables p s.
     not_told (setting tables c.args.config.now.nodes) p s causes.Stopped (machine_in c.args.core.now) (machine_in c.reply-outcome.new.self) (shown c.args.self.now.wire) (shown c.args.self.now.wire) c.reply-outcome.result.0 c.reply-outcome.result.1
-    (steps.Over causes.Stopped) (λ may. absurd (false≢true (sym c.if-not-may_answer.true ∙ c.may_answer.ensures.1 may))) refl refl c.reply-outcome.ensures.reply (c.reply-outcome.ensures.rest ∙ replied (machine_in c.args.core.now) c.reply-outcome.result.0 c.reply-outcome.result.1 c.reply-outcome.ensures.reply)
+    (steps.Over causes.Stopped) (λ may. absurd (false≢true (sym c.if-not-may_answer.true ∙ c.may_answer.ensures.1 may))) refl refl refl c.reply-outcome.ensures.reply (c.reply-outcome.ensures.rest ∙ replied (machine_in c.args.core.now) c.reply-outcome.result.0 c.reply-outcome.result.1 c.reply-outcome.ensures.reply)
 
 pub returns-in-Ok-clause-went : goal.returns-in-Ok-clause-went
 returns-in-Ok-clause-went c = λ tables p s.
@@ -22,4 +22,4 @@ returns-in-Ok-clause-went c = λ tables p s.
 pub returns-in-Err-clause-went : goal.returns-in-Err-clause-went
 returns-in-Err-clause-went c = λ tables p s.
     not_told (setting tables c.args.config.now.nodes) p s causes.NoMemory (machine_in c.args.core.now) (machine_in c.reply-outcome.new.self) (shown c.args.self.now.wire) (shown c.tell.new.self.wire) c.reply-outcome.result.0 c.reply-outcome.result.1
-    (steps.Lost causes.NoMemory) tt refl refl c.reply-outcome.ensures.reply (c.reply-outcome.ensures.rest ∙ replied (machine_in c.args.core.now) c.reply-outcome.result.0 c.reply-outcome.result.1 c.reply-outcome.ensures.reply)
+    (steps.Lost causes.NoMemory) tt refl refl refl c.reply-outcome.ensures.reply (c.reply-outcome.ensures.rest ∙ replied (machine_in c.args.core.now) c.reply-outcome.result.0 c.reply-outcome.result.1 c.reply-outcome.ensures.reply)

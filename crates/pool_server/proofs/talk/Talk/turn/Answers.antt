@@ -1,7 +1,7 @@
 use Rattle.std.proofs.Common.{refl, rules, to_z, of_z, w64, SFits}
 use Rattle.std.proofs.lemmas.Int.{to_z-of_z}
 use Rattle.session_engine.specs.Cores.{machine_in}
-use Rattle.pool_server.specs.declared.end.EndCause.TheVariants as causes
+use Rattle.served_recovery.specs.declared.end.EndCause.TheVariants as causes
 use Rattle.pool_server.specs.declared.parting.Step.TheVariants as steps
 use Rattle.session_wire.specs.Shown.{shown}
 use Rattle.session_wire.specs.declared.wire.WireStep.TheVariants as wires
@@ -9,7 +9,7 @@ use Rattle.pool_server.specs.Places.{setting}
 use Rattle.pool_server.specs.Sights.{with_client, with_given, with_reads, with_talk}
 use Rattle.pool_server.specs.Servings.{talked, talking}
 use Rattle.pool_server.proofs.Going.{went_on}
-use Rattle.pool_server.proofs.Talking.{next_at, not_turned, ordered, turned}
+use Rattle.pool_server.proofs.Talking.{handed_on, next_at, not_turned, ordered, turned}
 use Rattle.pool_server.proofs.talk.Talk.turn.Goals as goal
 
 pub returns-in-Ok-Order-clause-went : goal.returns-in-Ok-Order-clause-went
@@ -46,15 +46,18 @@ returns-in-Ok-NeedOutcome-clause-went g c = λ nodes p s.
     not_turned (setting c.args.tables.now nodes) p (with_talk s (g.I.Source.left c.args.source.now) (g.I.Source.ended c.args.source.now) (g.O.Sink.taken c.args.sink.now)) causes.Stopped (machine_in c.args.core.now) (machine_in c.args.core.now) (shown c.args.self.now.wire) (shown c.next.new.self) c.now-moment.result (steps.Over causes.Stopped)
     (g.C.Clock.given c.args.clock.now) (g.C.Clock.given c.now-moment.new.self)
     ((c.requires.rests, refl), next_at c.args.tables.now c.now-moment.result (to_z w64 (of_z w64 c.now-moment.result)) (shown c.args.self.now.wire) (shown c.next.new.self) wires.NeedOutcome c.in-Ok-NeedOutcome.field-0 (to_z-of_z w64 c.now-moment.result fits) c.in-Ok-NeedOutcome.field-0-is c.in-Ok-NeedOutcome.ensures.exact)
-    refl refl refl c.now-moment.ensures
+    refl refl refl refl c.now-moment.ensures
 
 pub returns-in-Err-clause-went : goal.returns-in-Err-clause-went
 returns-in-Err-clause-went g c = λ nodes p s.
     not_turned (setting c.args.tables.now nodes) p (with_talk s (g.I.Source.left c.args.source.now) (g.I.Source.ended c.args.source.now) (g.O.Sink.taken c.args.sink.now)) causes.NoMemory (machine_in c.args.core.now) (machine_in c.args.core.now) (shown c.args.self.now.wire) (shown c.next.new.self) c.now-moment.result (steps.Lost causes.NoMemory)
-    (g.C.Clock.given c.args.clock.now) (g.C.Clock.given c.now-moment.new.self) tt refl refl refl c.now-moment.ensures
+    (g.C.Clock.given c.args.clock.now) (g.C.Clock.given c.now-moment.new.self) tt refl refl refl refl c.now-moment.ensures
 
 pub returns-in-Ok-NeedInput-clause-ends : goal.returns-in-Ok-NeedInput-clause-ends
 returns-in-Ok-NeedInput-clause-ends g c = λ p. c.exchange.ensures.ends p (machine_in c.args.core.now)
 
 pub returns-in-Ok-Close-clause-ends : goal.returns-in-Ok-Close-clause-ends
 returns-in-Ok-Close-clause-ends g c = λ p. c.close.ensures.ends p (machine_in c.args.core.now)
+
+pub returns-in-Ok-Order-clause-same : goal.returns-in-Ok-Order-clause-same
+returns-in-Ok-Order-clause-same g c = λ moment number is. handed_on c.in-Ok-Order.order (machine_in c.args.core.now) (machine_in c.take.new.core) c.take.result moment number c.take.ensures.taken is

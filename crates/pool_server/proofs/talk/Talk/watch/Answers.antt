@@ -1,5 +1,5 @@
 use Rattle.std.proofs.Common.{refl, inr, ◌∙◌}
-use Rattle.pool_server.specs.declared.end.EndCause.TheVariants as causes
+use Rattle.served_recovery.specs.declared.end.EndCause.TheVariants as causes
 use Rattle.pool_server.specs.declared.parting.Step.TheVariants as steps
 use Rattle.session_wire.specs.Shown.{shown}
 use Rattle.pool_server.specs.Sights.{with_reads, with_talk}
@@ -24,7 +24,7 @@ returns-then-not-flush-clause-went g c = λ w p m s freely.
     let here = talking p m (shown c.args.self.now.wire) in
     went_from w here here (talked p m (shown c.flush.new.self.wire) (steps.Lost causes.WriteFault)) (with_talk s (g.I.Source.left c.args.source.now) (g.I.Source.ended c.args.source.now) (g.O.Sink.taken c.args.sink.now)) (with_talk s (g.I.Source.left c.is_dismissed.new.self) (g.I.Source.ended c.is_dismissed.new.self) (g.O.Sink.taken c.args.sink.now)) (with_talk s (g.I.Source.left c.is_dismissed.new.self) (g.I.Source.ended c.is_dismissed.new.self) (g.O.Sink.taken c.flush.new.sink))
     refl (λ i. with_talk s ((c.is_dismissed.ensures.left ∙ c.is_gone.ensures.left) i) ((c.is_dismissed.ensures.ended ∙ c.is_gone.ensures.ended) i) (g.O.Sink.taken c.args.sink.now))
-    (wrote_front w p (with_reads s (g.I.Source.left c.is_dismissed.new.self) (g.I.Source.ended c.is_dismissed.new.self)) m (shown c.args.self.now.wire) (shown c.flush.new.self.wire) (g.O.Sink.taken c.args.sink.now) (g.O.Sink.taken c.flush.new.sink) (steps.Lost causes.WriteFault) (c.flush.ensures.front c.if-not-flush.true) (c.flush.ensures.same c.if-not-flush.true) refl refl)
+    (wrote_front w p (with_reads s (g.I.Source.left c.is_dismissed.new.self) (g.I.Source.ended c.is_dismissed.new.self)) m (shown c.args.self.now.wire) (shown c.flush.new.self.wire) (g.O.Sink.taken c.args.sink.now) (g.O.Sink.taken c.flush.new.sink) (steps.Lost causes.WriteFault) (c.flush.ensures.front c.if-not-flush.true) (c.flush.ensures.same c.if-not-flush.true) refl refl refl)
 
 pub returns-clause-went : goal.returns-clause-went
 returns-clause-went g c = λ w p m s freely.

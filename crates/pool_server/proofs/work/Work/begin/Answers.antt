@@ -1,5 +1,5 @@
 use Rattle.std.proofs.Common.{inl, refl}
-use Rattle.pool_server.proofs.Linking.{dropped_all}
+use Rattle.served_recovery.proofs.Linking.{dropped_all}
 use Rattle.pool_server.proofs.work.Work.begin.Goals as goal
 
 pub returns-then-is_other-clause-links : goal.returns-then-is_other-clause-links

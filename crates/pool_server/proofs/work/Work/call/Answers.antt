@@ -3,15 +3,15 @@ use Rattle.session_engine.specs.Cores.{machine_in}
 use Rattle.session_links.specs.Plans.{told_at}
 use Rattle.pool_server.specs.Deeds.{Unmade}
 use Rattle.pool_server.specs.Places.{call_due}
-use Rattle.pool_server.specs.Reaches.{reach}
-use Rattle.pool_server.proofs.Linking.{answered_so, held_stand, same_work}
+use Rattle.served_recovery.specs.Reach.{reach}
+use Rattle.served_recovery.proofs.Linking.{answered_so, held_stand, same_work}
 use Rattle.pool_server.proofs.Working.{called, called_due, holds, unseen, untried}
 use Rattle.pool_server.proofs.work.Work.call.Goals as goal
 
 pub returns-then-not-may_step-clause-went : goal.returns-then-not-may_step-clause-went
 returns-then-not-may_step-clause-went g c = λ w p s.
     untried w p s (Unmade c.args.call) (machine_in c.args.self.now.core) (g.G.GatePass.calls c.args.gate.now) (reach g.L.Link.pending g.L.Link.plan c.args.self.now.links.slots.items s.reach.plans (g.G.GatePass.stand c.args.gate.now))
-    (unseen refl refl refl (λ ended. refl)) (ap call_due (called_due _ _ c.requires)) (refl, refl) (sym c.may_step.ensures ∙ c.if-not-may_step.true, refl) refl
+    (unseen refl refl refl (λ ended. refl)) (ap call_due (called_due _ _ c.requires)) (refl, refl) ((g.G.GatePass.shown c.args.gate.now, sym c.may_step.ensures ∙ c.if-not-may_step.true), refl) refl
 
 pub returns-in-Held-clause-went : goal.returns-in-Held-clause-went
 returns-in-Held-clause-went g c = λ w p s.

@@ -1,6 +1,6 @@
 use Rattle.session_engine.specs.Cores.{machine_in}
-use Rattle.pool_server.specs.Reaches.{reach}
-use Rattle.pool_server.proofs.Linking.{answered_so}
+use Rattle.served_recovery.specs.Reach.{reach}
+use Rattle.served_recovery.proofs.Linking.{answered_so}
 use Rattle.pool_server.proofs.Working.{detached}
 use Rattle.pool_server.proofs.work.Work.detach.Goals as goal
 

@@ -1,7 +1,7 @@
 use Rattle.std.proofs.Common.{true, inl, refl, subst, sym}
 use Rattle.pool_base.specs.declared.gate_call.GateCall.{GateCall}
 use Rattle.session_links.specs.Plans.{told_at}
-use Rattle.pool_server.specs.Reaches.{KeepsAt}
+use Rattle.served_recovery.specs.Reach.{KeepsAt}
 use Rattle.pool_server.proofs.work.Work.entered.Goals as goal
 
 pub returns-in-EnterSnapshot-clause-links : goal.returns-in-EnterSnapshot-clause-links

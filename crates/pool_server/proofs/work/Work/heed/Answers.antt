@@ -2,7 +2,7 @@ use Rattle.std.proofs.Common.{refl, sym, ◌∙◌, subst}
 use Rattle.std.specs.Prelude.{Option}
 use Rattle.pool_base.specs.declared.gate_call.View.{View}
 use Rattle.session_links.specs.Plans.{told_at}
-use Rattle.pool_server.specs.Reaches.{Keeps}
+use Rattle.served_recovery.specs.Reach.{Keeps}
 use Rattle.pool_server.proofs.work.Work.heed.Goals as goal
 
 pub returns-in-Some-clause-keeps : goal.returns-in-Some-clause-keeps

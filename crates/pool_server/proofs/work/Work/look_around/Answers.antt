@@ -1,5 +1,5 @@
 use Rattle.std.proofs.Common.{refl, inl}
-use Rattle.pool_server.proofs.Linking.{given_so}
+use Rattle.served_recovery.proofs.Linking.{given_so}
 use Rattle.pool_server.proofs.work.Work.look_around.Goals as goal
 
 pub returns-then-hangs-clause-peeked : goal.returns-then-hangs-clause-peeked

@@ -1,7 +1,7 @@
 use Rattle.std.proofs.Common.{refl, inr, sym, ◌∙◌, subst}
 use Rattle.std.specs.Prelude.{Bool}
-use Rattle.pool_server.specs.Reaches.{PeeksBy, reach}
-use Rattle.pool_server.proofs.Linking.{given_so, looked_stand, same_work}
+use Rattle.served_recovery.specs.Reach.{PeeksBy, reach}
+use Rattle.served_recovery.proofs.Linking.{given_so, looked_stand, same_work}
 use Rattle.pool_server.proofs.work.Work.peek.Goals as goal
 
 pub returns-then-is_away-clause-peeked : goal.returns-then-is_away-clause-peeked

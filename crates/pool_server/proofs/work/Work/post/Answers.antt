@@ -1,7 +1,7 @@
 use Rattle.std.proofs.Common.{refl, sym, ◌∙◌}
 use Rattle.session_engine.specs.Cores.{machine_in}
 use Rattle.pool_server.specs.Deeds.{Unasked}
-use Rattle.pool_server.specs.Reaches.{reach}
+use Rattle.served_recovery.specs.Reach.{reach}
 use Rattle.pool_server.specs.Sights.{with_work}
 use Rattle.pool_server.proofs.Working.{due_post, unseen, untried}
 use Rattle.pool_server.proofs.work.Work.post.Goals as goal

@@ -1,11 +1,11 @@
 use Rattle.std.proofs.Common.{refl}
 use Rattle.session_engine.specs.Cores.{machine_in}
 use Rattle.pool_server.specs.Places.{with_machine}
-use Rattle.pool_server.specs.Reaches.{reach}
+use Rattle.served_recovery.specs.Reach.{reach}
 use Rattle.pool_server.specs.Sights.{with_work}
 use Rattle.pool_server.specs.Servings.{stepped}
 use Rattle.pool_server.proofs.Going.{went_on}
-use Rattle.pool_server.proofs.Linking.{told_else}
+use Rattle.served_recovery.proofs.Linking.{told_else}
 use Rattle.pool_server.proofs.Working.{posted, unposted}
 use Rattle.pool_server.proofs.work.Work.put.Goals as goal
 

@@ -1,4 +1,4 @@
-use Rattle.pool_server.proofs.Linking.{kept_among}
+use Rattle.served_recovery.proofs.Linking.{kept_among}
 use Rattle.pool_server.proofs.work.Work.regard.Goals as goal
 
 pub returns-clause-keeps : goal.returns-clause-keeps

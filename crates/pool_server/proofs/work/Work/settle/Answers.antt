@@ -1,5 +1,5 @@
 use Rattle.std.proofs.Common.{refl, ◌∙◌}
-use Rattle.pool_server.proofs.Linking.{settled}
+use Rattle.served_recovery.proofs.Linking.{settled}
 use Rattle.pool_server.proofs.work.Work.settle.Goals as goal
 
 pub loop-number-preserved : goal.loop-number-preserved

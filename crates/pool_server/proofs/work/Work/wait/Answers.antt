@@ -3,11 +3,11 @@ use Rattle.session_engine.specs.Cores.{machine_in}
 use Rattle.session_links.specs.Plans.{Told, awaits}
 use Rattle.pool_server.specs.Places.{with_machine}
 use Rattle.pool_server.specs.Deeds.{Unawaited}
-use Rattle.pool_server.specs.Reaches.{reach}
+use Rattle.served_recovery.specs.Reach.{reach}
 use Rattle.pool_server.specs.Sights.{with_work}
 use Rattle.pool_server.specs.Servings.{stepped}
 use Rattle.pool_server.proofs.Going.{went_from}
-use Rattle.pool_server.proofs.Linking.{heard_so, lost_so, same_work, settled}
+use Rattle.served_recovery.proofs.Linking.{heard_so, lost_so, same_work, settled}
 use Rattle.pool_server.proofs.Working.{missed_link, peeks, took_so, unseen, untried, waited_due}
 use Rattle.pool_server.proofs.work.Work.wait.Goals as goal
 
