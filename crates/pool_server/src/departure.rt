@@ -13,9 +13,9 @@ ghost use Rattle.pool_server.specs.Causes.{in_answer, in_parting, in_step, is_cu
 use crate::end::EndCause;
 use crate::parting::{Parting, Step};
 use crate::session::Session;
-use backend_trait::Link;
+use session_links::EarlyLink;
 
-impl<L: Link> Session<L> {
+impl<L: EarlyLink> Session<L> {
     /// Where a step leads.
     pub fn behind(&mut self, step: Step, is_cut: bool) -> Option<EndCause>
         requires ends { EndsIn step (standing_by (machine_in self.old.work.core)

@@ -18,11 +18,10 @@ use crate::outside::{ClientSource, GatePass, Notices};
 use crate::parting::Parting;
 use crate::session::Session;
 use crate::way_out::come_out;
-use backend_trait::Link;
 use catalogue::Catalogue;
 use pool_base::{Clock, NoMemory, SessionId, Sink};
 use pool_config::Config;
-use session_links::LinkMaker;
+use session_links::{EarlyLink, LinkMaker};
 use std::alloc::Global;
 
 /// What a session talks with: its client, what makes its links, the clock, its pass at the gate,
@@ -92,7 +91,7 @@ fn run<L, I, O, M, C, G, N>(
     s: SessionId,
 ) -> EndCause
 where
-    L: Link,
+    L: EarlyLink,
     I: ClientSource,
     O: Sink,
     M: LinkMaker<L = L>,
@@ -133,7 +132,7 @@ fn steps<L, I, O, M, C, G, N>(
     tables: &Catalogue,
 ) -> EndCause
 where
-    L: Link,
+    L: EarlyLink,
     I: ClientSource,
     O: Sink,
     M: LinkMaker<L = L>,

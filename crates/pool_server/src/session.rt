@@ -37,18 +37,17 @@ use crate::policy::policy_of;
 use crate::serve::Around;
 use crate::talk::Talk;
 use crate::work::Work;
-use backend_trait::Link;
 use catalogue::Catalogue;
 use pool_base::{BackendId, Clock, NoMemory, SessionId, Sink};
 use pool_config::Config;
 use session_engine::{Ask, Due, Standing};
-use session_links::LinkMaker;
+use session_links::{EarlyLink, LinkMaker};
 use session_machine::{GatePhase, Status, may_stop};
 use std::alloc::Global;
 
 /// One session.
 #[derive(Drop)]
-pub(crate) struct Session<L: Link> {
+pub(crate) struct Session<L: EarlyLink> {
     pub talk: Talk,
     pub work: Work<L>,
     pub parting: Parting,
@@ -65,7 +64,7 @@ const FIRST_LOOK: u32 = 80;
 /// How many pass between two such looks: a second.
 const BETWEEN: u32 = 20;
 
-impl<L: Link> Session<L> {
+impl<L: EarlyLink> Session<L> {
     /// A session whose client has sent nothing yet.
     pub fn new(alloc: Global, s: SessionId, config: &Config) -> Result<Session<L>, NoMemory>
         ensures parting { IfOk result (λ session. session.parting ≡ Parting.No) }

@@ -2,12 +2,16 @@
 //! time, and dropped at its loss.
 #![tactic(auto)]
 
+mod early;
+mod early_slot;
+mod foretelling;
 mod links;
 mod loss;
 mod maker;
 mod slot;
 mod verdict;
 
+pub use early::EarlyLink;
 pub use links::Links;
 pub use loss::Loss;
 pub use maker::{Connected, LinkMaker};

@@ -4,6 +4,7 @@ ghost use Rattle.pool_base.specs.Sets.{has};
 ghost use Rattle.session_links.specs.Plans.{IsHeard, Puts, awaits, given_up, told_at};
 ghost use Rattle.session_links.specs.Slots.{IsFound, IsSent, are_sound, is_awaited, is_sound, kept_at, request_in, slot_at};
 
+use crate::early::EarlyLink;
 use crate::maker::LinkMaker;
 use crate::slot::{Found, Sent, Slot, given_up, look, put, settled};
 use backend_trait::{Link, Request};
@@ -15,12 +16,12 @@ use std::mem;
 /// The links of one session.
 #[derive(Drop)]
 pub struct Links<L: Link> {
-    slots: Vec<Slot<L>>,
+    pub(crate) slots: Vec<Slot<L>>,
     ghost eight: { length slots.items ≡ 8 },
     ghost sound: { are_sound L.pending slots.items ≡ true },
 }
 
-impl<L: Link> Links<L> {
+impl<L: EarlyLink> Links<L> {
     /// No link to any backend.
     pub fn new(alloc: Global) -> Result<Links<L>, NoMemory>
         ensures { IfOk result (λ links. links.slots.items ≡ replicate 8 Slot.Empty) }
@@ -49,7 +50,7 @@ impl<L: Link> Links<L> {
         )
     }
 
-    fn take(&mut self, b: BackendId) -> Slot<L>
+    pub(crate) fn take(&mut self, b: BackendId) -> Slot<L>
         ensures is { result ≡ slot_at self.old.slots.items b.number }
         ensures sound { is_sound L.pending result ≡ true }
         ensures rest { self.new.slots.items ≡ set self.old.slots.items b.number Slot.Empty }
@@ -57,7 +58,7 @@ impl<L: Link> Links<L> {
         mem::replace(&mut self.slots[b.number as usize], Slot::Empty)
     }
 
-    fn put_back(&mut self, b: BackendId, slot: Slot<L>)
+    pub(crate) fn put_back(&mut self, b: BackendId, slot: Slot<L>)
         requires { is_sound L.pending slot ≡ true }
         ensures { self.new.slots.items ≡ set self.old.slots.items b.number slot }
     {

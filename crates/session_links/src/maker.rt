@@ -3,7 +3,7 @@ ghost use Rattle.std.specs.Prelude.{◌≡◌, ◌≤◌, ℕ, List, Option, Non
 ghost use Rattle.pool_base.specs.Outside.{Rose};
 ghost use Rattle.session_links.specs.Plans.{Makes, MakesNone, Plan};
 
-use backend_trait::Link;
+use crate::early::EarlyLink;
 use pg_messages::Pair;
 use pool_base::BackendId;
 
@@ -21,7 +21,7 @@ pub enum Connected<L: Drop> {
 /// What makes links to the backends. `plans` are the links that it is still to make, where it tells
 /// them, each with the exchanges that it is to give.
 pub trait LinkMaker {
-    type L: Link;
+    type L: EarlyLink;
 
     ghost fault_count: { Self → ℕ };
 

@@ -4,3 +4,4 @@ pub mod Links
 pub mod Connections
 pub mod Users
 pub mod Makings
+pub mod Early
