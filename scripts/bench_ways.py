@@ -3,6 +3,7 @@ import glob
 import os
 import re
 import shutil
+import signal
 import subprocess
 import sys
 import time
@@ -34,7 +35,18 @@ class Relay:
 
     def __init__(self, program, words, ports):
         self.port = free_port()
-        self.child = subprocess.Popen([program, *words, str(self.port), *map(str, ports)], stdin=subprocess.DEVNULL)
+        self.words = [program, *words, str(self.port), *map(str, ports)]
+        self.start()
+
+    def start(self):
+        """Starts the relay."""
+        self.child = subprocess.Popen(self.words, stdin=subprocess.DEVNULL)
+
+    def again(self):
+        """Starts it anew, where clients of it came to no end."""
+        self.stop()
+        self.start()
+        time.sleep(0.3)
 
     def stop(self):
         """Ends the relay."""
@@ -77,15 +89,24 @@ class Pgpool:
             settings |= {f"backend_flag{number}": "ALLOW_TO_FAILOVER"}
         with open(f"{self.folder}/pgpool.conf", "w", encoding="utf-8") as file:
             file.writelines(f"{name} = '{value}'\n" for name, value in settings.items())
-        user = as_user()
-        if user:
+        self.user = as_user()
+        if self.user:
             for name in (self.folder, f"{self.folder}/pgpool.conf"):
-                os.chown(name, user["user"], user["group"])
-        self.log = open(f"{self.folder}/log", "wb")
-        words = [shutil.which("pgpool") or "/usr/sbin/pgpool", "-n", "-f", f"{self.folder}/pgpool.conf"]
-        given = {"cwd": self.folder, "stdin": subprocess.DEVNULL, "stdout": self.log, "stderr": self.log, **user}
-        self.child = subprocess.Popen(words, **given)
+                os.chown(name, self.user["user"], self.user["group"])
+        self.start()
+
+    def start(self):
+        """Starts Pgpool-II, in a group of processes of its own."""
+        self.log = open(f"{self.folder}/log", "ab")
+        words = [shutil.which("pgpool") or "/usr/sbin/pgpool", "-n", "-D", "-f", f"{self.folder}/pgpool.conf"]
+        given = {"cwd": self.folder, "stdin": subprocess.DEVNULL, "stdout": self.log, "stderr": self.log, **self.user}
+        self.child = subprocess.Popen(words, start_new_session=True, **given)
         self.wait()
+
+    def again(self):
+        """Starts it anew, where clients of it came to no end."""
+        self.stop()
+        self.start()
 
     def wait(self):
         """Waits until it answers."""
@@ -104,7 +125,7 @@ class Pgpool:
         try:
             self.child.wait(10)
         except subprocess.TimeoutExpired:
-            self.child.kill()
+            os.killpg(self.child.pid, signal.SIGKILL)
             self.child.wait()
         self.log.close()
 

@@ -4,7 +4,8 @@ use Rattle.std.specs.Prelude.{ℤ, Option, Some, None}
 use Rattle.std.proofs.lemmas.List.{append-nil}
 use Rattle.pool_base.specs.Outside.{Appends, Gives}
 use Rattle.pool_base.proofs.Sinking.{appends_nothing, appends_on}
-use Rattle.pool_server.specs.Deeds.{Call, Deed}
+use Rattle.served_recovery.specs.Calls.{Call}
+use Rattle.pool_server.specs.Deeds.{Deed}
 use Rattle.pool_server.specs.Places.{Setting, Place, Comes, Runs}
 use Rattle.pool_server.specs.Reaches.{DeedAt, Reach, Reaches}
 use Rattle.pool_server.specs.Sights.{Seen, Shows, Went, calls_by, ended_behind, ends_by, moments_by, parts, read_by, written_by}

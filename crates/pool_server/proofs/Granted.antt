@@ -7,7 +7,7 @@ use Rattle.snapshot_gate.specs.declared.state.GateState.{GateState}
 use Rattle.snapshot_gate.specs.Function.{step}
 use Rattle.shared_gate.specs.declared.history.Entry.{Entry}
 use Rattle.shared_gate.specs.History.{state_after, IsReplay, Known, Made, entry, is_grant}
-use Rattle.pool_server.specs.Passes.{is_leave}
+use Rattle.served_recovery.specs.Passes.{is_leave}
 
 -- the last answer of a history is that of the gate
 pub last_answer : (s : GateState) (log : List Entry) (e : Entry) → IsReplay s (log ++ e ∷ []) → (step (state_after s log) e.call).1 ≡ e.answer

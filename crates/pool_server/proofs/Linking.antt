@@ -11,7 +11,7 @@ use Rattle.pool_base.specs.declared.gate_call.GateAnswer.TheVariants as answers
 use Rattle.backend_trait.specs.declared.request.Request.{Request}
 use Rattle.backend_trait.specs.declared.answer.Answer.{Answer}
 use Rattle.backend_trait.specs.Exchanges.{Exchange}
-use Rattle.shared_gate.specs.History.{Stand, stand_next}
+use Rattle.served_recovery.specs.Passes.{Station, station_next}
 use Rattle.session_links.specs.declared.slot.Slot.{Slot}
 use Rattle.session_links.specs.declared.slot.Slot.TheVariants.{Empty}
 use Rattle.session_links.specs.declared.slot.Found.TheVariants as founds
@@ -32,18 +32,18 @@ same_told old new is = λ i. λ c. is c i
 pub same_reach : (old new : Reach) (b : ℕ) → new.at b ≡ old.at b → ((c : ℕ) → c ≢ b → new.at c ≡ old.at c) → new.plans ≡ old.plans → new.stand ≡ old.stand → new ≡ old
 same_reach old new b is others plans stand = λ i. record { at = λ c. same_at old.at new.at b is others c i; plans = plans i; stand = stand i }
 
-abbrev pub reached : (ℕ → Told) → Option (List Plan) → Stand → Reach
+abbrev pub reached : (ℕ → Told) → Option (List Plan) → Station → Reach
 reached at plans stand = record { at = at; plans = plans; stand = stand }
 
-pub same_work : (at later : ℕ → Told) (plans : Option (List Plan)) (stand after : Stand) → later ≡ at → after ≡ stand
+pub same_work : (at later : ℕ → Told) (plans : Option (List Plan)) (stand after : Station) → later ≡ at → after ≡ stand
     → reached later plans after ≡ reached at plans stand
 same_work at later plans stand after one two = λ i. record { at = one i; plans = plans; stand = two i }
 
 -- a call that is held leaves the pass where it stands, and so does a look
-pub held_stand : (stand new later : Stand) (call : GateCall) (answer : GateAnswer) (count : ℕ) → answer ≡ answers.Held count → new ≡ stand_next stand call answer → later ≡ new → later ≡ stand
-held_stand stand new later call answer count held leads kept = kept ∙ (leads ∙ ap (stand_next stand call) held)
+pub held_stand : (stand new later : Station) (call : GateCall) (answer : GateAnswer) (count : ℕ) → answer ≡ answers.Held count → new ≡ station_next stand call answer → later ≡ new → later ≡ stand
+held_stand stand new later call answer count held leads kept = kept ∙ (leads ∙ ap (station_next stand call) held)
 
-pub looked_stand : (stand new : Stand) (answer : GateAnswer) → new ≡ stand_next stand gatecalls.Look answer → new ≡ stand
+pub looked_stand : (stand new : Station) (answer : GateAnswer) → new ≡ station_next stand gatecalls.Look answer → new ≡ stand
 looked_stand stand new (answers.Seen view) leads = leads
 looked_stand stand new (answers.Granted view) leads = leads
 looked_stand stand new (answers.Held count) leads = leads
@@ -79,7 +79,7 @@ gone_given (Linked None plan) is = absurd (cc)
 gone_given (Linked (Some request) plan) is = refl
 
 -- the gate has answered, and its answer was heeded
-pub answered_so : (at mid later : ℕ → Told) (plans : Option (List Plan)) (call : GateCall) (answer : GateAnswer) (stand after : Stand) → Keeps call (view_in answer) at mid → later ≡ mid → after ≡ stand_next stand call answer
+pub answered_so : (at mid later : ℕ → Told) (plans : Option (List Plan)) (call : GateCall) (answer : GateAnswer) (stand after : Station) → Keeps call (view_in answer) at mid → later ≡ mid → after ≡ station_next stand call answer
     → IsAnswered call answer (reached at plans stand) (reached later plans after)
 answered_so at mid later plans call answer stand after keeps same leads = record { keeps = subst (λ (t : ℕ → Told). Keeps call (view_in answer) at t) (sym same) keeps; plans = refl; stand = leads }
 
@@ -123,13 +123,13 @@ module _ {L : Type 0} (pending : L → Option Request) (plan : L → Option (Lis
   dropped_all bits old new kept dropped c below = dropped_by bits c (has bits c) old new refl kept (dropped c below)
 
   -- what is awaited of a backend is waited for no longer
-  pub given_so : (old new : List (Slot L)) (plans : Option (List Plan)) (b : BackendId) (stand after : Stand) → awaits (told_at pending plan old b.number) ≡ true
+  pub given_so : (old new : List (Slot L)) (plans : Option (List Plan)) (b : BackendId) (stand after : Station) → awaits (told_at pending plan old b.number) ≡ true
       → told_at pending plan new b.number ≡ given_up (told_at pending plan old b.number) → ((c : ℕ) → c ≢ b.number → slot_at new c ≡ slot_at old c) → after ≡ stand
       → IsGivenUp b (reach pending plan old plans stand) (reach pending plan new plans after)
   given_so old new plans b stand after there gives others kept = (there, (gives ∙ gone_given (told_at pending plan old b.number) there, (told_else old new b.number others, (refl, kept))))
 
   -- an answer of a backend, and the loss of its link, that a look has found
-  pub heard_so : (old new later : List (Slot L)) (plans : Option (List Plan)) (b : BackendId) (answer : Answer) (stand : Stand) → IsHeard (founds.Answered answer) (told_at pending plan old b.number) (told_at pending plan new b.number)
+  pub heard_so : (old new later : List (Slot L)) (plans : Option (List Plan)) (b : BackendId) (answer : Answer) (stand : Station) → IsHeard (founds.Answered answer) (told_at pending plan old b.number) (told_at pending plan new b.number)
       → ((c : ℕ) → c ≢ b.number → slot_at new c ≡ slot_at old c) → told_at pending plan later ≡ told_at pending plan new → IsTaken b answer (reach pending plan old plans stand) (reach pending plan later plans stand)
   heard_so old new later plans b answer stand (request, plan-told, left, asked, spends, rests) others same = record {
     request = request;
@@ -140,7 +140,7 @@ module _ {L : Type 0} (pending : L → Option Request) (plan : L → Option (Lis
     rests = (ap (λ (t : ℕ → Told). t b.number) same ∙ rests, ((λ c other. ap (λ (t : ℕ → Told). t c) same ∙ told_else old new b.number others c other), (refl, refl)));
   }
 
-  pub lost_so : (old new later : List (Slot L)) (plans : Option (List Plan)) (b : BackendId) (stand : Stand) → IsOver (told_at pending plan old b.number) × (told_at pending plan new b.number ≡ NoLink)
+  pub lost_so : (old new later : List (Slot L)) (plans : Option (List Plan)) (b : BackendId) (stand : Station) → IsOver (told_at pending plan old b.number) × (told_at pending plan new b.number ≡ NoLink)
       → ((c : ℕ) → c ≢ b.number → slot_at new c ≡ slot_at old c) → told_at pending plan later ≡ told_at pending plan new → IsLost b (reach pending plan old plans stand) (reach pending plan later plans stand)
   lost_so old new later plans b stand (over, none) others same =
       (over, (ap (λ (t : ℕ → Told). t b.number) same ∙ none, ((λ c other. ap (λ (t : ℕ → Told). t c) same ∙ told_else old new b.number others c other), (refl, refl))))

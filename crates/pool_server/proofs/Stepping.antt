@@ -18,15 +18,16 @@ use Rattle.session_engine.specs.declared.ask.Ask.TheVariants as asks
 use Rattle.session_engine.specs.Handing.{asked_of, handed}
 use Rattle.session_wire.specs.Shown.{IsFresh, View}
 use Rattle.session_links.specs.Plans.{Told}
-use Rattle.pool_server.specs.declared.end.EndCause.{EndCause}
-use Rattle.pool_server.specs.declared.end.EndCause.TheVariants as causes
+use Rattle.served_recovery.specs.declared.end.EndCause.{EndCause}
+use Rattle.served_recovery.specs.declared.end.EndCause.TheVariants as causes
 use Rattle.pool_server.specs.declared.parting.Step.{Step}
 use Rattle.pool_server.specs.declared.parting.Step.TheVariants as steps
 use Rattle.pool_server.specs.declared.parting.Parting.{Parting}
 use Rattle.pool_server.specs.declared.parting.Parting.TheVariants as partings
 use Rattle.pool_server.specs.Causes.{in_answer, in_parting, in_step}
-use Rattle.pool_server.specs.Passes.{is_leave}
-use Rattle.pool_server.specs.Deeds.{Call, Deed, Does, Loses, Miss, Plainly, Unbidden}
+use Rattle.served_recovery.specs.Passes.{is_leave}
+use Rattle.served_recovery.specs.Calls.{Call}
+use Rattle.pool_server.specs.Deeds.{Deed, Does, Loses, Miss, Plainly, Unbidden}
 use Rattle.pool_server.specs.Places.{CausesMiss, Misses, Setting, Place, at_moment, first_loss, place}
 use Rattle.pool_server.specs.Reaches.{DeedAt}
 use Rattle.pool_server.specs.Sights.{Seen, Shows, Went, calls_by, ends_by, moments_by, read_by, with_links, written_by}

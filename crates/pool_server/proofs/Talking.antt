@@ -27,8 +27,8 @@ use Rattle.session_wire.specs.declared.wire.WireStep.{WireStep}
 use Rattle.session_wire.specs.declared.wire.WireStep.TheVariants as wires
 use Rattle.session_wire.specs.Shown.{View, with_end, with_piece, with_written}
 use Rattle.session_wire.specs.Steps.{IsNext}
-use Rattle.pool_server.specs.declared.end.EndCause.{EndCause}
-use Rattle.pool_server.specs.declared.end.EndCause.TheVariants as causes
+use Rattle.served_recovery.specs.declared.end.EndCause.{EndCause}
+use Rattle.served_recovery.specs.declared.end.EndCause.TheVariants as causes
 use Rattle.pool_server.specs.declared.parting.Step.{Step}
 use Rattle.pool_server.specs.declared.parting.Step.TheVariants as steps
 use Rattle.pool_server.specs.Deeds.{Deed, Reads, ReadsEnd, Turns, Writes, Does, Loses, Miss, Plainly, Behind, Farewell, Unfed, Unturned, Untaken, Untold}

@@ -23,14 +23,15 @@ use Rattle.session_machine.specs.Rules.{after, next_action}
 use Rattle.session_engine.specs.declared.ask.Ask.{Ask}
 use Rattle.session_engine.specs.declared.ask.Ask.TheVariants as asks
 use Rattle.session_engine.specs.Handing.{asked_of, gate_event, Detaches, Posts}
-use Rattle.pool_server.specs.declared.end.EndCause.{EndCause}
-use Rattle.pool_server.specs.declared.end.EndCause.TheVariants as causes
+use Rattle.served_recovery.specs.declared.end.EndCause.{EndCause}
+use Rattle.served_recovery.specs.declared.end.EndCause.TheVariants as causes
 use Rattle.pool_server.specs.declared.parting.Step.{Step}
 use Rattle.pool_server.specs.declared.parting.Step.TheVariants as steps
 use Rattle.session_links.specs.declared.slot.Sent.TheVariants as sents
 use Rattle.session_links.specs.Plans.{Linked, Puts}
 use Rattle.session_links.specs.Rising.{has_risen}
-use Rattle.pool_server.specs.Deeds.{Call, made, Deed, Does, Holds, Peeks, Connects, GivesUp, Loses, Miss, Plainly, Unheard, Unused, Severed, TurnedAway}
+use Rattle.served_recovery.specs.Calls.{Call, made}
+use Rattle.pool_server.specs.Deeds.{Deed, Does, Holds, Peeks, Connects, GivesUp, Loses, Miss, Plainly, Unheard, Unused, Severed, TurnedAway}
 use Rattle.pool_server.specs.Places.{Setting, Place, with_machine, Moves, IsHeard, CausesMiss, Comes, Fails, Misses, call_due, first_loss, leaves_at}
 use Rattle.pool_server.specs.Reaches.{Reach, DeedAt, EventAt, IsAnswered, IsLost, IsMade, IsPosted, IsTaken, MissAt}
 use Rattle.pool_server.specs.Sights.{Seen, Shows, Went, with_work, calls_at, calls_by, ends_by, moments_by, read_by, written_by}

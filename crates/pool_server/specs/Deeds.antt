@@ -9,15 +9,7 @@ use Rattle.session_orders.specs.declared.outcome.Outcome.{Outcome}
 use Rattle.session_machine.specs.declared.status.Status.{Status}
 use Rattle.session_machine.specs.declared.action.SessionEvent.{SessionEvent}
 use Rattle.session_wire.specs.declared.wire.WireStep.{WireStep}
-use Rattle.pool_server.specs.declared.end.EndCause.{EndCause}
-
--- a call of the gate with its answer
-pub record Call : Type 0 where
-  pub call : GateCall
-  pub answer : GateAnswer
-
-abbrev pub made : GateCall → GateAnswer → Call
-made call answer = record { call = call; answer = answer }
+use Rattle.served_recovery.specs.declared.end.EndCause.{EndCause}
 
 -- what was under way where a session lost its client, or was stopped
 pub data Miss : Type 0 where

@@ -29,8 +29,8 @@ use Rattle.session_wire.specs.Shown.{View, frame_of, with_end, with_piece, with_
 use Rattle.session_wire.specs.Steps.{IsNext}
 use Rattle.pool_base.specs.Outside.{Rose}
 use Rattle.pool_server.specs.Breaks.{SeversAt, OpensAt, turns_away}
-use Rattle.pool_server.specs.declared.end.EndCause.{EndCause}
-use Rattle.pool_server.specs.declared.end.EndCause.TheVariants as causes
+use Rattle.served_recovery.specs.declared.end.EndCause.{EndCause}
+use Rattle.served_recovery.specs.declared.end.EndCause.TheVariants as causes
 use Rattle.pool_server.specs.Farewells.{farewell}
 use Rattle.pool_server.specs.Deeds.{Deed, Reads, ReadsEnd, Turns, Writes, Does, Holds, Peeks, Connects, GivesUp, Loses, Miss, Plainly, Unbidden, Behind, Farewell, Unfed, Unturned, Untaken, Untold, Unheard, Unmade, Unasked, Unawaited, Unused, Severed, TurnedAway}
 

@@ -3,6 +3,7 @@
 use Rattle.std.specs.Prelude.{◌≡◌, ◌≢◌, ◌⊎◌, ℕ, ◌<◌, Bool, true, false, not, List, [], ◌∷◌, Option, Some, None}
 use Rattle.pool_base.specs.Sets.{has}
 use Rattle.pool_base.specs.declared.backend_id.BackendId.{BackendId}
+use Rattle.pool_base.specs.declared.backend_set.BackendSet.{BackendSet}
 use Rattle.pool_base.specs.declared.gate_call.View.{View}
 use Rattle.pool_base.specs.declared.gate_call.GateCall.{GateCall}
 use Rattle.pool_base.specs.declared.gate_call.GateCall.TheVariants as gatecalls
@@ -11,25 +12,24 @@ use Rattle.pool_base.specs.declared.gate_call.GateAnswer.TheVariants as answers
 use Rattle.backend_trait.specs.declared.request.Request.{Request}
 use Rattle.backend_trait.specs.declared.answer.Answer.{Answer}
 use Rattle.backend_trait.specs.Exchanges.{Exchange, Spends}
-use Rattle.shared_gate.specs.History.{Stand, stand_next}
 use Rattle.session_machine.specs.declared.action.SessionEvent.{SessionEvent}
 use Rattle.session_machine.specs.declared.action.SessionEvent.TheVariants as events
 use Rattle.session_links.specs.declared.slot.Slot.{Slot}
 use Rattle.session_links.specs.Plans.{Plan, Makes, MakesNone, Told, NoLink, Gone, Linked, IsOver, awaits, told_at}
-use Rattle.pool_server.specs.Passes.{may_make}
+use Rattle.served_recovery.specs.Passes.{Station, may_make, station_next}
 use Rattle.pool_server.specs.Deeds.{Deed, Reads, ReadsEnd, Turns, Writes, Does, Holds, Peeks, Connects, GivesUp, Loses, Miss, Plainly, Unbidden, Behind, Unfed, Unturned, Untaken, Untold, Unheard, Unmade, Unasked, Unawaited, Unused, Severed, TurnedAway}
 
 -- what is told of the link to each backend, by its number; the links that are still to be made; and where the pass stands at the gate
 pub record Reach : Type 0 where
   pub at : ℕ → Told
   pub plans : Option (List Plan)
-  pub stand : Stand
+  pub stand : Station
 
-abbrev pub reach : {L : Type 0} → (L → Option Request) → (L → Option (List Exchange)) → List (Slot L) → Option (List Plan) → Stand → Reach
+abbrev pub reach : {L : Type 0} → (L → Option Request) → (L → Option (List Exchange)) → List (Slot L) → Option (List Plan) → Station → Reach
 reach pending plan slots plans stand = record { at = told_at pending plan slots; plans = plans; stand = stand }
 
 -- without a link
-abbrev pub alone : Option (List Plan) → Stand → Reach
+abbrev pub alone : Option (List Plan) → Station → Reach
 alone plans stand = record { at = λ b. NoLink; plans = plans; stand = stand }
 
 -- The links.
@@ -94,7 +94,7 @@ Keeps call (Some view) old new = (c : ℕ) → c < 8 → KeepsAt call (has view.
 pub record IsAnswered (call : GateCall) (answer : GateAnswer) (old new : Reach) : Type 0 where
   pub keeps : Keeps call (view_in answer) old.at new.at
   pub plans : new.plans ≡ old.plans
-  pub stand : new.stand ≡ stand_next old.stand call answer
+  pub stand : new.stand ≡ station_next old.stand call answer
 
 -- an answer shows that a backend is attached no more
 abbrev pub is_away : BackendId → GateAnswer → Bool
@@ -120,7 +120,7 @@ EventAt event old new = new ≡ old
 
 abbrev pub MissAt : Miss → Reach → Reach → Type 0
 MissAt (Unheard call answer) old new = IsAnswered call answer old new
-MissAt (Unmade call) old new = (may_make old.stand call ≡ false) × (new ≡ old)
+MissAt (Unmade call) old new = ((shown : Option BackendSet) × (may_make old.stand shown call ≡ false)) × (new ≡ old)
 MissAt (Unasked b) old new = (awaits (old.at b.number) ≡ true) × (new ≡ old)
 MissAt (Unawaited b) old new = (awaits (old.at b.number) ≡ false) × (new ≡ old)
 MissAt (Unused b answer) old new = IsTaken b answer old new

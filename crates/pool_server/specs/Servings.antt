@@ -12,7 +12,6 @@ use Rattle.session_links.specs.Plans.{Told}
 use Rattle.session_orders.specs.declared.order.Order.{Order}
 use Rattle.session_orders.specs.declared.order.OrderBody.{OrderBody}
 use Rattle.session_orders.specs.declared.order.OrderBody.TheVariants as orders
-use Rattle.shared_gate.specs.History.{Stand}
 use Rattle.session_machine.specs.declared.action.SessionEvent.{SessionEvent}
 use Rattle.session_machine.specs.declared.action.SessionEvent.TheVariants as events
 use Rattle.session_machine.specs.declared.machine.Machine.{Machine}
@@ -22,16 +21,16 @@ use Rattle.session_machine.specs.declared.action.Action.TheVariants as actions
 use Rattle.session_machine.specs.Rules.{after, new_machine, next_action}
 use Rattle.session_wire.specs.declared.wire.Stage.TheVariants.{Closed}
 use Rattle.session_wire.specs.Shown.{View, IsFresh, with_piece, with_end}
-use Rattle.pool_server.specs.declared.end.EndCause.{EndCause}
-use Rattle.pool_server.specs.declared.end.EndCause.TheVariants as causes
+use Rattle.served_recovery.specs.declared.end.EndCause.{EndCause}
+use Rattle.served_recovery.specs.declared.end.EndCause.TheVariants as causes
 use Rattle.pool_server.specs.declared.parting.Step.{Step}
 use Rattle.pool_server.specs.declared.parting.Step.TheVariants as steps
 use Rattle.pool_server.specs.declared.parting.Parting.{Parting}
 use Rattle.pool_server.specs.declared.parting.Parting.TheVariants as partings
 use Rattle.pool_server.specs.Breaks.{SeversAt, OpensAt, turns_away}
 use Rattle.pool_server.specs.Farewells.{farewell}
-use Rattle.pool_server.specs.Passes.{is_leave}
-use Rattle.pool_server.specs.Deeds.{Call, made}
+use Rattle.served_recovery.specs.Passes.{Station, is_leave}
+use Rattle.served_recovery.specs.Calls.{Call, made}
 use Rattle.pool_server.specs.Places.{AsServed, Setting, Place, place, first_loss, Moves, Takes}
 use Rattle.pool_server.specs.Reaches.{Reach, IsGivenUp, PeeksBy, is_away}
 use Rattle.pool_server.specs.Sights.{Seen, with_links, with_pass, Went}
@@ -257,6 +256,6 @@ pub record ComesOut (old new : List Call) : Type 0 where
 -- a session was served: there are deeds of it by which it has ended so, and then its pass comes out
 pub record IsServed (w : Setting) (s : SessionId) (policy : ReadPolicy) (before : Seen) (cause : EndCause) (later : Seen) : Type 0 where
   pub calls : List Call
-  pub stand : Stand
+  pub stand : Station
   pub serves : Serves w s policy before cause (with_pass later calls stand)
   pub out : ComesOut calls later.calls

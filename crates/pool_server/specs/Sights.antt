@@ -7,11 +7,12 @@ use Rattle.pool_base.specs.declared.gate_call.GateAnswer.TheVariants as answers
 use Rattle.shared_gate.specs.declared.history.Entry.{Entry}
 use Rattle.session_machine.specs.declared.action.SessionEvent.{SessionEvent}
 use Rattle.session_machine.specs.declared.action.SessionEvent.TheVariants as events
-use Rattle.pool_server.specs.Deeds.{Call, made, Deed, Reads, ReadsEnd, Turns, Writes, Does, Holds, Peeks, Connects, GivesUp, Loses, Miss, Plainly, Unbidden, Behind, Farewell, Unfed, Unturned, Untaken, Untold, Unheard}
+use Rattle.served_recovery.specs.Calls.{Call, made}
+use Rattle.pool_server.specs.Deeds.{Deed, Reads, ReadsEnd, Turns, Writes, Does, Holds, Peeks, Connects, GivesUp, Loses, Miss, Plainly, Unbidden, Behind, Farewell, Unfed, Unturned, Untaken, Untold, Unheard}
 use Rattle.pool_server.specs.Places.{Setting, Place, Runs}
 use Rattle.pool_server.specs.Reaches.{Reach, Reaches}
 use Rattle.session_links.specs.Plans.{Told}
-use Rattle.shared_gate.specs.History.{Stand}
+use Rattle.served_recovery.specs.Passes.{Station}
 
 -- the bytes that are left, where the source tells them, and whether it has ended; what the sink has taken, where it tells; the moments that
 -- the clock has given, where it tells; the calls of the pass; and what the session reaches
@@ -33,7 +34,7 @@ with_work s calls reach = record s { calls = calls; reach = reach }
 abbrev pub with_links : Seen → (ℕ → Told) → Seen
 with_links s at = record s { reach = record s.reach { at = at } }
 
-abbrev pub with_pass : Seen → List Call → Stand → Seen
+abbrev pub with_pass : Seen → List Call → Station → Seen
 with_pass s calls stand = record s { calls = calls; reach = record s.reach { stand = stand } }
 
 abbrev pub with_reads : Seen → Option (List ℕ) → Bool → Seen

@@ -7,7 +7,7 @@ ghost use Rattle.pool_server.specs.Causes.{IsQuiet};
 ghost use Rattle.pool_server.specs.Places.{Place};
 ghost use Rattle.pool_server.specs.Servings.{BehindAnswer, EndsIn};
 
-use crate::end::EndCause;
+use served_recovery::EndCause;
 use crate::parting::Step;
 use backend_trait::Answer;
 use pool_base::{BackendId, Code};

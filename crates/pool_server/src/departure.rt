@@ -10,12 +10,12 @@ ghost use Rattle.pool_server.specs.Sights.{Seen, Went};
 ghost use Rattle.pool_server.specs.Servings.{EndsIn, Leads, first_of, is_leaving, lost_by, standing, standing_by, unbidden_by};
 ghost use Rattle.pool_server.specs.Causes.{in_answer, in_parting, in_step, is_cut_off, is_put_out, is_read_fault, is_write_fault};
 
-use crate::end::EndCause;
+use served_recovery::EndCause;
 use crate::parting::{Parting, Step};
 use crate::session::Session;
-use backend_trait::Link;
+use session_links::EarlyLink;
 
-impl<L: Link> Session<L> {
+impl<L: EarlyLink> Session<L> {
     /// Where a step leads.
     pub fn behind(&mut self, step: Step, is_cut: bool) -> Option<EndCause>
         requires ends { EndsIn step (standing_by (machine_in self.old.work.core)
@@ -56,7 +56,7 @@ impl<L: Link> Session<L> {
             self.old.parting step) s cause s) }
     {
         match step {
-            Step::Goes | Step::Silent => None,
+            Step::Goes | Step::Silent | Step::Recovers(_, _) => None,
             Step::Leaves => {
                 self.close();
                 None

@@ -5,14 +5,13 @@
 
 mod breaks;
 mod departure;
-mod end;
 mod farewell;
-mod footing;
 mod laws;
 mod noted;
 mod outside;
 mod parting;
 mod policy;
+mod recovering;
 mod seats;
 mod serve;
 mod session;
@@ -20,12 +19,11 @@ mod talk;
 mod way_out;
 mod work;
 
-pub use end::EndCause;
 pub use farewell::farewell_bytes;
-pub use footing::{Footing, Phase};
 pub use laws::deeds_are_a_run;
 pub use noted::serve_noted;
-pub use outside::{ClientSource, GatePass, Notices, Posture, Spell};
+pub use outside::{ClientSource, Posture, Spell};
 pub use policy::policy_of;
 pub use seats::Seats;
 pub use serve::{Around, serve_session};
+pub use served_recovery::{EndCause, Footing, GatePass, Notices, Phase, Progress, Quiet};

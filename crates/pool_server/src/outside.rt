@@ -1,50 +1,8 @@
-//! What a session needs of what lies outside it: the gate, its client's bytes, somebody to tell.
-ghost use Rattle.std.specs.Prelude.{◌≡◌, ◌<◌, ◌≤◌, ◌||◌, ◌++◌, ◌∷◌, [], Bool, List, Option, true, IfNone, IfSome, length};
-ghost use Rattle.pool_base.specs.Outside.{Appends, FaultyRead, Gave, Rose, is_end};
-ghost use Rattle.shared_gate.specs.History.{Stand, is_grant, stand_next};
-ghost use Rattle.pool_server.specs.Deeds.{Call, made};
-ghost use Rattle.pool_server.specs.Notes.{Detached, Ended, NoneLeft, Note};
-ghost use Rattle.pool_server.specs.Passes.{cuts, is_leave, may_make};
+//! What a session needs of its client.
+ghost use Rattle.std.specs.Prelude.{◌≡◌, ◌<◌, ◌≤◌, ◌||◌, Bool, true, IfNone, IfSome, length};
+ghost use Rattle.pool_base.specs.Outside.{FaultyRead, Gave, Rose, is_end};
 
-use crate::end::EndCause;
-use pool_base::{BackendId, GateAnswer, GateCall, Got, SessionId, Source};
-use session_machine::Cause;
-
-/// The gate, as one session calls it.
-///
-/// `stand` is where its pass stands, by the calls that were granted. `cut` is whether a view
-/// without a backend has come while it stood in a commit. `calls` are the calls of its pass so far,
-/// each with its answer.
-pub trait GatePass {
-    ghost stand: { Self → Stand };
-
-    ghost cut: { Self → Bool };
-
-    ghost calls: { Self → List Call };
-
-    /// Whether the pass may make that call where it stands. No session makes those of a recovery.
-    fn may_step(&self, call: GateCall) -> bool
-        ensures { result ≡ may_make (stand self.now) call };
-
-    /// One call, with the gate's answer. The calls by which a pass goes out are granted.
-    fn step(&mut self, call: GateCall) -> GateAnswer
-        requires { may_make (stand self.old) call ≡ true }
-        ensures stand { stand self.new ≡ stand_next (stand self.old) call result }
-        ensures cut { cut self.new ≡ (cut self.old || cuts (stand self.new) result) }
-        ensures calls { calls self.new ≡ calls self.old ++ made call result ∷ [] }
-        ensures leaves { is_leave call ≡ true → is_grant result ≡ true };
-
-    /// Waits a little before a call is made again that was held so many times, or before what
-    /// lacked memory is tried again.
-    fn pause(&mut self, tries: u32)
-        ensures stand { stand self.new ≡ stand self.old }
-        ensures cut { cut self.new ≡ cut self.old }
-        ensures calls { calls self.new ≡ calls self.old };
-
-    /// Whether no backend was left while the pass stood in a commit.
-    fn is_cut(&self) -> bool
-        ensures { result ≡ cut self.now };
-}
+use pool_base::{Got, Source};
 
 /// How long a client is listened for.
 #[derive(Clone, Copy, PartialEq, Eq)]
@@ -64,6 +22,8 @@ pub enum Posture {
     InBlock,
     /// It awaits an answer.
     Waiting,
+    /// It awaits the end of the recovery that it has ordered.
+    Recovering,
 }
 
 /// What gives a client's bytes, can be waited for a while alone, and says when the client is to be
@@ -104,21 +64,4 @@ pub trait ClientSource: Source {
         ensures failed { IfSome result (λ got. FaultyRead got (Self.fault_count self.old)
             (Self.fault_count self.new)) }
         ensures later { Self.fault_count self.old ≤ Self.fault_count self.new };
-}
-
-/// Who is told what an operator wants to know. `told` is what was told so far, where it is kept.
-pub trait Notices {
-    ghost told: { Self → Option (List Note) };
-
-    /// The session has detached the backend.
-    fn detached(&mut self, s: SessionId, b: BackendId, cause: &Cause)
-        ensures told { Appends (told self.old) (told self.new) (Detached s b cause.now ∷ []) };
-
-    /// No backend is attached any more.
-    fn none_left(&mut self)
-        ensures told { Appends (told self.old) (told self.new) (NoneLeft ∷ []) };
-
-    /// The session has ended.
-    fn ended(&mut self, s: SessionId, cause: EndCause)
-        ensures told { Appends (told self.old) (told self.new) (Ended s cause ∷ []) };
 }

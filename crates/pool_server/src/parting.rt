@@ -1,6 +1,6 @@
 //! What a step of a session comes to, and whether the session goes on after its order.
 
-use crate::end::EndCause;
+use served_recovery::EndCause;
 
 /// What a step comes to.
 #[derive(Clone, Copy, PartialEq, Eq)]
@@ -11,6 +11,8 @@ pub(crate) enum Step {
     Silent,
     /// The wire has ordered its Leave, and will say how it closes.
     Leaves,
+    /// The wire has ordered the recovery of the backend of that number, at that moment.
+    Recovers(i64, u8),
     /// The client is lost to the session, by this cause.
     Lost(EndCause),
     /// The core is at its end.

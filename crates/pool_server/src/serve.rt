@@ -2,7 +2,7 @@
 ghost use Rattle.std.specs.Prelude.{◌≡◌, ◌≤◌, true, false, None};
 ghost use Rattle.pool_base.specs.Outside.{Rose};
 ghost use Rattle.schema.specs.Grammar.{IsWithin};
-ghost use Rattle.shared_gate.specs.History.{Out};
+ghost use Rattle.served_recovery.specs.Passes.{IsOut};
 ghost use Rattle.pool_server.specs.Causes.{is_cut_off, is_put_out, is_read_fault, is_write_fault};
 ghost use Rattle.pool_server.specs.Policies.{policy_of};
 ghost use Rattle.session_engine.specs.Cores.{machine_in};
@@ -13,16 +13,15 @@ ghost use Rattle.pool_server.specs.Sights.{seen};
 ghost use Rattle.pool_server.specs.Servings.{Finishes, IsServed, Serves};
 ghost use Rattle.pool_server.specs.Told.{Begins};
 
-use crate::end::EndCause;
-use crate::outside::{ClientSource, GatePass, Notices};
+use crate::outside::ClientSource;
 use crate::parting::Parting;
 use crate::session::Session;
 use crate::way_out::come_out;
-use backend_trait::Link;
 use catalogue::Catalogue;
 use pool_base::{Clock, NoMemory, SessionId, Sink};
 use pool_config::Config;
-use session_links::LinkMaker;
+use served_recovery::{EndCause, GatePass, Notices};
+use session_links::{EarlyLink, LinkMaker};
 use std::alloc::Global;
 
 /// What a session talks with: its client, what makes its links, the clock, its pass at the gate,
@@ -76,7 +75,7 @@ where
         (O.taken around.new.sink) (C.given around.new.clock) (G.calls around.new.gate)
         (alone (M.plans around.new.maker) (G.stand around.new.gate))) }
     // However it ends, its pass is out.
-    ensures out { G.stand around.new.gate ≡ Out }
+    ensures out { IsOut (G.stand around.new.gate) }
 {
     let cause = run(alloc, around, config, tables, s);
     come_out(&mut around.gate);
@@ -92,7 +91,7 @@ fn run<L, I, O, M, C, G, N>(
     s: SessionId,
 ) -> EndCause
 where
-    L: Link,
+    L: EarlyLink,
     I: ClientSource,
     O: Sink,
     M: LinkMaker<L = L>,
@@ -133,7 +132,7 @@ fn steps<L, I, O, M, C, G, N>(
     tables: &Catalogue,
 ) -> EndCause
 where
-    L: Link,
+    L: EarlyLink,
     I: ClientSource,
     O: Sink,
     M: LinkMaker<L = L>,

@@ -30,28 +30,28 @@ ghost use Rattle.pool_server.specs.Causes.{IsQuiet, in_answer, in_parting, in_st
 ghost use Rattle.pool_server.specs.Told.{Begins};
 
 use crate::departure::first_of;
-use crate::end::EndCause;
-use crate::outside::{ClientSource, GatePass, Notices, Posture, Spell};
+use crate::outside::{ClientSource, Posture, Spell};
 use crate::parting::{Parting, Step};
 use crate::policy::policy_of;
 use crate::serve::Around;
 use crate::talk::Talk;
 use crate::work::Work;
-use backend_trait::Link;
 use catalogue::Catalogue;
 use pool_base::{BackendId, Clock, NoMemory, SessionId, Sink};
 use pool_config::Config;
+use served_recovery::{EndCause, GatePass, Notices};
 use session_engine::{Ask, Due, Standing};
-use session_links::LinkMaker;
+use session_links::{EarlyLink, LinkMaker};
 use session_machine::{GatePhase, Status, may_stop};
 use std::alloc::Global;
 
 /// One session.
 #[derive(Drop)]
-pub(crate) struct Session<L: Link> {
+pub(crate) struct Session<L: EarlyLink> {
     pub talk: Talk,
     pub work: Work<L>,
     pub parting: Parting,
+    pub alloc: Global,
     /// The client has sent nothing for a short while, and the backends know all.
     is_silent: bool,
     /// It was looked whether the client is there, since the last look for an answer.
@@ -65,7 +65,7 @@ const FIRST_LOOK: u32 = 80;
 /// How many pass between two such looks: a second.
 const BETWEEN: u32 = 20;
 
-impl<L: Link> Session<L> {
+impl<L: EarlyLink> Session<L> {
     /// A session whose client has sent nothing yet.
     pub fn new(alloc: Global, s: SessionId, config: &Config) -> Result<Session<L>, NoMemory>
         ensures parting { IfOk result (λ session. session.parting ≡ Parting.No) }
@@ -79,6 +79,7 @@ impl<L: Link> Session<L> {
             talk: Talk::new(alloc, s)?,
             work: Work::new(alloc, s, policy_of(config), config.sessions.server_timeout)?,
             parting: Parting::No,
+            alloc,
             is_silent: false,
             has_looked: false,
         })
@@ -92,7 +93,7 @@ impl<L: Link> Session<L> {
     }
 
     /// Where a client stands whose session rests.
-    fn posture(&self) -> Posture {
+    pub fn posture(&self) -> Posture {
         let standing = self.work.core.standing();
         match (standing.status, standing.gate) {
             (Status::Idle, GatePhase::Out) => Posture::Resting,
@@ -293,7 +294,7 @@ impl<L: Link> Session<L> {
             (shown self.new.talk.wire) self.old.parting result) }
     {
         match self.work.core.asks() {
-            Ask::Rest => self.rest(around, tables),
+            Ask::Rest => self.turn_or_recover(around, config, tables),
             Ask::Gate(call) => self.work.call(call, &mut around.gate),
             Ask::Detach(b) => self.work.detach(b, &mut around.gate, &mut around.notices),
             Ask::Post(b) => {
@@ -304,6 +305,29 @@ impl<L: Link> Session<L> {
             Ask::WaitFor(b) => self.wait(b, around),
             Ask::Reply => self.reply(config),
             Ask::End => Step::Ended,
+        }
+    }
+
+    /// What is due of the wire is done; a recovery that it orders is brought to its end.
+    fn turn_or_recover<I, O, M, C, G, N>(
+        &mut self,
+        around: &mut Around<I, O, M, C, G, N>,
+        config: &Config,
+        tables: &Catalogue,
+    ) -> Step
+    where
+        I: ClientSource,
+        O: Sink,
+        M: LinkMaker<L = L>,
+        C: Clock,
+        G: GatePass,
+        N: Notices,
+        requires within { IsWithin tables.now }
+        requires rests { next_action (machine_in self.old.work.core) ≡ actions.Rest }
+    {
+        match self.rest(around, tables) {
+            Step::Recovers(_, number) => self.recover(number, around, config, tables),
+            step => step,
         }
     }
 

@@ -19,12 +19,12 @@ ghost use Rattle.pool_server.specs.Sights.{Seen, Went, with_client, with_reads, 
 ghost use Rattle.pool_server.specs.Servings.{AreThere, EndsIn, IsFed, IsGiven, IsHad, IsOrdered, IsPutOut, closed_by, passing_by, talked, talking};
 ghost use Rattle.pool_server.specs.Told.{Begins};
 
-use crate::end::EndCause;
+use served_recovery::EndCause;
 use crate::farewell::farewell_bytes;
 use crate::outside::{ClientSource, Posture, Spell};
 use crate::parting::Step;
 use catalogue::Catalogue;
-use pool_base::{Clock, Code, Got, NoMemory, SessionId, Sink, SinkFailed, Text, write_all};
+use pool_base::{Clock, Got, NoMemory, SessionId, Sink, SinkFailed, write_all};
 use pool_config::Config;
 use session_engine::Core;
 use session_orders::{Order, OrderBody, Outcome};
@@ -39,19 +39,6 @@ const PIECE: usize = 8192;
 pub(crate) struct Talk {
     alloc: Global,
     pub wire: Wire,
-}
-
-/// An order as this server takes it: a recovery is refused, under the name that its SQL has.
-fn served(alloc: Global, body: OrderBody) -> Result<OrderBody, NoMemory>
-    ensures { IfOk result (λ taken. AsServed body taken) }
-{
-    match body {
-        OrderBody::Recover(_) => Ok(OrderBody::Refuse {
-            code: Code { bytes: *b"0A000" },
-            name: Text::from_str(alloc, "recover")?,
-        }),
-        other => Ok(other),
-    }
 }
 
 /// What a session does after an order.
@@ -86,17 +73,19 @@ fn give(core: &mut Core, moment: i64, body: OrderBody, behind: Step) -> Step
     }
 }
 
-/// The wire's order is taken.
-fn take(alloc: Global, order: Order, core: &mut Core) -> Step
+/// The wire's order is taken. That of a recovery is handed on.
+fn take(order: Order, core: &mut Core) -> Step
     ensures quiet { IsQuiet result }
     ensures ends { (last : Place) → EndsIn result last }
     ensures taken { IsOrdered order (machine_in core.old) result (machine_in core.new) }
 {
     let Order { moment, body } = order;
-    let behind = behind(&body);
-    match served(alloc, body) {
-        Ok(body) => give(core, moment, body, behind),
-        Err(NoMemory) => Step::Lost(EndCause::NoMemory),
+    match body {
+        OrderBody::Recover(number) => Step::Recovers(moment, number),
+        body => {
+            let behind = behind(&body);
+            give(core, moment, body, behind)
+        }
     }
 }
 
@@ -141,6 +130,29 @@ impl Talk {
         self.wire.answer(config, outcome, status)
     }
 
+    /// The client is told what became of the recovery that it has ordered.
+    pub fn recovered(&mut self, config: &Config, outcome: Outcome, status: u8) -> Step {
+        if !may_answer(&outcome) {
+            drop(outcome);
+            return Step::Over(EndCause::Stopped);
+        }
+        match self.tell(config, outcome, status) {
+            Ok(()) => Step::Goes,
+            Err(NoMemory) => Step::Lost(EndCause::NoMemory),
+        }
+    }
+
+    /// A client that awaits the end of a recovery goes on to wait, or is put out.
+    pub fn stay<I: ClientSource, O: Sink>(&mut self, source: &mut I, sink: &mut O) -> Step {
+        if !source.is_dismissed(Posture::Recovering) {
+            return Step::Goes;
+        }
+        if !self.flush(sink) {
+            return Step::Lost(EndCause::WriteFault);
+        }
+        put_out(sink)
+    }
+
     /// The wire's next step is taken.
     #[tactic(auto, using(crate::proofs::Begun::begins_same))]
     pub fn turn<I: ClientSource, O: Sink, C: Clock>(
@@ -177,7 +189,7 @@ impl Talk {
     {
         let moment = clock.now();
         match self.wire.next(tables, moment) {
-            Ok(WireStep::Order(order)) => take(self.alloc, order, core),
+            Ok(WireStep::Order(order)) => take(order, core),
             Ok(WireStep::NeedInput) => self.exchange(Spell::Short, posture, source, sink),
             Ok(WireStep::Close { refused }) => self.close(refused, sink),
             Ok(WireStep::NeedOutcome) => Step::Over(EndCause::Stopped),

@@ -16,14 +16,13 @@ ghost use Rattle.pool_server.specs.Breaks.{SeversAt};
 ghost use Rattle.pool_server.specs.Servings.{EndsIn, Happens, Hears, IsPeeked, LosesLink, stepped};
 
 use crate::breaks::{behind_answer, severed};
-use crate::end::EndCause;
-use crate::outside::{GatePass, Notices};
 use crate::parting::Step;
-use backend_trait::{Answer, Link, Request};
+use backend_trait::{Answer, Request};
 use pg_messages::Pair;
 use pool_base::{BackendId, BackendSet, GateAnswer, GateCall, NoMemory, SessionId, View};
+use served_recovery::{EndCause, GatePass, Notices};
 use session_engine::Core;
-use session_links::{Found, LinkMaker, Links, Loss, Sent};
+use session_links::{EarlyLink, Found, LinkMaker, Links, Loss, Sent};
 use session_machine::{Cause, ReadPolicy};
 use std::alloc::Global;
 
@@ -49,27 +48,32 @@ enum Patience {
 
 /// The session's core with its links.
 #[derive(Drop)]
-pub(crate) struct Work<L: Link> {
-    id: SessionId,
+pub(crate) struct Work<L: EarlyLink> {
+    pub id: SessionId,
     pub core: Core,
-    links: Links<L>,
+    pub links: Links<L>,
     patience: Patience,
     /// The epoch of the last snapshot that was entered.
     epoch: Option<u32>,
     /// How many looks may come to nothing where another session may be waited for, before the
     /// server is asked whether it answers at all. It is asked again after as many more. Where no
     /// other session is waited for, twice as many may.
-    limit: u32,
+    pub limit: u32,
     /// How often the same step was tried without an answer.
     tries: u32,
     /// How many turns of the wire have passed since the last post.
     turns: u32,
     /// The backend that was asked last is waited for no longer: it hangs, or is attached no more.
     gave_up: bool,
+    /// Behind the last post the links are still to be told what is coming.
+    is_ahead_due: bool,
 }
 
-/// Whether a request may wait for another session.
-fn patience_of(request: &Request) -> Patience {
+/// Whether a request may wait for another session, or comes behind what may.
+fn patience_of(request: &Request, is_behind: bool) -> Patience {
+    if is_behind {
+        return Patience::Endless;
+    }
     match request {
         Request::Run(_) | Request::Lock(_) => Patience::Endless,
         Request::TakeSnapshot
@@ -80,7 +84,7 @@ fn patience_of(request: &Request) -> Patience {
     }
 }
 
-impl<L: Link> Work<L> {
+impl<L: EarlyLink> Work<L> {
     /// A core that rests, and no link. A server that leaves the pool without an answer for so many
     /// seconds hangs.
     #[tactic(auto, using(crate::proofs::Linking::none_told))]
@@ -104,6 +108,7 @@ impl<L: Link> Work<L> {
             tries: 0,
             turns: 0,
             gave_up: false,
+            is_ahead_due: false,
         })
     }
 
@@ -303,7 +308,14 @@ impl<L: Link> Work<L> {
             return Step::Over(EndCause::Stopped);
         }
         match self.core.request() {
-            Ok(request) => self.put(b, request, options, maker, gate),
+            Ok(request) => {
+                if self.links.is_stale(b, &request) {
+                    drop(request);
+                    self.links.forget();
+                    return Step::Goes;
+                }
+                self.put(b, request, options, maker, gate)
+            }
             Err(NoMemory) => self.short(gate),
         }
     }
@@ -331,12 +343,13 @@ impl<L: Link> Work<L> {
             (with_work s (G.calls gate.new) (reach L.pending L.plan self.new.links.slots.items
             (M.plans maker.new) (G.stand gate.new))) }
     {
-        self.patience = patience_of(&request);
+        self.patience = patience_of(&request, self.links.is_behind(b));
         match self.links.post(b, request, maker, options) {
             Sent::Accepted => {
                 self.tries = 0;
                 self.turns = 0;
                 self.gave_up = false;
+                self.is_ahead_due = true;
                 self.core.posted();
                 Step::Goes
             }
@@ -364,6 +377,11 @@ impl<L: Link> Work<L> {
     {
         if !self.links.is_awaited(b) {
             return Step::Over(EndCause::Stopped);
+        }
+        if self.is_ahead_due {
+            self.is_ahead_due = false;
+            self.links.foretell(b, &self.core);
+            return Step::Goes;
         }
         match self.links.poll(b) {
             Found::Answered(answer) => self.hear(b, answer),

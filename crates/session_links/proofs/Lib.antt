@@ -4,3 +4,4 @@ pub mod Sound
 pub mod Tellings
 pub mod Judging
 pub mod SameCode
+pub mod Fronts

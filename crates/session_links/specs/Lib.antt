@@ -1,4 +1,5 @@
 pub mod Rising
 pub mod Slots
 pub mod Plans
+pub mod Early
 pub mod Verdicts

@@ -2,14 +2,18 @@
 //! time, and dropped at its loss.
 #![tactic(auto)]
 
+mod early;
+mod early_slot;
+mod foretelling;
 mod links;
 mod loss;
 mod maker;
 mod slot;
 mod verdict;
 
+pub use early::EarlyLink;
 pub use links::Links;
 pub use loss::Loss;
-pub use maker::{Connected, LinkMaker};
+pub use maker::{Connected, LinkMaker, Readied};
 pub use slot::{Found, Sent, Slot};
 pub use verdict::{Opened, Verdict, Want, verdict_of};

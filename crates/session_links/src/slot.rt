@@ -10,6 +10,7 @@ ghost use Rattle.std.specs.Prelude.{◌≡◌, true, false, None};
 ghost use Rattle.session_links.specs.Plans.{IsHeard, IsPut, IsPutAnew, Puts, given_up, told_in};
 ghost use Rattle.session_links.specs.Slots.{IsFound, IsSent, is_awaited, is_sound, request_in};
 
+use crate::early::EarlyLink;
 use crate::loss::Loss;
 use crate::maker::{Connected, LinkMaker};
 use backend_trait::{Answer, Link, Polled, Posted, Request};
@@ -49,13 +50,17 @@ pub enum Found {
     NoMemory,
 }
 
-/// Puts a request at a link.
-fn ask<L: Link>(mut link: L, request: Request) -> (Slot<L>, Sent)
+/// Puts a request at a link. What the link was told of is not sent again.
+fn ask<L: EarlyLink>(mut link: L, request: Request) -> (Slot<L>, Sent)
     requires idle { L.pending link ≡ None }
     ensures sound { is_sound L.pending result.0 ≡ true }
     ensures sent { IsSent result.1 result.0 }
     ensures told { IsPut result.1 request (L.plan link) (told_in L.pending L.plan result.0) }
 {
+    if link.is_next(&request) {
+        link.post_next(request);
+        return (Slot::Asked(link), Sent::Accepted);
+    }
     match link.post(request) {
         Posted::Accepted => (Slot::Asked(link), Sent::Accepted),
         Posted::NoMemory(request) => {
@@ -67,7 +72,7 @@ fn ask<L: Link>(mut link: L, request: Request) -> (Slot<L>, Sent)
 
 /// Puts a request at a link that is made for it.
 #[tactic(auto, using(crate::proofs::Risen::risen))]
-fn ask_anew<L: Link, M: LinkMaker<L = L>>(
+fn ask_anew<L: EarlyLink, M: LinkMaker<L = L>>(
     b: BackendId,
     request: Request,
     maker: &mut M,
@@ -94,7 +99,7 @@ fn ask_anew<L: Link, M: LinkMaker<L = L>>(
 }
 
 /// Puts a request where none is awaited.
-pub(crate) fn put<L: Link, M: LinkMaker<L = L>>(
+pub(crate) fn put<L: EarlyLink, M: LinkMaker<L = L>>(
     slot: Slot<L>,
     b: BackendId,
     request: Request,
@@ -176,6 +181,23 @@ pub(crate) fn settled<L: Link>(slot: Slot<L>) -> (Slot<L>, bool)
             (Slot::Idle(link), told)
         }
         other => (other, true),
+    }
+}
+
+/// Leaves the tables of a backend without rows, where a link is there at which no answer is awaited.
+pub(crate) fn blanked<L: Link, M: LinkMaker<L = L>>(slot: Slot<L>, maker: &mut M) -> Slot<L>
+    requires before { is_sound L.pending slot ≡ true }
+    ensures sound { is_sound L.pending result ≡ true }
+    ensures awaited { is_awaited result ≡ is_awaited slot }
+    ensures told { told_in L.pending L.plan result ≡ told_in L.pending L.plan slot }
+    ensures plans { M.plans maker.new ≡ M.plans maker.old }
+{
+    match slot {
+        Slot::Idle(mut link) => {
+            maker.blank(&mut link);
+            Slot::Idle(link)
+        }
+        other => other,
     }
 }
 

@@ -1,2 +1,3 @@
 pub mod Named
 mod HeldBack
+pub mod Told

@@ -142,7 +142,9 @@ pub(crate) fn reach<R: Net<Stream = TcpStream>>(
 }
 
 /// Sends all of the bytes, unless the wire is broken or out of patience.
-pub(crate) fn send_all<W: Wire>(wire: &mut W, outbox: &mut Outbox) -> bool {
+pub(crate) fn send_all<W: Wire>(wire: &mut W, outbox: &mut Outbox) -> bool
+    ensures later { W.fault_count wire.old ≤ W.fault_count wire.new }
+{
     for _ in 0..START_TRIES {
         match outbox.empty(wire) {
             Emptied::All => return true,

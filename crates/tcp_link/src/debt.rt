@@ -18,7 +18,7 @@ use std::alloc::Global;
 use std::mem;
 
 /// Whether a request reads rows, and takes no lock of them.
-fn is_reading(request: &Request) -> bool
+pub(crate) fn is_reading(request: &Request) -> bool
     ensures { result ≡ is_reading request.now }
 {
     match request {
@@ -116,6 +116,11 @@ impl Debt {
         ensures { self.new.reads_alone ≡ (self.old.reads_alone && is_reading request.now) }
     {
         self.reads_alone = self.reads_alone && is_reading(request);
+    }
+
+    /// What was sent ahead comes no more: the end of the block is not held back.
+    pub fn forget(&mut self) {
+        self.reads_alone = false;
     }
 
     /// A server has answered: with its snapshot a block begins, and where it refused a request no

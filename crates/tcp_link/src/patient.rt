@@ -10,17 +10,20 @@
 //!
 //! The end of a block that has but read is done at once, and the server is told of it later: with
 //! the next snapshot, before another request, or where the link settles.
-ghost use Rattle.std.specs.Prelude.{◌≡◌, ◌<◌, ◌≤◌, ◌⊎◌, length, false, true, IfOk, IfNone, IfSome, None, Some};
+ghost use Rattle.std.specs.Prelude.{◌≡◌, ◌<◌, ◌≤◌, ◌⊎◌, ◌&&◌, length, false, true, IfOk, IfNone, IfSome, None, Some};
 ghost use Rattle.pool_base.specs.Outside.{Rose};
 ghost use Rattle.backend_trait.specs.LinkForms.{IsPolled};
+ghost use Rattle.tcp_link.specs.Debts.{is_reading};
 ghost use Rattle.tcp_link.specs.Links.{Answers, pending_of, faults_of};
 
 use crate::debt::{Debt, Ended};
+use crate::inquiry::{ask, reply_within};
 use crate::outbox::{Emptied, Outbox};
+use crate::queue::{Dropped, Queue};
 use crate::stream::TcpWire;
 use crate::wire::{Received, Wire};
 use backend_trait::{Link, Polled, Posted, Request};
-use catalogue::Catalogue;
+use catalogue::{Catalogue, Checked, CheckedBody};
 use pool_base::{Code, NoMemory};
 use postgres_link::{Inbox, PROGRAM_LIMIT_EXCEEDED, Reply, Wanted};
 use postgres_talk::{Ending, NotSpelled, Said, Spelled, Talk, answer_of, spell, spell_next};
@@ -30,9 +33,12 @@ use std::mem;
 /// How many bytes are taken from the wire at once.
 const PIECE: usize = 16384;
 
+/// How often a look for the reply to an inquiry may come to nothing. A look takes 50 milliseconds.
+const INQUIRY_TRIES: u32 = 1_200;
+
 /// What of a request waits for its answer.
 #[derive(Drop)]
-enum State {
+pub(crate) enum State {
     /// No request is pending.
     Idle,
     /// The request is sent, or on its way.
@@ -49,19 +55,42 @@ enum State {
 pub struct PatientLink<'a, W: Wire> {
     alloc: Global,
     tables: &'a Catalogue,
-    wire: W,
+    pub(crate) wire: W,
     inbox: Inbox,
-    outbox: Outbox,
+    pub(crate) outbox: Outbox,
     piece: Vec<u8>,
-    state: State,
-    debt: Debt,
+    pub(crate) state: State,
+    pub(crate) debt: Debt,
+    /// What was sent before its post.
+    pub(crate) early: Queue,
+    /// The answers to what was sent so and comes no more.
+    pub(crate) dropped: Dropped,
+    /// A snapshot was sent that comes no more: the next request is a rollback.
+    pub(crate) is_to_end: bool,
+    /// Behind the last snapshot a change of rows was asked.
+    pub(crate) has_changed: bool,
+    /// The connection was closed, and the server rolls back.
+    pub(crate) is_closed: bool,
     /// It gives no answer any more, to this request or another.
-    lost: bool,
+    pub(crate) lost: bool,
     /// The faults that are not the wire's.
     violations: u64,
     /// The code with which the server has turned the client away.
-    refusal: Option<Code>,
+    pub(crate) refusal: Option<Code>,
     ghost room: { 0 < length piece.items },
+}
+
+/// Whether a request rolls back.
+fn is_rollback(request: &Request) -> bool {
+    matches!(request, Request::Rollback)
+}
+
+/// Whether a statement changes rows.
+fn is_change(checked: &Checked) -> bool {
+    match &checked.body {
+        CheckedBody::Read(_) => false,
+        CheckedBody::Insert(_) | CheckedBody::Change(_) | CheckedBody::Remove(_) => true,
+    }
 }
 
 /// A piece of bytes to receive into.
@@ -95,14 +124,20 @@ impl<'a, W: Wire> PatientLink<'a, W> {
             piece: new_piece(alloc)?,
             state: State::Idle,
             debt: Debt::new(),
+            early: Queue::Empty,
+            dropped: Dropped::new(),
+            is_to_end: false,
+            has_changed: false,
+            is_closed: false,
             lost: false,
             violations: 0,
             refusal,
         })
     }
 
-    fn set(&mut self, state: State)
+    pub(crate) fn set(&mut self, state: State)
         ensures state { self.new.state ≡ state }
+        ensures early { self.new.early ≡ self.old.early }
         ensures lost { self.new.lost ≡ self.old.lost }
         ensures wire { self.new.wire ≡ self.old.wire }
         ensures violations { self.new.violations ≡ self.old.violations }
@@ -115,6 +150,7 @@ impl<'a, W: Wire> PatientLink<'a, W> {
         ensures says { result ≡ Polled.Lost }
         ensures lost { self.new.lost ≡ true }
         ensures state { self.new.state ≡ self.old.state }
+        ensures early { self.new.early ≡ self.old.early }
         ensures wire { self.new.wire ≡ self.old.wire }
         ensures violations { self.new.violations ≡ self.old.violations }
     {
@@ -123,10 +159,11 @@ impl<'a, W: Wire> PatientLink<'a, W> {
     }
 
     /// Gives up the session for a fault that is not the wire's.
-    fn violate(&mut self) -> Polled
+    pub(crate) fn violate(&mut self) -> Polled
         ensures says { result ≡ Polled.Lost }
         ensures lost { self.new.lost ≡ true }
         ensures state { self.new.state ≡ self.old.state }
+        ensures early { self.new.early ≡ self.old.early }
         ensures rose { Rose (faults_of (W.fault_count self.old.wire) self.old.violations)
             (faults_of (W.fault_count self.new.wire) self.new.violations) }
         ensures later { faults_of (W.fault_count self.old.wire) self.old.violations
@@ -146,8 +183,9 @@ impl<'a, W: Wire> PatientLink<'a, W> {
 
     /// Puts the messages of a request into the outbox: before any other than a snapshot the server
     /// is told of the end of the block before it.
-    fn put(&mut self, request: &Request) -> Result<Wanted, NotSpelled>
+    pub(crate) fn put(&mut self, request: &Request) -> Result<Wanted, NotSpelled>
         ensures state { self.new.state ≡ self.old.state }
+        ensures early { self.new.early ≡ self.old.early }
         ensures lost { self.new.lost ≡ self.old.lost }
         ensures wire { self.new.wire ≡ self.old.wire }
         ensures violations { self.new.violations ≡ self.old.violations }
@@ -159,6 +197,19 @@ impl<'a, W: Wire> PatientLink<'a, W> {
         self.outbox.add(bytes)?;
         self.debt.pay();
         Ok(wanted)
+    }
+
+    /// Whether a statement was refused whose answer was dropped, and what is pending is no
+    /// rollback.
+    fn is_dead(&self) -> bool {
+        self.dropped.refused && !self.is_rolling_back()
+    }
+
+    fn is_rolling_back(&self) -> bool {
+        match &self.state {
+            State::Sent(talk) => is_rollback(&talk.request),
+            State::Idle | State::Unsent(_) | State::Held(_, _) => false,
+        }
     }
 
     /// Looks for the answer in what has come.
@@ -173,6 +224,14 @@ impl<'a, W: Wire> PatientLink<'a, W> {
             Ended::Yes => {}
             Ended::NotYet => return Ok(Said::NotYet),
             Ended::Broken => return Ok(Said::Broken),
+        }
+        match self.dropped.hear(self.alloc, &mut self.inbox)? {
+            Ended::Yes => {}
+            Ended::NotYet => return Ok(Said::NotYet),
+            Ended::Broken => return Ok(Said::Broken),
+        }
+        if self.is_dead() {
+            return Ok(Said::Broken);
         }
         match &mut self.state {
             State::Sent(talk) => talk.listen(self.alloc, &mut self.inbox),
@@ -274,7 +333,7 @@ impl<'a, W: Wire> PatientLink<'a, W> {
     /// to roll back, and all else is refused with that code; else the text is too long.
     fn unsaid(&self, request: &Request) -> Reply {
         match (self.refusal, request) {
-            (Some(_), Request::Rollback) => Reply::Done,
+            (_, Request::Rollback) => Reply::Done,
             (Some(code), _) => Reply::Refused(code),
             (None, _) => Reply::Refused(PROGRAM_LIMIT_EXCEEDED),
         }
@@ -383,9 +442,94 @@ impl<'a, W: Wire> PatientLink<'a, W> {
     }
 }
 
+impl<'a, W: Wire> PatientLink<'a, W> {
+    /// Sends what is left of the request that is pending, as far as the wire takes it now. A wire
+    /// that has failed fails at the next poll too.
+    pub fn push(&mut self)
+        ensures state { self.new.state ≡ self.old.state }
+        ensures lost { self.new.lost ≡ self.old.lost }
+        ensures later { faults_of (W.fault_count self.old.wire) self.old.violations
+            ≤ faults_of (W.fault_count self.new.wire) self.new.violations }
+    {
+        self.outbox.empty(&mut self.wire);
+    }
+
+    /// What the server of a session at which nothing is pending or owed replies to a text of the
+    /// caller's own, within a minute. `Ok(None)`: no reply to it.
+    pub fn inquire(&mut self, sql: &[u8], wanted: Wanted) -> Result<Option<Reply>, NoMemory>
+        ensures state { self.new.state ≡ self.old.state }
+        ensures lost { self.new.lost ≡ self.old.lost }
+        ensures later { faults_of (W.fault_count self.old.wire) self.old.violations
+            ≤ faults_of (W.fault_count self.new.wire) self.new.violations }
+    {
+        if self.lost || self.refusal.is_some() || !ask(self.alloc, &mut self.wire, sql)? {
+            drop(wanted);
+            return Ok(None);
+        }
+        reply_within(self.alloc, &mut self.wire, &mut self.inbox, wanted, INQUIRY_TRIES)
+    }
+
+    /// From now on nothing is sent: each snapshot is refused with that code.
+    pub fn turn_away(&mut self, code: Code)
+        ensures state { self.new.state ≡ self.old.state }
+        ensures lost { self.new.lost ≡ self.old.lost }
+        ensures wire { self.new.wire ≡ self.old.wire }
+        ensures violations { self.new.violations ≡ self.old.violations }
+    {
+        self.refusal = Some(code);
+    }
+
+    /// A request is asked of the server.
+    pub(crate) fn asks(&mut self, request: &Request)
+        ensures state { self.new.state ≡ self.old.state }
+        ensures early { self.new.early ≡ self.old.early }
+        ensures lost { self.new.lost ≡ self.old.lost }
+        ensures wire { self.new.wire ≡ self.old.wire }
+        ensures violations { self.new.violations ≡ self.old.violations }
+        // Behind another than a read no end is held back, though it was sent before.
+        ensures held { self.new.debt.reads_alone
+            ≡ (self.old.debt.reads_alone && is_reading request.now) }
+    {
+        self.debt.ask(request);
+        match request {
+            Request::TakeSnapshot => {
+                self.has_changed = false;
+                self.dropped.refused = false;
+            }
+            Request::Run(checked) => self.has_changed = self.has_changed || is_change(checked),
+            Request::Rollback => self.is_to_end = false,
+            Request::Lock(_)
+            | Request::Commit
+            | Request::ReadSerial(_)
+            | Request::SetSerial(_, _) => {}
+        }
+    }
+
+    /// Whether a request is none that may be sent now: another is to be posted first, or the block
+    /// is to be rolled back, or the connection was closed.
+    fn is_amiss(&self, request: &Request) -> bool {
+        self.is_closed || !self.early.is_empty() || (self.is_to_end && !is_rollback(request))
+    }
+
+    /// Where the connection was closed a rollback is done, and is not sent. Any other such request
+    /// makes the link lost.
+    pub(crate) fn post_amiss(&mut self, request: Request)
+        ensures state { self.new.state ≡ State.Unsent request }
+        ensures early { self.new.early ≡ self.old.early }
+        ensures stays { self.old.lost ≡ true → self.new.lost ≡ true }
+        ensures wire { self.new.wire ≡ self.old.wire }
+        ensures violations { self.new.violations ≡ self.old.violations }
+    {
+        if !(self.is_closed && is_rollback(&request)) {
+            self.lost = true;
+        }
+        self.set(State::Unsent(request));
+    }
+}
+
 impl<'a> PatientLink<'a, TcpWire> {
     /// Whether the server of a session at which nothing was asked yet has ended it.
-    pub(crate) fn has_ended(&self) -> bool {
+    pub fn has_ended(&self) -> bool {
         self.refusal.is_none() && self.wire.has_ended()
     }
 }
@@ -408,11 +552,15 @@ impl<'a, W: Wire> Link for PatientLink<'a, W> {
             self.set(State::Unsent(request));
             return Posted::Accepted;
         }
+        if self.is_amiss(&request) {
+            self.post_amiss(request);
+            return Posted::Accepted;
+        }
         if let Some(ending) = self.debt.held(&request) {
             self.set(State::Held(request, ending));
             return Posted::Accepted;
         }
-        self.debt.ask(&request);
+        self.asks(&request);
         match self.put(&request) {
             Ok(wanted) => {
                 self.set(State::Sent(Talk::new(request, wanted)));

@@ -5,7 +5,7 @@ ghost use Rattle.std.specs.Prelude.{◌≡◌};
 use crate::wire::{Received, Sent, Wire};
 use pool_base::WriterSink;
 use std::io::{ErrorKind, Read, Write};
-use std::net::TcpStream;
+use std::net::{Shutdown, TcpStream};
 
 /// What takes bytes to be sent over a stream.
 pub type TcpSink = WriterSink<TcpStream>;
@@ -73,6 +73,12 @@ impl Wire for TcpWire {
                 self.faults = self.faults.saturating_add(1);
                 Received::Failed
             }
+        }
+    }
+
+    fn close(&mut self) {
+        if self.stream.shutdown(Shutdown::Both).is_err() {
+            self.faults = self.faults.saturating_add(1);
         }
     }
 

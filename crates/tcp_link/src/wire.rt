@@ -43,6 +43,10 @@ pub trait Wire: Drop {
             (fault_count self.new) }
         ensures later { fault_count self.old ≤ fault_count self.new };
 
+    /// Ends the connection: nothing is sent or taken any more.
+    fn close(&mut self)
+        ensures { fault_count self.old ≤ fault_count self.new };
+
     /// How many faults there were. The count stands still at `u64::MAX`.
     fn faults(&self) -> u64
         ensures { result ≡ fault_count self.now };

@@ -11,14 +11,17 @@ mod entrance;
 mod explained;
 mod host;
 mod notices;
+mod outlook;
 mod pace;
 mod pass_at;
 mod porch;
+mod progress;
 mod refusal;
 mod room;
 mod start;
 mod turned;
 mod turns;
+mod whereabouts;
 mod why;
 
 pub use accept::{ServeEnd, serve};

@@ -5,6 +5,7 @@
 //! free, its pass is there --take--> taken, its pass is with a session --give--> free
 //! ```
 ghost use Rattle.std.specs.Prelude.{◌≡◌, ◌≤◌, ◌↔◌, length, IfOk, IfSome, IsTrue, min, true};
+ghost use Rattle.schema.specs.Allowed.{AreAllowed};
 ghost use Rattle.schema.specs.Grammar.{IsWithin};
 ghost use Rattle.pool_server.specs.Seats.{AreFree};
 ghost use Rattle.shared_gate.specs.History.{IsOut};
@@ -14,6 +15,7 @@ ghost use Rattle.tcp_server.specs.Rooms.{AreMatched};
 use crate::control::Control;
 use crate::pace::Answers;
 use crate::turns::Turns;
+use crate::whereabouts::Whereabouts;
 use pool_base::{NoMemory, SessionId};
 use pool_config::Config;
 use pool_server::Seats;
@@ -136,6 +138,7 @@ pub(crate) struct House {
     /// How fast clients try passwords.
     pub answers: Answers,
     ghost within: { IsWithin tables },
+    ghost allowed: { AreAllowed tables },
 }
 
 /// What the sessions share.
@@ -144,6 +147,7 @@ pub(crate) struct Room<G: AtGate> {
     pub gate: SharedGate,
     pub house: House,
     pub turns: Turns,
+    pub whereabouts: Whereabouts,
     places: Mutex<Places<G>>,
     ghost gate_is: { gate ≡ G.gate },
 }
@@ -161,14 +165,18 @@ impl<G: AtGate> Room<G> {
     {
         let mut pass = pass;
         let count = house.config.children.min(MOST);
-        match Places::<G>::new(alloc, &gate, &mut pass, count) {
-            Ok(places) => Ok(Room {
+        let places = Places::<G>::new(alloc, &gate, &mut pass, count);
+        match (places, Whereabouts::new(alloc, count)) {
+            (Ok(places), Ok(whereabouts)) => Ok(Room {
                 gate,
                 house,
                 turns: Turns::new(),
+                whereabouts,
                 places: Mutex::new(places),
             }),
-            Err(NoMemory) => {
+            (places, whereabouts) => {
+                drop(places);
+                drop(whereabouts);
                 drop(gate);
                 drop(house);
                 Err(NoMemory)

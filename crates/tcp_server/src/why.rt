@@ -1,7 +1,7 @@
 //! Why a backend is detached and why a session ends, in words for an operator.
 
 use backend_trait::Answer;
-use pool_server::EndCause;
+use served_recovery::EndCause;
 use session_machine::Cause;
 use std::{fmt, str};
 
@@ -59,7 +59,9 @@ pub(crate) fn why_ended(cause: EndCause) -> Option<&'static str> {
         EndCause::ReadFault => Some("its client could not be read"),
         EndCause::WriteFault => Some("its client could not be written to"),
         EndCause::CutOff => Some("it was cut off in a commit, with no backend left"),
-        EndCause::PutOut => Some("it was put out: it was silent for too long, or the pool stops"),
+        EndCause::PutOut => Some(
+            "it was put out: it was silent for too long, or in the way of a recovery, or the pool stops",
+        ),
         EndCause::Broken => {
             Some("a server ended its connection, or let it in no more, and serves others")
         }

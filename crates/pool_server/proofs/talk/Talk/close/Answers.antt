@@ -1,5 +1,5 @@
 use Rattle.std.proofs.Common.{refl, inl}
-use Rattle.pool_server.specs.declared.end.EndCause.TheVariants as causes
+use Rattle.served_recovery.specs.declared.end.EndCause.TheVariants as causes
 use Rattle.pool_server.specs.declared.parting.Step.TheVariants as steps
 use Rattle.session_wire.specs.Shown.{shown}
 use Rattle.pool_server.proofs.Talking.{closed, closes, wrote_front}

@@ -1,7 +1,7 @@
 use Rattle.std.proofs.Common.{refl, rules, to_z, of_z, w64, SFits}
 use Rattle.std.proofs.lemmas.Int.{to_z-of_z}
 use Rattle.session_engine.specs.Cores.{machine_in}
-use Rattle.pool_server.specs.declared.end.EndCause.TheVariants as causes
+use Rattle.served_recovery.specs.declared.end.EndCause.TheVariants as causes
 use Rattle.pool_server.specs.declared.parting.Step.TheVariants as steps
 use Rattle.session_wire.specs.Shown.{shown}
 use Rattle.session_wire.specs.declared.wire.WireStep.TheVariants as wires

@@ -11,7 +11,7 @@ use Rattle.pool_server.proofs.work.Work.call.Goals as goal
 pub returns-then-not-may_step-clause-went : goal.returns-then-not-may_step-clause-went
 returns-then-not-may_step-clause-went g c = λ w p s.
     untried w p s (Unmade c.args.call) (machine_in c.args.self.now.core) (g.G.GatePass.calls c.args.gate.now) (reach g.L.Link.pending g.L.Link.plan c.args.self.now.links.slots.items s.reach.plans (g.G.GatePass.stand c.args.gate.now))
-    (unseen refl refl refl (λ ended. refl)) (ap call_due (called_due _ _ c.requires)) (refl, refl) (sym c.may_step.ensures ∙ c.if-not-may_step.true, refl) refl
+    (unseen refl refl refl (λ ended. refl)) (ap call_due (called_due _ _ c.requires)) (refl, refl) ((g.G.GatePass.shown c.args.gate.now, sym c.may_step.ensures ∙ c.if-not-may_step.true), refl) refl
 
 pub returns-in-Held-clause-went : goal.returns-in-Held-clause-went
 returns-in-Held-clause-went g c = λ w p s.

@@ -1,5 +1,5 @@
 use Rattle.session_engine.specs.Cores.{machine_in}
-use Rattle.pool_server.specs.declared.end.EndCause.TheVariants as causes
+use Rattle.served_recovery.specs.declared.end.EndCause.TheVariants as causes
 use Rattle.pool_server.specs.Reaches.{reach}
 use Rattle.pool_server.proofs.Linking.{same_work}
 use Rattle.pool_server.proofs.Working.{here, plainly}

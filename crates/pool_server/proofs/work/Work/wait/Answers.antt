@@ -8,13 +8,19 @@ use Rattle.pool_server.specs.Sights.{with_work}
 use Rattle.pool_server.specs.Servings.{stepped}
 use Rattle.pool_server.proofs.Going.{went_from}
 use Rattle.pool_server.proofs.Linking.{heard_so, lost_so, same_work, settled}
-use Rattle.pool_server.proofs.Working.{missed_link, peeks, took_so, unseen, untried, waited_due}
+use Rattle.pool_server.proofs.Working.{here, missed_link, peeks, took_so, unseen, untried, waited_due}
 use Rattle.pool_server.proofs.work.Work.wait.Goals as goal
 
 pub returns-then-not-is_awaited-clause-went : goal.returns-then-not-is_awaited-clause-went
 returns-then-not-is_awaited-clause-went g c = λ w p s.
     untried w p s (Unawaited c.args.b) (machine_in c.args.self.now.core) (g.G.GatePass.calls c.args.gate.now) (reach g.L.Link.pending g.L.Link.plan c.args.self.now.links.slots.items s.reach.plans (g.G.GatePass.stand c.args.gate.now))
     (unseen refl refl refl (λ ended. refl)) (waited_due _ c.args.b c.requires) (refl, refl) (sym c.is_awaited.ensures.told ∙ c.if-not-is_awaited.true, refl) refl
+
+pub returns-then-is_ahead_due-clause-went : goal.returns-then-is_ahead_due-clause-went
+returns-then-is_ahead_due-clause-went g c = λ w p s.
+    here w p s (machine_in c.args.self.now.core) (machine_in c.args.self.now.core) (g.G.GatePass.calls c.args.gate.now) (g.G.GatePass.calls c.args.gate.now)
+    (reach g.L.Link.pending g.L.Link.plan c.args.self.now.links.slots.items s.reach.plans (g.G.GatePass.stand c.args.gate.now)) (reach g.L.Link.pending g.L.Link.plan c.foretell.new.self.slots.items s.reach.plans (g.G.GatePass.stand c.args.gate.now))
+    refl refl (same_work _ _ _ _ _ c.foretell.ensures.kept refl)
 
 pub returns-in-Answered-clause-went : goal.returns-in-Answered-clause-went
 returns-in-Answered-clause-went g c = λ w p s.

@@ -1,17 +1,17 @@
 //! Links that are made before their first use.
 ghost use Rattle.std.specs.Prelude.{◌≡◌, ◌<◌, None, IfSome, is_none, length, true};
-ghost use Rattle.tcp_link.specs.Links.{pending_of};
 
-use crate::TcpLink;
+use backend_trait::Link;
 use pool_base::{BackendId, NoMemory};
 use std::alloc::Global;
+use tcp_link::TcpLink;
 
 /// A link at which nothing is pending.
 #[derive(Drop)]
 struct Made<'a> {
     b: BackendId,
     link: TcpLink<'a>,
-    ghost idle: { is_none (pending_of link.state) ≡ true },
+    ghost idle: { is_none (⟦<TcpLink<'a> as Link>⟧.pending link) ≡ true },
 }
 
 /// Links that are made before their first use, one for each backend at most.
@@ -22,8 +22,8 @@ pub struct Held<'a> {
 
 /// A link whose server has not ended it.
 fn still_there<'a>(link: TcpLink<'a>) -> Option<TcpLink<'a>>
-    requires { pending_of link.state ≡ None }
-    ensures { IfSome result (λ link. pending_of link.state ≡ None) }
+    requires { ⟦<TcpLink<'a> as Link>⟧.pending link ≡ None }
+    ensures { IfSome result (λ link. ⟦<TcpLink<'a> as Link>⟧.pending link ≡ None) }
 {
     if link.has_ended() {
         drop(link);
@@ -42,7 +42,7 @@ impl<'a> Held<'a> {
 
     /// Holds a link to that backend.
     pub(crate) fn put(&mut self, b: BackendId, link: TcpLink<'a>) -> Result<(), NoMemory>
-        requires { pending_of link.state ≡ None }
+        requires { ⟦<TcpLink<'a> as Link>⟧.pending link ≡ None }
     {
         self.links.push(Made { b, link })?;
         Ok(())
@@ -62,7 +62,7 @@ impl<'a> Held<'a> {
 
     /// Hands out the link to that backend, if there is one, and its server has not ended it.
     pub(crate) fn take(&mut self, b: BackendId) -> Option<TcpLink<'a>>
-        ensures { IfSome result (λ link. pending_of link.state ≡ None) }
+        ensures { IfSome result (λ link. ⟦<TcpLink<'a> as Link>⟧.pending link ≡ None) }
     {
         let at = self.place_of(b)?;
         let Made { link, .. } = self.links.swap_remove(at);

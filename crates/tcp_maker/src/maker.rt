@@ -3,28 +3,31 @@ ghost use Rattle.std.specs.Prelude.{◌≡◌, ◌≤◌};
 ghost use Rattle.pool_base.specs.Outside.{Rose};
 ghost use Rattle.session_links.specs.declared.maker.Connected.TheVariants.{Failed};
 ghost use Rattle.tcp_link.specs.Connections.{IsConnected};
-ghost use Rattle.tcp_link.specs.Links.{pending_of};
-ghost use Rattle.tcp_link.specs.Makings.{IsMade, IsOpened};
+ghost use Rattle.tcp_maker.specs.Makings.{IsMade, IsOpened};
 
-use crate::TcpLink;
-use crate::codes::INVALID_AUTHORIZATION;
-use crate::connection::{Connected as Begun, Introduction, answers, connect};
+use crate::BackendLink;
+use crate::blanking::{Blanked, blanked};
+use crate::copy_link::CopyLink;
 use crate::held::Held;
-use crate::nonce::fresh_nonce;
-use crate::password::why_unshown;
-use crate::witness::Witnesses;
+use backend_trait::Link;
 use catalogue::Catalogue;
 use pg_messages::Pair;
 use pool_base::{BackendId, BackendSet, List, NoMemory};
 use pool_config::Config;
 use serve_base::tell;
-use session_links::{Connected, LinkMaker, Opened, Want};
+use server_check::copy_faults;
+use session_links::{Connected, LinkMaker, Opened, Readied, Want};
 use std::alloc::Global;
 use std::cell::Cell;
 use std::net::{Net, TcpStream};
 use std::random::RandomSource;
 use std::rt::Clock;
+use std::str;
 use std::sync::Wait;
+use tcp_link::{
+    Asker, Connected as Begun, INVALID_AUTHORIZATION, Introduction, TcpLink, Witnesses, answers,
+    connect, fresh_nonce, why_unshown,
+};
 
 /// Makes links over TCP to the backends of a configuration.
 #[derive(Drop)]
@@ -59,23 +62,48 @@ const INTERVAL: &[u8] = b"2000";
 /// may leave the pool without an answer, since a session has waited as long before.
 const HALF_A_SECOND: u32 = 10;
 
+/// How long a statement of a copy waits for a lock, and that nothing else ends its session.
+const OF_A_COPY: [(&[u8], &[u8]); 3] = [
+    (b"lock_timeout", b"10s"),
+    (b"statement_timeout", b"0"),
+    (b"idle_in_transaction_session_timeout", b"0"),
+];
+
+fn pair(alloc: Global, name: &[u8], value: &[u8]) -> Result<Pair, NoMemory> {
+    Ok(Pair {
+        name: List::from_slice(alloc, name)?,
+        value: List::from_slice(alloc, value)?,
+    })
+}
+
 /// The options that a backend is told of: who the client is, and that its session ends soon where
-/// the pool has dropped it.
-fn passed_on(alloc: Global, options: &[Pair]) -> Result<List<Pair>, NoMemory> {
+/// the pool has dropped it; and those of a copy.
+fn passed_on(alloc: Global, options: &[Pair], copies: bool) -> Result<List<Pair>, NoMemory> {
     let mut theirs = List::new(alloc);
-    theirs.push(Pair {
-        name: List::from_slice(alloc, CHECKS)?,
-        value: List::from_slice(alloc, INTERVAL)?,
-    })?;
+    theirs.push(pair(alloc, CHECKS, INTERVAL)?)?;
     for option in options {
         if is_passed_on(option) {
-            theirs.push(Pair {
-                name: List::from_slice(alloc, option.name.as_slice())?,
-                value: List::from_slice(alloc, option.value.as_slice())?,
-            })?;
+            let (name, value) = (option.name.as_slice(), option.value.as_slice());
+            theirs.push(pair(alloc, name, value)?)?;
+        }
+    }
+    if copies {
+        for (name, value) in OF_A_COPY {
+            theirs.push(pair(alloc, name, value)?)?;
         }
     }
     Ok(theirs)
+}
+
+/// The value of an option of the client, where it is a text. A client that names no database means
+/// that of its user's name.
+fn option_of<'b>(options: &'b [Pair], name: &[u8]) -> &'b str {
+    for option in options {
+        if option.name.as_slice() == name {
+            return str::from_utf8(option.value.as_slice()).unwrap_or("");
+        }
+    }
+    ""
 }
 
 impl<'a, R: Net<Stream = TcpStream> + RandomSource + Eprint + Clock + Copy> TcpMaker<'a, R> {
@@ -121,10 +149,10 @@ impl<'a, R: Net<Stream = TcpStream> + RandomSource + Eprint + Clock + Copy> TcpM
     }
 
     /// A session at that backend, for a client that has begun its own with these options.
-    fn begun(&self, b: BackendId, options: &[Pair]) -> Begun<'a>
+    fn begun(&self, b: BackendId, options: &[Pair], copies: bool) -> Begun<'a>
         ensures { IsConnected result }
     {
-        let Ok(options) = passed_on(self.alloc, options) else {
+        let Ok(options) = passed_on(self.alloc, options, copies) else {
             return Begun::NoMemory;
         };
         match fresh_nonce(self.rt, self.alloc) {
@@ -135,7 +163,7 @@ impl<'a, R: Net<Stream = TcpStream> + RandomSource + Eprint + Clock + Copy> TcpM
     }
 
     /// No session was begun at that backend.
-    fn fail(&mut self, b: BackendId) -> Connected<TcpLink<'a>>
+    fn fail(&mut self, b: BackendId) -> Connected<BackendLink<'a>>
         ensures failed { result ≡ Failed }
         ensures rose { Rose self.old.faults self.new.faults }
         ensures later { self.old.faults ≤ self.new.faults }
@@ -146,20 +174,20 @@ impl<'a, R: Net<Stream = TcpStream> + RandomSource + Eprint + Clock + Copy> TcpM
     }
 
     /// Makes a link to a backend now. A client that the server turns away has one that says so.
-    fn make(&mut self, b: BackendId, options: &[Pair]) -> Connected<TcpLink<'a>>
-        ensures made { IsMade (λ link. pending_of link.state) result self.old.faults
+    fn make(&mut self, b: BackendId, options: &[Pair]) -> Connected<BackendLink<'a>>
+        ensures made { IsMade ⟦<BackendLink<'a> as Link>⟧.pending result self.old.faults
             self.new.faults }
         ensures later { self.old.faults ≤ self.new.faults }
     {
-        match self.begun(b, options) {
+        match self.begun(b, options, false) {
             Begun::Ready(link) | Begun::TurnedAway(link, _) => {
                 self.reached(b);
-                Connected::Ready(link)
+                Connected::Ready(CopyLink::new(self.alloc, link))
             }
             Begun::Unshown(link, unshown) => {
                 self.tell(b, why_unshown(unshown));
                 self.reached(b);
-                Connected::Ready(link)
+                Connected::Ready(CopyLink::new(self.alloc, link))
             }
             Begun::Forged => {
                 self.tell(b, "has not shown that it knows the password");
@@ -175,7 +203,7 @@ impl<'a, R: Net<Stream = TcpStream> + RandomSource + Eprint + Clock + Copy> TcpM
     fn hold(&mut self, b: BackendId, options: &[Pair]) -> Opened
         ensures { IsOpened result self.old.faults self.new.faults }
     {
-        match self.begun(b, options) {
+        match self.begun(b, options, false) {
             Begun::Ready(link) => {
                 self.reached(b);
                 match self.held.put(b, link) {
@@ -210,6 +238,72 @@ impl<'a, R: Net<Stream = TcpStream> + RandomSource + Eprint + Clock + Copy> TcpM
         Opened::Failed
     }
 
+    /// Whether the rows of the source can be copied to a backend. Where they cannot an operator is
+    /// told why.
+    fn is_fit(
+        &self,
+        b: BackendId,
+        source: BackendId,
+        options: &[Pair],
+    ) -> Result<bool, NoMemory> {
+        let password = match &self.config.backend_password {
+            Some(password) => Some(password.as_str()),
+            None => None,
+        };
+        let user = option_of(options, b"user");
+        let database = option_of(options, b"database");
+        let asker = Asker::new(self.alloc, user, database, password)?;
+        let (config, tables) = (self.config, self.tables);
+        let lines = copy_faults(self.rt, self.alloc, config, tables, source, b, &asker)?;
+        drop(asker);
+        for line in lines.as_slice() {
+            let line = line.as_str();
+            let number = b.number;
+            let why = format_args!("recovery of backend {number}: {line}");
+            tell(self.rt, self.alloc, why);
+        }
+        Ok(lines.is_empty())
+    }
+
+    /// Nothing can be copied to a backend.
+    fn unfit(&mut self) -> Readied<BackendLink<'a>>
+        ensures rose { Rose self.old.faults self.new.faults }
+        ensures later { self.old.faults ≤ self.new.faults }
+    {
+        self.faults = self.faults.saturating_add(1);
+        Readied::Unfit
+    }
+
+    /// A link to a backend that takes rows at speed.
+    fn target(&mut self, b: BackendId, options: &[Pair]) -> Readied<BackendLink<'a>> {
+        match self.begun(b, options, true) {
+            Begun::Ready(link) => {
+                let mut link = CopyLink::new(self.alloc, link);
+                link.gather();
+                Readied::Ready(link)
+            }
+            Begun::TurnedAway(link, _) => {
+                drop(link);
+                self.tell(b, "lets no further session begin");
+                self.unfit()
+            }
+            Begun::Unshown(link, unshown) => {
+                drop(link);
+                self.tell(b, why_unshown(unshown));
+                self.unfit()
+            }
+            Begun::Forged => {
+                self.tell(b, "has not shown that it knows the password");
+                self.unfit()
+            }
+            Begun::Failed => {
+                self.tell(b, "is not reached");
+                self.unfit()
+            }
+            Begun::Short(_) | Begun::NoMemory => Readied::NoMemory,
+        }
+    }
+
     /// Makes a link to each backend of a set, for a client that has begun its own session with
     /// these options, and holds them until they are asked for. What became of each is answered, by
     /// the backends' numbers.
@@ -238,12 +332,33 @@ impl<'a, R: Net<Stream = TcpStream> + RandomSource + Eprint + Clock + Wait + Cop
 
     ghost plans = { λ _. None };
 
-    type L = TcpLink<'a>;
+    type L = BackendLink<'a>;
 
-    fn connect(&mut self, b: BackendId, options: &[Pair]) -> Connected<TcpLink<'a>> {
+    fn connect(&mut self, b: BackendId, options: &[Pair]) -> Connected<BackendLink<'a>> {
         match self.held.take(b) {
-            Some(link) => Connected::Ready(link),
+            Some(link) => Connected::Ready(CopyLink::new(self.alloc, link)),
             None => self.make(b, options),
+        }
+    }
+
+    fn ready(
+        &mut self,
+        b: BackendId,
+        source: BackendId,
+        options: &[Pair],
+    ) -> Readied<BackendLink<'a>> {
+        match self.is_fit(b, source, options) {
+            Ok(true) => self.target(b, options),
+            Ok(false) => self.unfit(),
+            Err(NoMemory) => Readied::NoMemory,
+        }
+    }
+
+    fn blank(&mut self, link: &mut BackendLink<'a>) {
+        match blanked(self.alloc, self.tables, &mut link.link) {
+            Ok(Blanked::Yes) => {}
+            Ok(Blanked::Refused(code)) => link.link.turn_away(code),
+            Ok(Blanked::Lost) | Err(NoMemory) => link.give_up(),
         }
     }
 
