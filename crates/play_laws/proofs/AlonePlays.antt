@@ -135,7 +135,7 @@ module _ (s : ℕ) where
   step_of p (Recover o event) is all = fallen_of _ p.tracked.history 65 all
   step_of p (Answers o b answer) is all = answered_of p o.number b.number answer (p.asked o.number b.number) all
 
-  all_of : (p : Pool) (es : List Step) → AreStepsOf es → AreOf s p.tracked.history → AreOf s (pool_all p es).tracked.history
+  pub all_of : (p : Pool) (es : List Step) → AreStepsOf es → AreOf s p.tracked.history → AreOf s (pool_all p es).tracked.history
   all_of p [] is all = all
   all_of p (e ∷ es) is all = all_of (after p e) es is.1 (step_of p e is.0 all)
 
@@ -168,7 +168,7 @@ module _ (s : ℕ) where
   put_steps (Recovers o event) rest is all = recovered_steps o event rest all
   put_steps (Loses b) rest is all = (tt, all)
 
-  steps_are : (entries : List Happened) → AreOfSession s entries → AreStepsOf (steps_of entries)
+  pub steps_are : (entries : List Happened) → AreOfSession s entries → AreStepsOf (steps_of entries)
   steps_are [] all = tt
   steps_are (entry ∷ entries) all = put_steps entry (steps_of entries) all.0 (steps_are entries all.1)
 

@@ -164,7 +164,7 @@ taken_comes : (tables : List TableDef) (old new : State) (w : World) → Follows
     → Moves tables s old.shared (old.machines s) (events.Taken b answer) new.shared (new.machines s) → new.machines ≡ with_machine old.machines s (new.machines s)
     → (rest : List Event) → ((v : World) → Follows tables new v → IsSchedule v rest) → IsSchedule w (Act s b answer ∷ (Of s (events.Taken b answer) ∷ rest))
 taken_comes tables old new w f s b answer moves others rest go =
-    let bare = answers_bare tables old new w f b.number s.number answer moves.serves.0 in
+    let bare = answers_bare tables old new w f b.number s.number answer moves.serves.0.0 in
     let event : SessionEvent = events.Taken b answer in (
       act_may (w.store b.number) s.number answer (new.shared.stores b.number) bare,
       (

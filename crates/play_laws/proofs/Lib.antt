@@ -33,3 +33,9 @@ pub mod AlonePlays
 pub mod AsksGrowing
 pub mod AsksPlaces
 pub mod AsksSteps
+pub mod Machines
+pub mod MemoryDeeds
+pub mod MemoryPlays
+pub mod AloneWaits
+pub mod AloneSuited
+pub mod AloneSessions

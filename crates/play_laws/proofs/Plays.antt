@@ -21,7 +21,7 @@ use Rattle.play_laws.specs.Following.{Follows, started, event_before, events_of}
 use Rattle.play_laws.proofs.Entries.{entry_comes, follows_first}
 
 -- all entries come, one after another
-all_come : (tables : List TableDef) → AreAllowed tables → (entries : List told.Entry) (old last : State) (w : World) → Follows tables old w → IsPlay tables old entries last → IsSchedule w (events_of entries)
+pub all_come : (tables : List TableDef) → AreAllowed tables → (entries : List told.Entry) (old last : State) (w : World) → Follows tables old w → IsPlay tables old entries last → IsSchedule w (events_of entries)
 all_come tables allowed [] old last w f play = tt
 all_come tables allowed (entry ∷ entries) old last w f play =
     entry_comes tables old play.0 w allowed f entry play.1 (events_of entries) (λ v follows. all_come tables allowed entries play.0 last v follows play.2)

@@ -119,7 +119,7 @@ module _ (tables : List TableDef) (old new : State) (p : Pool) (phases : ℕ →
   whole = g.follows.stores b.number
 
   acts : Answers st s.number answer (new.shared.stores b.number)
-  acts = h.moves.serves.0
+  acts = h.moves.serves.0.0
 
   up : own.lost ≡ false
   up = sym (ap (λ (x : Store). x.lost) whole.same) ∙ acts.not_lost

@@ -61,3 +61,18 @@ AreAnswered tables s (e ∷ es) = IsDone (store_after tables es) s e.deed × Are
 pub record IsAlone (tables : List TableDef) (s : ℕ) (history : List Entry) : Type 0 where
   pub all : AreOf s history
   pub answered : AreAnswered tables s history
+
+-- the request that waits is answered so, and is not refused for want of memory
+abbrev pub IsSuited : Store → ℕ → Answer → Type 0
+IsSuited st s answer = WhereSome (st.pending s) (λ p. Suits st s p.request answer)
+
+abbrev pub SuitsAt : Store → ℕ → Deed → Type 0
+SuitsAt st s (Asks request) = Unit {0}
+SuitsAt st s (Gets answer) = IsSuited st s answer
+SuitsAt st s (Falls None) = Unit {0}
+SuitsAt st s (Falls (Some code)) = IsSuited st s (answers.Refused code)
+
+-- so is each request of a run, the newest entry first
+abbrev pub AreSuited : List TableDef → ℕ → List Entry → Type 0
+AreSuited tables s [] = Unit {0}
+AreSuited tables s (e ∷ es) = SuitsAt (store_after tables es) s e.deed × AreSuited tables s es

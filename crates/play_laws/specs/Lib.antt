@@ -9,3 +9,5 @@ pub mod Runs
 pub mod Alone
 pub mod OneSession
 pub mod Asked
+pub mod Memory
+pub mod Waiting

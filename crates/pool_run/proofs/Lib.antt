@@ -9,6 +9,7 @@ pub mod ScriptNumbers
 pub mod ScriptReading
 pub mod DrawingLemmas
 pub mod ServingLemmas
+pub mod OneClient
 pub mod PlayedOut
 pub mod OneStore
 pub mod Replying

@@ -11,6 +11,7 @@ use Rattle.schema.specs.declared.catalogue.TableDef.{TableDef}
 use Rattle.schema.specs.Allowed.{AreAllowed}
 use Rattle.pool_base.specs.Sets.{IsEmptySet}
 use Rattle.pool_base.specs.declared.backend_set.BackendSet.{BackendSet}
+use Rattle.pool_base.specs.declared.session_id.SessionId.{SessionId}
 use Rattle.backend_trait.specs.Store.{Store}
 use Rattle.session_machine.specs.declared.machine.ReadPolicy.{ReadPolicy}
 use Rattle.session_seat.specs.Policy.{policy_in}
@@ -35,6 +36,10 @@ use Rattle.recovery_laws.specs.Steps.{AllHold}
 use Rattle.play_laws.specs.Runs.{IsRunOfOneStore}
 use Rattle.play_laws.specs.Following.{events_of, started}
 use Rattle.play_laws.specs.RecoveryFollowing.{Follows, steps_of}
+use Rattle.play_laws.specs.Alone.{AreSuited}
+use Rattle.play_laws.specs.Memory.{WantsNone}
+use Rattle.play_laws.specs.OneSession.{AreOfSession}
+use Rattle.play_laws.specs.Waiting.{IsAnswered, IsLetIn}
 use Rattle.pool_run.specs.Journals.{AreOfOneStore, HasJournal, IsOfOneStore}
 use Rattle.pool_run.specs.Replies.{IsBounded, IsOneRun, IsReplied, IsRepliedInPart, kept_at}
 use Rattle.pool_run.specs.Shelf.{HaveStores}
@@ -42,6 +47,7 @@ use Rattle.pool_run.specs.Status.{code_of}
 use Rattle.pool_run.specs.declared.status.Status.{Status}
 use Rattle.pool_run.specs.declared.status.Status.TheVariants.{Done, NoneLeft}
 use Rattle.pool_run.specs.Ends.{Outside, IsSpoken, SeveralEnds}
+use Rattle.pool_run.proofs.OneClient.{Never, of_one_client}
 
 -- one that was played to its end, whether a backend is attached then or none
 pub played_out : (journal : Bool) (config : Config) (tables : List TableDef) (script : List Line) (status : Status) (o : Outside) → (status ≡ Done) ⊎ (status ≡ NoneLeft) → ((number : ℕ) → code_of status ≡ number → IsSpoken journal number config tables script o)
@@ -92,6 +98,18 @@ pub record Laws : Type 0 where
       → IsSchedule layout.tables (first_state policy layout (first_shared layout.tables attached)) entries last → AllHold (first_pool layout policy attached) (steps_of entries)
   pub agree : (layout : Layout) (policy : ReadPolicy) (attached : BackendSet) (steps : List Step) → AreAllowed layout.tables → attached.bits < 256 → IsPlayed (first_pool layout policy attached) steps
       → ReplicasAgree (pool_all (first_pool layout policy attached) steps).tracked
+  pub memory : (policy : ReadPolicy) (layout : Layout) (attached : BackendSet) (entries : List Entry) (last : State)
+      → IsSchedule layout.tables (first_state policy layout (first_shared layout.tables attached)) entries last → WantsNone (pool_all (first_pool layout policy attached) (steps_of entries)).tracked.history
+  pub suited : (policy : ReadPolicy) (layout : Layout) (attached : BackendSet) (entries : List Entry) (last : State) (s : ℕ) → AreOfSession s entries → AllHold (first_pool layout policy attached) (steps_of entries)
+      → Follows layout.tables last (pool_all (first_pool layout policy attached) (steps_of entries)) → IsSchedule layout.tables (first_state policy layout (first_shared layout.tables attached)) entries last
+      → AreSuited layout.tables s (pool_all (first_pool layout policy attached) (steps_of entries)).tracked.history
+  pub unbounded : (policy : ReadPolicy) (layout : Layout) (attached : BackendSet) (entries : List Entry) (last : State) (s : ℕ) → AreAllowed layout.tables → attached.bits < 256 → AreOfSession s entries → AreOfSessions entries
+      → IsSchedule layout.tables (first_state policy layout (first_shared layout.tables attached)) entries last
+      → AreSuited layout.tables s (pool_all (first_pool layout policy attached) (steps_of entries)).tracked.history
+  pub answered : (tables : List TableDef) (policy : ReadPolicy) (layout : Layout) (attached : BackendSet) (entries : List Entry) (last : State) (s : SessionId) → AreOfSession s.number entries
+      → IsSchedule tables (first_state policy layout (first_shared tables attached)) entries last → IsAnswered s last
+  pub let_in : (tables : List TableDef) (policy : ReadPolicy) (layout : Layout) (attached : BackendSet) (entries : List Entry) (last : State) (s : SessionId) → AreOfSession s.number entries → AreOfSessions entries
+      → IsSchedule tables (first_state policy layout (first_shared tables attached)) entries last → IsLetIn s last
 
 of_one_store : Laws → (config : Config) (tables : List TableDef) (layout : Layout) (attached : BackendSet) (entries : List Entry) (last : State) → AreAllowed tables → layout.tables ≡ tables → attached.bits < 256
     → IsSchedule tables (first_state (policy_in config) layout (first_shared tables attached)) entries last → IsBounded tables entries → AreOfOneStore layout (policy_in config) attached entries last
@@ -117,6 +135,31 @@ is_one_run laws config tables layout attached entries last allowed same few firs
       of_sessions config tables attached entries (sessions_of entries) header (length (events_of (sessions_of entries))) first printed (laws.told tables entries alone)
       (laws.runs tables policy attached (sessions_of entries) (sessions_in last) allowed few (laws.alone tables policy layout (first_shared tables attached) entries last alone schedule));
   with_recoveries = of_one_store laws config tables layout attached entries last allowed same few schedule;
+  no_memory_wanted =
+      laws.memory (policy_in config) layout attached entries last (tables_in tables layout (λ ts. IsSchedule ts (first_state (policy_in config) layout (first_shared ts attached)) entries last) same schedule);
+}
+
+-- and in a play of one session each request has the answer that suits it
+is_suited : Laws → (config : Config) (tables : List TableDef) (layout : Layout) (attached : BackendSet) (entries : List Entry) (last : State) (s : SessionId) → AreAllowed tables → layout.tables ≡ tables → attached.bits < 256
+    → IsSchedule tables (first_state (policy_in config) layout (first_shared tables attached)) entries last → AreOfSession s.number entries → IsBounded tables entries
+    → AreSuited layout.tables s.number (pool_all (first_pool layout (policy_in config) attached) (steps_of entries)).tracked.history
+is_suited laws config tables layout attached entries last s allowed same few schedule of short =
+    let one = of_one_store laws config tables layout attached entries last allowed same few schedule short in
+    laws.suited (policy_in config) layout attached entries last s.number of one.all_hold one.follows
+    (tables_in tables layout (λ ts. IsSchedule ts (first_state (policy_in config) layout (first_shared ts attached)) entries last) same schedule)
+
+-- however long it is, where no recovery is ordered
+is_suited_alone : Laws → (config : Config) (tables : List TableDef) (layout : Layout) (attached : BackendSet) (entries : List Entry) (last : State) (s : SessionId) → AreAllowed tables → layout.tables ≡ tables → attached.bits < 256
+    → IsSchedule tables (first_state (policy_in config) layout (first_shared tables attached)) entries last → AreOfSession s.number entries → AreOfSessions entries
+    → AreSuited layout.tables s.number (pool_all (first_pool layout (policy_in config) attached) (steps_of entries)).tracked.history
+is_suited_alone laws config tables layout attached entries last s allowed same few schedule of no =
+    laws.unbounded (policy_in config) layout attached entries last s.number (tables_in tables layout (λ ts. AreAllowed ts) same allowed) few of no
+    (tables_in tables layout (λ ts. IsSchedule ts (first_state (policy_in config) layout (first_shared ts attached)) entries last) same schedule)
+
+never_waits : Laws → (config : Config) (tables : List TableDef) (layout : Layout) (attached : BackendSet) (s : SessionId) → Never tables (first_state (policy_in config) layout (first_shared tables attached)) s
+never_waits laws config tables layout attached s = record {
+  answered = λ entries last of run. laws.answered tables (policy_in config) layout attached entries last s of run;
+  let_in = λ entries last of no run. laws.let_in tables (policy_in config) layout attached entries last s of no run;
 }
 
 -- The transcript, and the journal of its schedule.
@@ -139,6 +182,10 @@ is_replied laws config tables layout script journal number shelf attached last o
       transcript = it;
       one_run = is_one_run laws config tables layout attached entries it.board.state allowed of_layout.of_tables few first it.schedule;
       bounded = bounded_of journal tables entries it.short;
+      one_client = λ s of.
+          of_one_client config tables layout attached script (kept_at journal) last old new s it of (never_waits laws config tables layout attached s)
+          (is_suited laws config tables layout attached entries it.board.state s allowed of_layout.of_tables few it.schedule)
+          (is_suited_alone laws config tables layout attached entries it.board.state s allowed of_layout.of_tables few it.schedule);
       stores = stores;
       none_left = left;
     }

@@ -7,6 +7,7 @@ pub mod Ways
 pub mod Reading
 pub mod Shelf
 pub mod Journals
+pub mod OneClient
 pub mod Replies
 pub mod Ends
 pub mod Plan

@@ -3,6 +3,7 @@ use Rattle.std.specs.Prelude.{◌≡◌, ◌⊎◌, ◌↔◌, ◌<◌, ℕ, pos
 use Rattle.pool_base.specs.Outside.{Told, IsTold}
 use Rattle.pool_base.specs.Sets.{IsEmptySet}
 use Rattle.pool_base.specs.declared.backend_set.BackendSet.{BackendSet}
+use Rattle.pool_base.specs.declared.session_id.SessionId.{SessionId}
 use Rattle.backend_trait.specs.Store.{Store}
 use Rattle.pgproto.specs.Line.{Line}
 use Rattle.pgproto.specs.Script.{IsScript}
@@ -22,10 +23,14 @@ use Rattle.recovery_seat.specs.Schedule.{AreOfSessions, Entry, State, lines}
 use Rattle.session_player.specs.Speaking.{entries_of}
 use Rattle.session_player.specs.Transcript.{IsTranscript}
 use Rattle.session_player.specs.BrokenOff.{IsBrokenOff}
+use Rattle.recovery_laws.specs.Pool.{first_pool, pool_all}
+use Rattle.play_laws.specs.Memory.{WantsNone}
+use Rattle.play_laws.specs.RecoveryFollowing.{steps_of}
 use Rattle.pool_run.specs.Drawing.{TakesNone}
 use Rattle.pool_run.specs.Shelf.{HaveStores}
 use Rattle.pool_run.specs.Ways.{AreSingle}
 use Rattle.pool_run.specs.Journals.{AreOfOneStore, IsOfOneStore}
+use Rattle.pool_run.specs.OneClient.{AreLinesOf, IsOfOne}
 
 -- a journal before a play
 abbrev pub kept_at : Bool → Journal
@@ -37,14 +42,15 @@ abbrev pub IsBounded : List TableDef → List Entry → Type 0
 IsBounded tables entries = length (lines tables entries) < 18446744073709551616
 
 -- entries that lead to a state are of one store: where no recovery is ordered, and, where their lines are fewer than 2^64 bytes, with
--- recoveries
+-- recoveries. The single run has no refusal for want of memory
 pub record IsOneRun (config : Config) (tables : List TableDef) (layout : Layout) (attached : BackendSet) (entries : List Entry) (last : State) : Type 0 where
   pub sessions_alone : AreOfSessions entries → (header : List ℕ) → IsHeader config tables header → IsOfOneStore config tables (header ++ lines tables entries)
   pub with_recoveries : IsBounded tables entries → AreOfOneStore layout (policy_in config) attached entries last
+  pub no_memory_wanted : WantsNone (pool_all (first_pool layout (policy_in config) attached) (steps_of entries)).tracked.history
 
 -- a script was played to its end: what was written is the transcript of a schedule, and behind it the journal of this schedule, where it is
--- kept. The schedule begins with each backend attached and no rows, and is of one store. The shelf then has the stores to which it leads, and
--- the status is 6 where it leaves no backend attached, and 0 else
+-- kept. The schedule begins with each backend attached and no rows, and is of one store; of a script of one client `IsOfOne` says more. The
+-- shelf then has the stores to which it leads, and the status is 6 where it leaves no backend attached, and 0 else
 pub record IsReplied (config : Config) (tables : List TableDef) (script : List Line) (journal : Bool) (number : ℕ) (shelf : List Store) (old new : Option (List ℕ)) : Type 0 where
   pub layout : Layout
   pub of_layout : IsLayout config tables layout
@@ -54,6 +60,7 @@ pub record IsReplied (config : Config) (tables : List TableDef) (script : List L
   pub transcript : IsTranscript config tables layout (length config.nodes) script (pos 0) (kept_at journal) (first_shared tables attached) last old new
   pub one_run : IsOneRun config tables layout attached (entries_of (transcript.happenings ++ transcript.at_end)) transcript.board.state
   pub bounded : journal ≡ true → IsBounded tables (entries_of (transcript.happenings ++ transcript.at_end))
+  pub one_client : (s : SessionId) → AreLinesOf s.number script → IsOfOne config tables layout attached script (kept_at journal) last old new s transcript
   pub stores : HaveStores (length config.nodes) last.stores shelf
   pub none_left : (number ≡ 6) ↔ IsEmptySet last.gate.attached.bits
 

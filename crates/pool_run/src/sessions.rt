@@ -15,7 +15,10 @@ use crate::running::prepare_first;
 use crate::status::Status;
 use backend_trait::Backend;
 use checked_sql::catalogue_copied;
-use play_laws::{plays_are_runs, plays_are_steps};
+use play_laws::{
+    nothing_wants_memory, one_session_is_alone, one_session_never_waits, plays_are_runs,
+    plays_are_steps,
+};
 use pool_base::{BackendSet, List, NoMemory, Sink};
 use recovery_laws::replicas_agree;
 use recovery_seat::without_recoveries;
@@ -127,6 +130,9 @@ fn play_in<O: Sink, B: Backend>(
     plays_are_runs();
     plays_are_steps();
     replicas_agree();
+    nothing_wants_memory();
+    one_session_is_alone();
+    one_session_never_waits();
     match play(setting, script, world, journal_at(alloc, journal), out) {
         Ok(attached) => ended(attached),
         Err(PlayFault::NoMemory) => Status::NoMemory,

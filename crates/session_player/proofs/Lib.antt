@@ -11,3 +11,4 @@ pub mod Losing
 pub mod Breaking
 pub mod Stilling
 pub mod Resting
+pub mod Standing

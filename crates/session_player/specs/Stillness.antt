@@ -7,6 +7,7 @@ use Rattle.pgproto.specs.declared.line.Mark.{Mark}
 use Rattle.backend_trait.specs.declared.answer.Polled.TheVariants as polls
 use Rattle.backend_trait.specs.Acts.{IsPromptly}
 use Rattle.snapshot_gate.specs.Function as gates
+use Rattle.session_machine.specs.declared.action.Action.TheVariants as actions
 use Rattle.session_machine.specs.declared.machine.Machine.{Machine}
 use Rattle.session_machine.specs.Rules.{next_action}
 use Rattle.session_engine.specs.declared.ask.Ask.{Ask}
@@ -66,6 +67,11 @@ AreStill shared layout slots = (j : ℕ) → IsSlotStill shared layout (slice_in
 abbrev pub AllStill : Board → Type 0
 AllStill b = (s : SessionId) (hearer : Hearer) → b.hearers s.number ≡ Some hearer
     → (hearer.turn ≡ Held) ⊎ StandsStill b.state.shared s.number (b.state.machines s) (b.state.recoveries s) hearer.view hearer.over
+
+-- where its client is connected and not held, a session is not over, asks for nothing, and has no whole message of its client left
+abbrev pub RestsFor : SessionId → Board → Type 0
+RestsFor s b = (hearer : Hearer) → b.hearers s.number ≡ Some hearer
+    → (hearer.turn ≡ Held) ⊎ ((hearer.over ≡ false) × ((next_action (b.state.machines s) ≡ actions.Rest) × IsWaiting hearer.view))
 
 -- behind a line rounds are made, but behind `hold` and `until`
 abbrev pub goes_round : Line → Bool

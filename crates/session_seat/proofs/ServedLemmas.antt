@@ -15,7 +15,7 @@ use Rattle.backend_trait.specs.declared.answer.Polled.{Polled}
 use Rattle.backend_trait.specs.declared.answer.Polled.TheVariants as polls
 use Rattle.backend_trait.specs.Rows.{with_at}
 use Rattle.backend_trait.specs.Store.{Store, lost_by}
-use Rattle.backend_trait.specs.Acts.{Acts}
+use Rattle.backend_trait.specs.Acts.{Acts, IsPromptly}
 use Rattle.snapshot_gate.specs.declared.state.GateState.{GateState}
 use Rattle.snapshot_gate.specs.Function as gates
 use Rattle.session_machine.specs.declared.action.SessionEvent.TheVariants as events
@@ -77,8 +77,11 @@ unanswered old new b s polled is acts alone =
 
 -- there is one
 pub served : (tables : List TableDef) (old new : ℕ → Store) (b : BackendId) (s : ℕ) (polled : Polled) (answer : Answer) → polled ≡ polls.Answered answer → Acts (old b.number) s polled (new b.number)
-    → new ≡ with_at old b.number (new b.number) → Serves tables old s (events.Taken b answer) new
-served tables old new b s polled answer is acts alone = (subst (λ (p : Polled). Acts (old b.number) s p (new b.number)) is acts, alone)
+    → new ≡ with_at old b.number (new b.number) → IsPromptly (old b.number) s polled → Serves tables old s (events.Taken b answer) new
+served tables old new b s polled answer is acts alone promptly = (
+  (subst (λ (p : Polled). Acts (old b.number) s p (new b.number)) is acts, (subst (λ (p : Polled). IsPromptly (old b.number) s p) is promptly).0),
+  alone,
+)
 
 lost_twice : (st : Store) → st.lost ≡ true → lost_by st ≡ st
 lost_twice st is = ap (λ (lost : Bool). record st { lost = lost }) (sym is)

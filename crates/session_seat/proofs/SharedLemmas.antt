@@ -11,7 +11,7 @@ use Rattle.pool_base.specs.declared.backend_set.BackendSet.{BackendSet}
 use Rattle.schema.specs.declared.catalogue.TableDef.{TableDef}
 use Rattle.backend_trait.specs.Rows.{with_at}
 use Rattle.backend_trait.specs.Store.{Store, prepared, lost_by}
-use Rattle.backend_trait.specs.Acts.{Acts, InForm}
+use Rattle.backend_trait.specs.Acts.{Acts, InForm, IsPromptly}
 use Rattle.backend_trait.specs.declared.answer.Polled.{Polled}
 use Rattle.backend_trait.specs.declared.answer.Polled.TheVariants as polls
 use Rattle.snapshot_gate.specs.declared.state.GateState.{GateState}
@@ -102,6 +102,10 @@ module _ {X : Type 0} (meaning : X → Store) (tables : List TableDef) (count : 
   acts_at s polled acts =
       subst (λ (st : Store). Acts st s polled (stores_of meaning tables count (set shelf at y) b)) (sym store_at)
       (subst (λ (st : Store). Acts (meaning x) s polled st) (sym store_now) acts)
+
+  -- and it was so promptly
+  pub promptly_at : (s : ℕ) (polled : Polled) → IsPromptly (meaning x) s polled → IsPromptly (stores_of meaning tables count shelf b) s polled
+  promptly_at s polled promptly = subst (λ (st : Store). IsPromptly st s polled) (sym store_at) promptly
 
   -- whether it is lost, by the set of those that are
   told_at : (lost : ℕ) → AreTold meaning lost count shelf → b < 8 → has lost b ≡ (meaning x).lost

@@ -8,7 +8,7 @@ use Rattle.checked_sql.specs.OfCatalogue.{is_of}
 use Rattle.sql_eval.specs.Effects.{DrawsFew}
 use Rattle.backend_trait.specs.Rows.{with_at}
 use Rattle.backend_trait.specs.Store.{Store, prepared, posted, lost_by}
-use Rattle.backend_trait.specs.Acts.{Answers}
+use Rattle.backend_trait.specs.Acts.{Answers, IsPromptAnswer}
 use Rattle.snapshot_gate.specs.declared.state.GateState.{GateState}
 use Rattle.snapshot_gate.specs.Function.{first as first_gate}
 use Rattle.session_orders.specs.declared.order.OrderBody.{OrderBody}
@@ -54,14 +54,14 @@ IsReady tables (orders.Statement checked) = (is_of tables checked ≡ true) × (
 IsReady tables body = Unit {0}
 
 -- what an event of the session with that number asks of the stores, and what it makes of them: a post puts its request where nothing
--- of the session waits; an answer that is taken is one that the store may give; a backend whose loss is seen is lost, and was still to
--- answer. No other event asks or moves anything there
+-- of the session waits; an answer that is taken is one that the store may give, and no refusal for want of memory; a backend whose loss is
+-- seen is lost, and was still to answer. No other event asks or moves anything there
 abbrev pub Serves : List TableDef → (ℕ → Store) → ℕ → SessionEvent → (ℕ → Store) → Type 0
 Serves tables old s (events.Ordered order) new = IsReady tables order.body × (new ≡ old)
 Serves tables old s (events.Posted b request) new =
     ((old b.number).pending s ≡ None) × (new ≡ with_at old b.number (posted (old b.number) s request))
 Serves tables old s (events.Taken b answer) new =
-    Answers (old b.number) s answer (new b.number) × (new ≡ with_at old b.number (new b.number))
+    (Answers (old b.number) s answer (new b.number) × IsPromptAnswer answer) × (new ≡ with_at old b.number (new b.number))
 Serves tables old s (events.Faulted b before later) new =
     ((old b.number).lost ≡ true) × ((is_some ((old b.number).pending s) ≡ true) × (new ≡ old))
 Serves tables old s event new = new ≡ old

@@ -3,7 +3,7 @@ ghost use Rattle.std.specs.Prelude.{◌≡◌, ◌==◌, ◌||◌, ◌↔◌, �
 ghost use Rattle.std.specs.Prelude.{All, ℕ, drop, false, is_some, length, take, true};
 ghost use Rattle.pool_base.specs.Outside.{Rose};
 ghost use Rattle.pool_base.specs.Sets.{has};
-ghost use Rattle.backend_trait.specs.Acts.{Acts};
+ghost use Rattle.backend_trait.specs.Acts.{Acts, IsPromptly};
 ghost use Rattle.backend_trait.specs.Rows.{with_at};
 ghost use Rattle.backend_trait.specs.Store.{blank, posted, prepared};
 ghost use Rattle.backend_trait.specs.declared.answer.Polled.TheVariants.{Lost};
@@ -145,6 +145,8 @@ impl<B: Backend> World<B> {
             self.old.tables self.old.count self.old.shelf.items b.number).lost ≡ true) }
         ensures looks { IfOk result (λ looked. LooksAt B.meaning B.is_prompt
             (take self.old.count self.old.shelf.items) s.number b.number looked.polled) }
+        ensures promptly { IfOk result (λ looked. IsPromptly (stores_of B.meaning self.old.tables
+            self.old.count self.old.shelf.items b.number) s.number looked.polled) }
         ensures rose { IfOk result (λ looked. looked.polled ≡ Lost
             → Rose looked.before looked.after) }
         ensures stopped { OnErr result (MayLookAt self.old.count self.old.rolls s.number b.number

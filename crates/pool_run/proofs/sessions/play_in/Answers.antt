@@ -38,6 +38,11 @@ returns-in-Ok g c before =
       steps = c.plays_are_steps.ensures.steps;
       hold = c.plays_are_steps.ensures.one_store;
       agree = c.replicas_agree.ensures;
+      memory = c.nothing_wants_memory.ensures;
+      suited = c.one_session_is_alone.ensures.suited;
+      unbounded = c.one_session_is_alone.ensures.unbounded;
+      answered = c.one_session_never_waits.ensures.answered;
+      let_in = c.one_session_never_waits.ensures.let_in;
     } in
     let there = transcript_at config tables layout c.args.journal c.journal_at.result c.as_slice-script.result.now plan.lines.script c.args.world.now.count first behind had has c.as_slice-script.ensures c.requires.count c.journal_at.ensures.is begins
     (c.in-Ok.ensures.transcript layout of_layout) in
@@ -69,6 +74,11 @@ returns-in-Err-NoMemory g c before =
       steps = c.plays_are_steps.ensures.steps;
       hold = c.plays_are_steps.ensures.one_store;
       agree = c.replicas_agree.ensures;
+      memory = c.nothing_wants_memory.ensures;
+      suited = c.one_session_is_alone.ensures.suited;
+      unbounded = c.one_session_is_alone.ensures.unbounded;
+      answered = c.one_session_never_waits.ensures.answered;
+      let_in = c.one_session_never_waits.ensures.let_in;
     } in
     let front =
     broken_off laws plan.config plan.catalogue layout c.args.journal c.journal_at.result c.as_slice-script.result.now plan.lines.script c.args.world.now.count first (g.O.Sink.taken c.args.out.now) (g.O.Sink.taken c.play.new.out) sound.allowed of_layout
@@ -89,6 +99,11 @@ returns-in-Err-SinkFailed g c before =
       steps = c.plays_are_steps.ensures.steps;
       hold = c.plays_are_steps.ensures.one_store;
       agree = c.replicas_agree.ensures;
+      memory = c.nothing_wants_memory.ensures;
+      suited = c.one_session_is_alone.ensures.suited;
+      unbounded = c.one_session_is_alone.ensures.unbounded;
+      answered = c.one_session_never_waits.ensures.answered;
+      let_in = c.one_session_never_waits.ensures.let_in;
     } in
     let front =
     broken_off laws plan.config plan.catalogue layout c.args.journal c.journal_at.result c.as_slice-script.result.now plan.lines.script c.args.world.now.count first (g.O.Sink.taken c.args.out.now) (g.O.Sink.taken c.play.new.out) sound.allowed of_layout
@@ -109,6 +124,11 @@ returns-in-Err-Stopped g c before =
       steps = c.plays_are_steps.ensures.steps;
       hold = c.plays_are_steps.ensures.one_store;
       agree = c.replicas_agree.ensures;
+      memory = c.nothing_wants_memory.ensures;
+      suited = c.one_session_is_alone.ensures.suited;
+      unbounded = c.one_session_is_alone.ensures.unbounded;
+      answered = c.one_session_never_waits.ensures.answered;
+      let_in = c.one_session_never_waits.ensures.let_in;
     } in
     let front =
     broken_off laws plan.config plan.catalogue layout c.args.journal c.journal_at.result c.as_slice-script.result.now plan.lines.script c.args.world.now.count first (g.O.Sink.taken c.args.out.now) (g.O.Sink.taken c.play.new.out) sound.allowed of_layout

@@ -30,7 +30,7 @@ returns-in-Answered-clause-noted g c = λ machine others.
     c.take.ensures.noted machine others (shared_of g.B.Backend.meaning world.gate.state world.tables world.count world.shelf.items) (shared_of g.B.Backend.meaning new.gate.state new.tables new.count new.shelf.items)
     (ap (λ (gate : Gate). gate.state) c.poll.ensures.gate)
     (served c.args.setting.tables.now (stores_of g.B.Backend.meaning world.tables world.count world.shelf.items) (stores_of g.B.Backend.meaning new.tables new.count new.shelf.items) c.args.b c.args.s.number
-    c.in_ok-before.field-0.polled c.in-Answered.answer c.in-Answered.is c.in_ok-before.ensures.acts c.in_ok-before.ensures.alone)
+    c.in_ok-before.field-0.polled c.in-Answered.answer c.in-Answered.is c.in_ok-before.ensures.acts c.in_ok-before.ensures.alone c.in_ok-before.ensures.promptly)
 
 pub returns-in-NotYet-clause-speaks : goal.returns-in-NotYet-clause-speaks
 returns-in-NotYet-clause-speaks g c = λ machine others was same.
@@ -43,7 +43,7 @@ returns-in-Answered-clause-speaks g c = λ machine others was same.
     c.take.ensures.speaks machine others (shared_of g.B.Backend.meaning world.gate.state world.tables world.count world.shelf.items) (shared_of g.B.Backend.meaning new.gate.state new.tables new.count new.shelf.items) was
     (ap (λ (gate : Gate). gate.state) c.poll.ensures.gate)
     (served c.args.setting.tables.now (stores_of g.B.Backend.meaning world.tables world.count world.shelf.items) (stores_of g.B.Backend.meaning new.tables new.count new.shelf.items) c.args.b c.args.s.number
-    c.in_ok-before.field-0.polled c.in-Answered.answer c.in-Answered.is c.in_ok-before.ensures.acts c.in_ok-before.ensures.alone) same
+    c.in_ok-before.field-0.polled c.in-Answered.answer c.in-Answered.is c.in_ok-before.ensures.acts c.in_ok-before.ensures.alone c.in_ok-before.ensures.promptly) same
 
 pub returns-in-Lost-clause-noted : goal.returns-in-Lost-clause-noted
 returns-in-Lost-clause-noted g c = λ machine others.

@@ -32,7 +32,7 @@ returns-in-Answered-clause-quiet g c =
     c.take.ensures.quiet (shared_of g.B.Backend.meaning world.gate.state world.tables world.count world.shelf.items) (shared_of g.B.Backend.meaning new.gate.state new.tables new.count new.shelf.items)
     (ap (λ (gate : Gate). gate.state) c.poll.ensures.gate)
     (served c.args.setting.tables.now (stores_of g.B.Backend.meaning world.tables world.count world.shelf.items) (stores_of g.B.Backend.meaning new.tables new.count new.shelf.items) c.args.b c.args.seat.now.s.number
-    c.in_ok-before.field-0.polled c.in-Answered.answer c.in-Answered.is c.in_ok-before.ensures.acts c.in_ok-before.ensures.alone)
+    c.in_ok-before.field-0.polled c.in-Answered.answer c.in-Answered.is c.in_ok-before.ensures.acts c.in_ok-before.ensures.alone c.in_ok-before.ensures.promptly)
 
 pub returns-in-Lost-clause-quiet : goal.returns-in-Lost-clause-quiet
 returns-in-Lost-clause-quiet g c =

@@ -2,7 +2,7 @@ use Rattle.std.proofs.Common.{◌≡◌, ◌∙◌, true, sym, take, arith}
 use Rattle.std.proofs.lemmas.List.{get_or-take, length-set, length-take-le}
 use Rattle.session_seat.proofs.DueLemmas.{looks}
 use Rattle.session_seat.proofs.RollLemmas.{blank_next, counting_next, counts_polled, honest_at, honest_next, known_next, told_next}
-use Rattle.session_seat.proofs.SharedLemmas.{acts_at, found_lost, pending_at, stores_alone}
+use Rattle.session_seat.proofs.SharedLemmas.{acts_at, found_lost, pending_at, promptly_at, stores_alone}
 use Rattle.session_seat.proofs.world.World.poll.Goals as goal
 
 pub invariant_of-self : goal.invariant_of-self
@@ -55,3 +55,10 @@ returns-clause-looks g c =
     let world = c.args.self.now in
     looks g.B.Backend.meaning g.B.Backend.is_prompt (take world.count world.shelf.items) c.from-at.result c.args.s.number c.args.b.number c.index_mut.result.now c.poll_at.new.store c.in_ok-looked.looked (omega arith)
     (omega (arith, length-take-le world.count world.shelf.items world.enough)) (c.index_mut.ensures.value ∙ sym (get_or-take world.count world.shelf.items c.from-at.result c.index_mut.result.now (omega arith))) c.in_ok-looked.ensures.form c.in_ok-looked.ensures.promptly
+
+pub returns-clause-promptly : goal.returns-clause-promptly
+returns-clause-promptly g c =
+    let world = c.args.self.now in
+    let prompt = honest_at g.B.Backend.is_prompt world.shelf.items c.from-at.result c.index_mut.result.now world.prompt (omega (arith, world.enough)) c.index_mut.ensures.value in
+    promptly_at g.B.Backend.meaning world.tables world.count world.shelf.items c.from-at.result c.args.b.number c.index_mut.result.now c.poll_at.new.store (omega arith) (omega arith) world.enough c.index_mut.ensures.value c.args.s.number
+    c.in_ok-looked.looked.polled (c.in_ok-looked.ensures.promptly prompt)
