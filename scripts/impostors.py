@@ -8,11 +8,11 @@ import re
 import socket
 import struct
 import tempfile
-import threading
 import time
 
 import passwords
-from passwords import ASKED, KEPT, OPEN, USER, Login, let_in_by, settings, ticks_of
+from doubles import Double
+from passwords import ASKED, KEPT, OPEN, USER, Login, held_by, let_in_by, settings, ticks_of
 
 FIRST = re.compile(rb"^n,,n=[^,]*,r=([!-+\--~]+)$")
 LAST = re.compile(rb"^c=biws,r=([!-+\--~]+),p=([A-Za-z0-9+/=]+)$")
@@ -32,23 +32,12 @@ def signature(password, rounds, auth):
     return b"v=" + base64.b64encode(hmac.digest(key, auth, "sha256"))
 
 
-class Impostor:
+class Impostor(Double):
     """A server that plays one part to each client that comes, and counts what it hears behind it."""
 
     def __init__(self, part):
         self.part, self.seen, self.faults = part, [], []
-        self.socket = socket.create_server(("127.0.0.1", 0))
-        self.port = self.socket.getsockname()[1]
-        threading.Thread(target=self.accept, daemon=True).start()
-
-    def accept(self):
-        """Takes clients until the end."""
-        while True:
-            try:
-                client, _ = self.socket.accept()
-            except OSError:
-                return
-            threading.Thread(target=self.serve, args=(client,), daemon=True).start()
+        super().__init__()
 
     def serve(self, client):
         """Plays the part, and hears the client to its end."""
@@ -78,10 +67,6 @@ class Impostor:
             client.sendall(b"N")
         names = client.recv(length - 8, socket.MSG_WAITALL).split(b"\0")
         return dict(zip(names[::2], names[1::2])).get(b"user", b"").decode()
-
-    def close(self):
-        """Takes no client any more."""
-        self.socket.close()
 
 
 class Exchange:
@@ -192,12 +177,6 @@ def right(exchange):
 PARTS = {f"{rounds.decode() or 'no'} rounds": asks_for(rounds) for rounds in (b"0", b"2147483648", b"4294967296", b"100001", b"-1", b"", b"04096")}
 PARTS |= {"another nonce": another_nonce, "asked twice": asks_twice, "no proof": skips_the_proof}
 PARTS |= {"no signature": skips_the_signature, "wrong signature": wrong_signature, "short signature": short_signature, "an error": an_error}
-
-
-def held_by(pool):
-    """How many files and threads the pool has."""
-    number = pool.number()
-    return len(os.listdir(f"/proc/{number}/fd")), len(os.listdir(f"/proc/{number}/task"))
 
 
 def pool_before(servers, words, ports):

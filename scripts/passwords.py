@@ -12,7 +12,7 @@ import threading
 import time
 
 from postgres import POSTGRES
-from serving import DATABASE, TOP
+from serving import DATABASE, TOP, NotServed
 
 USER, OPEN, KEPT = "alice", "open sesame", "pencil"  # of the pool's client; its password at the pool, and at the servers
 SALT_AT = re.compile(rb"^r=([^,]+),s=([^,]+),i=(\d+)$")
@@ -234,8 +234,8 @@ def hostile(pool, expect):
         login.close()
 
 
-def cut(pool, expect):
-    """Each message of a right login, cut at each byte."""
+def places(pool, expect):
+    """Each place within a message of a right login: the message's number, and a count of its bytes."""
     lengths = []
 
     def measure(number, message):
@@ -243,13 +243,59 @@ def cut(pool, expect):
         return [message]
 
     expect(ends(pool, bend=measure) is None, "a right login is refused")
+    return [(number, place) for number, length in enumerate(lengths) for place in range(1, length)]
+
+
+def cut(pool, expect):
+    """Each message of a right login, cut at each byte."""
     count = 0
-    for number, length in enumerate(lengths):
-        for place in range(1, length):
-            told = ends(pool, bend=cut_at(number, place))
-            expect(told is None, f"message {number} cut at {place}: {told}")
-            count += 1
+    for number, place in places(pool, expect):
+        told = ends(pool, bend=cut_at(number, place))
+        expect(told is None, f"message {number} cut at {place}: {told}")
+        count += 1
     return count
+
+
+class Ending(Login):
+    """A login of a client that ends within a message: behind so many of its bytes."""
+
+    def __init__(self, pool, stop, place):
+        self.stop, self.place = stop, place
+        super().__init__(pool)
+
+    def put(self, message):
+        """Sends a message, or the front of the last one."""
+        if self.number < self.stop:
+            super().put(message)
+        else:
+            self.socket.sendall(message[: self.place])
+            self.socket.shutdown(socket.SHUT_WR)
+
+
+def ended(pool, expect):
+    """A client that ends within a message is not let in and told nothing, whichever byte was its last."""
+    for number, place in places(pool, expect):
+        login = Ending(pool, number, place)
+        try:
+            told = login.run(OPEN)
+        except TimeoutError:
+            told = "nothing for ten seconds"
+        login.close()
+        expect(told == "closed", f"a client that ends in message {number} behind {place} bytes is told {told}")
+
+
+def held_by(pool):
+    """How many files and threads the pool has."""
+    number = pool.number()
+    return len(os.listdir(f"/proc/{number}/fd")), len(os.listdir(f"/proc/{number}/task"))
+
+
+def leaves_nothing(pool, first, expect):
+    """The pool soon has as many files and threads as at first."""
+    end = time.monotonic() + 5
+    while held_by(pool) != first and time.monotonic() < end:
+        time.sleep(0.1)
+    expect(held_by(pool) == first, f"files and threads are {held_by(pool)}, and were {first}")
 
 
 def strangers(pool, expect):
@@ -406,13 +452,32 @@ def hostile_trial(servers, words, expect):
     let_in_by(servers, "scram-sha-256")
     pool = pool_of(servers, words, backend_password=KEPT)
     try:
+        expect(ends(pool) is None, "a right login is refused")
+        time.sleep(0.3)
+        first = held_by(pool)
         hostile(pool, expect)
         strangers(pool, expect)
+        ended(pool, expect)
         count = cut(pool, expect)
+        leaves_nothing(pool, first, expect)
         expect(ends(pool) is None, "behind them a right login is refused")
         return f"{count} cuts"
     finally:
         pool.stop()
+
+
+def rounds_trial(servers, words, expect):
+    """A verifier of no rounds, of 2^31 or of more digits than it needs is refused by its line, before the pool listens."""
+    right = verifier(OPEN)
+    for rounds in ("0", "2147483648", "100001", "04096", ""):
+        bad = right.replace("$4096:", f"${rounds}:")
+        try:
+            servers.pool(words, folder=tempfile.mkdtemp(dir=servers.folder), more=[f"scram_user0 = '{USER}'", f"scram_verifier0 = '{bad}'"]).stop()
+            told = "it listens"
+        except NotServed as why:
+            told = str(why)
+        expect("ends with 2" in told and "scram_verifier0" in told, f"a verifier of {rounds or 'no'} rounds: {told}")
+    return None
 
 
 def at_once(pool, password, count):

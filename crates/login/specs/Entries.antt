@@ -1,5 +1,5 @@
 -- The pool's password at a server: what the pool says, and when it is in.
-use Rattle.std.specs.Prelude.{◌≡◌, ◌<◌, ◌⊎◌, ℕ, List, [], length, Some}
+use Rattle.std.specs.Prelude.{◌≡◌, ◌<◌, ◌⊎◌, ℕ, Bool, true, false, List, [], length, Some}
 use Rattle.pg_messages.specs.declared.server.ServerMessage.{ServerMessage}
 use Rattle.pg_messages.specs.declared.server.ServerMessage.TheVariants.{AuthOk, AuthSasl, AuthContinue, AuthFinal}
 use Rattle.scram.specs.declared.client.ScramClient.{ScramClient}
@@ -35,6 +35,14 @@ IsIn (Outside password nonce) AuthOk = Unit {0}
 IsIn Shown AuthOk = Unit {0}
 IsIn old message = ⊥
 
+-- the server has shown that it knows the keys of the password
+abbrev pub has_shown : Entry → Bool
+has_shown (Outside password nonce) = false
+has_shown (Opened client) = false
+has_shown (Answered client) = false
+has_shown Shown = true
+has_shown Over = false
+
 -- the first message of an exchange is longer than one may be
 pub record IsTooLong (password nonce : List ℕ) : Type 0 where
   pub message : List ℕ
@@ -56,5 +64,5 @@ IsBreach old message = Unit {0}
 abbrev pub IsTurn : Entry → ServerMessage → Heard → Entry → Type 0
 IsTurn old message (heards.Says body) new = Says old message body new
 IsTurn old message heards.Goes new = Shows old message new
-IsTurn old message heards.In new = IsIn old message × (new ≡ Over)
+IsTurn old message (heards.In inside) new = IsIn old message × (inside.has_shown ≡ has_shown old) × (new ≡ Over)
 IsTurn old message heards.Breaks new = IsBreach old message × (new ≡ Over)

@@ -41,6 +41,23 @@ pub enum Entry {
     Over,
 }
 
+/// The proof that a server has let the pool in: `Entry::hear` alone gives it, so nobody is in who
+/// has not heard the server say so.
+#[derive(Drop)]
+pub struct Inside {
+    /// The server has shown that it knows the keys of the password. False: it has asked for none.
+    has_shown: bool,
+}
+
+impl Inside {
+    /// Whether the server has shown that it knows the keys of the password.
+    pub fn has_shown(&self) -> bool
+        ensures { result ≡ self.now.has_shown }
+    {
+        self.has_shown
+    }
+}
+
 /// What a server's message leads to.
 #[derive(Drop)]
 pub enum Heard {
@@ -49,7 +66,7 @@ pub enum Heard {
     /// The server says one thing more.
     Goes,
     /// The pool is in.
-    In,
+    In(Inside),
     /// The server breaks the protocol, asks for a password that there is not, or shows the keys of
     /// another one.
     Breaks,
@@ -121,7 +138,7 @@ fn outside(
         ServerMessage::AuthOk => {
             drop(password);
             drop(nonce);
-            Ok(over(Heard::In))
+            Ok(over(Heard::In(Inside { has_shown: false })))
         }
         ServerMessage::AuthSasl => asked(alloc, password, nonce),
         _ => {
@@ -177,7 +194,7 @@ fn shown(message: &ServerMessage) -> Turn
     ensures { IsTurn Entry.Shown message.now result.heard result.next }
 {
     match message {
-        ServerMessage::AuthOk => over(Heard::In),
+        ServerMessage::AuthOk => over(Heard::In(Inside { has_shown: true })),
         _ => over(Heard::Breaks),
     }
 }

@@ -17,7 +17,7 @@ mod tries;
 
 pub use candidate::{Candidate, Guard, User};
 pub use entrance::{Entrance, enter};
-pub use entry::{Entry, Heard};
+pub use entry::{Entry, Heard, Inside};
 pub use fault::LoginFault;
 pub use gate::{Answer, Login};
 pub use pace::Pace;

@@ -89,14 +89,15 @@ fn password_of(config: &Config) -> Option<&str> {
 pub(crate) fn asker(rt: &HostRuntime, config: &Config) -> Result<Asker, NoMemory> {
     let user = variable(rt, "PGUSER", "postgres")?;
     let database = variable(rt, "PGDATABASE", user.as_str())?;
+    let patience = config.sessions.server_timeout;
     match env::var(rt, "PGPASSWORD") {
         Ok(password) => {
             let password = Some(password.as_str());
-            Asker::new(rt.alloc(), user.as_str(), database.as_str(), password)
+            Asker::new(rt.alloc(), user.as_str(), database.as_str(), password, patience)
         }
         Err(_) => {
             let password = password_of(config);
-            Asker::new(rt.alloc(), user.as_str(), database.as_str(), password)
+            Asker::new(rt.alloc(), user.as_str(), database.as_str(), password, patience)
         }
     }
 }

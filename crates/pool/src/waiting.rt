@@ -44,14 +44,16 @@ fn is_there<R: Host>(
     tables: &Catalogue,
     node: &Node,
     options: &[Pair],
+    patience: u32,
 ) -> bool {
     let (host, port) = (node.host.as_str(), node.port);
     let introduction = Introduction {
         options,
         password: None,
         nonce: b"",
+        patience,
     };
-    match connect(rt, alloc, tables, host, port, introduction) {
+    match connect(rt, alloc, tables, host, port, introduction, None) {
         Connected::Failed | Connected::Forged => false,
         Connected::Ready(_)
         | Connected::TurnedAway(_, _)
@@ -74,7 +76,8 @@ fn missing<R: Host>(
     for number in 0..8_u8 {
         let b = BackendId { number };
         if let Some(node) = config.nodes.get(usize::from(number)) {
-            if among.has(b) && !is_there(rt, alloc, tables, node, options) {
+            let patience = config.sessions.server_timeout;
+            if among.has(b) && !is_there(rt, alloc, tables, node, options, patience) {
                 absent = absent.with(b);
             }
         }

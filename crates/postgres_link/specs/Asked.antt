@@ -10,7 +10,7 @@ use Rattle.pg_values.specs.declared.col_type.ColType.{ColType}
 use Rattle.pg_values.specs.declared.col_type.ColType.TheVariants as kind
 use Rattle.pg_values.specs.declared.value.Value.{Value}
 use Rattle.pg_values.specs.declared.value.Value.TheVariants as value
-use Rattle.pg_values.specs.Answers.{ReadsText}
+use Rattle.pg_values.specs.Answers.{ReadsText, RefusesText}
 use Rattle.sql_eval.specs.declared.row.Row.{Row}
 use Rattle.postgres_link.specs.declared.asked.Word.{Word}
 use Rattle.postgres_link.specs.declared.asked.Word.TheVariants as word
@@ -71,6 +71,22 @@ AreCells (k ∷ ks) [] cells = ⊥
 AreCells (k ∷ ks) (v ∷ vs) [] = ⊥
 AreCells (k ∷ ks) (v ∷ vs) (cell ∷ cells) = IsCell k v cell × AreCells ks vs cells
 
+-- a text that is no value of its type is refused with the code that fits: each that is no moment, as infinity or a day before year 1, as out of range
+abbrev pub IsRefusedAs : ColType → List ℕ → List ℕ → Type 0
+IsRefusedAs kind.Moment text code = code ≡ codes "22008"
+IsRefusedAs kind text code = RefusesText kind text code
+
+-- the text is no value of the type, and is refused with this code
+abbrev pub IsUnread : ColType → Option (List ℕ) → List ℕ → Type 0
+IsUnread kind None code = ⊥
+IsUnread kind (Some text) code = ((cell : Value) → ReadsText kind text cell → ⊥) × IsRefusedAs kind text code
+
+-- the first value, from left to right, that its type does not have is refused with this code
+abbrev pub HasUnread : List ColType → List (Option (List ℕ)) → List ℕ → Type 0
+HasUnread [] vs code = ⊥
+HasUnread (k ∷ ks) [] code = ⊥
+HasUnread (k ∷ ks) (v ∷ vs) code = IsUnread k v code ⊎ ((cell : Value) × IsCell k v cell × HasUnread ks vs code)
+
 -- ---- messages
 
 -- the columns are as many as are wanted, each in text form
@@ -100,10 +116,14 @@ Adds (stage.Rows rows) row new = new ≡ stage.Rows (rows ++ row ∷ [])
 Adds (stage.Said r) row new = ⊥
 Adds (stage.Over code) row new = ⊥
 
+-- a row joins the others; or a value of it is none of its type, and the answer is to be refused, once it has ended
+abbrev pub GainsRow : List ColType → Stage → List (Option (List ℕ)) → Stage → Type 0
+GainsRow kinds s values new = ((row : Row) × AreCells kinds values row.cells × Adds s row new) ⊎ ((code : Code) × HasUnread kinds values code.bytes × (new ≡ stage.Over code))
+
 abbrev pub Gains : Wanted → Stage → List (Option (List ℕ)) → Stage → Type 0
 Gains (wanted.Done w) s values new = ⊥
 Gains (wanted.Count v) s values new = ⊥
-Gains (wanted.Rows kinds opener) s values new = (has_rows s ≡ true) × (row : Row) × AreCells kinds values row.cells × Adds s row new
+Gains (wanted.Rows kinds opener) s values new = (has_rows s ≡ true) × GainsRow kinds s values new
 
 -- the answer is a tag alone
 abbrev pub IsByTag : Wanted → Type 0

@@ -55,7 +55,8 @@ pub enum Stage {
     Rows(List<Row>),
     /// All has come but the server's word that it is ready.
     Said(Reply),
-    /// It is too large: the rest is passed over, and it is refused with this code.
+    /// It is too large, or has a value that is not read: the rest is passed over, and it is refused
+    /// with this code.
     Over(Code),
 }
 

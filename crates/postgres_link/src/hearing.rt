@@ -6,6 +6,7 @@ ghost use Rattle.pg_messages.specs.declared.server.ServerMessage.{ServerMessage}
 ghost use Rattle.postgres_link.specs.Hearing.{Fronts, HearsTo, IsExcess, IsStep, LeadsTo, Tells, TellsOne, broken, stands};
 
 use crate::inbox::Inbox;
+use crate::words::Words;
 use pg_messages::{Read, ServerMessage, read_server};
 use pool_base::NoMemory;
 use std::alloc::Global;
@@ -71,6 +72,8 @@ pub struct Listening<H: Hearer> {
     pub heard: u64,
     /// So much of a message that is too long is still to be passed over.
     pub left: u64,
+    /// The server's last error.
+    pub words: Words,
 }
 
 impl<H: Hearer> Listening<H> {
@@ -84,6 +87,18 @@ impl<H: Hearer> Listening<H> {
             hearer,
             heard: 0,
             left: 0,
+            words: Words::none(),
+        }
+    }
+
+    /// Keeps what the server says of an error.
+    fn note(&mut self, message: &ServerMessage)
+        ensures hearer { self.new.hearer ≡ self.old.hearer }
+        ensures heard { self.new.heard ≡ self.old.heard }
+        ensures left { self.new.left ≡ self.old.left }
+    {
+        if let Some(words) = Words::of(message) {
+            self.words = words;
         }
     }
 }
@@ -233,6 +248,7 @@ fn hear_one<H: Hearer>(
         drop(message);
         return Ok(Some(Heard::Broken));
     }
+    listening.note(&message);
     let told = hear_message(alloc, inbox, listening, &message, length);
     drop(message);
     told

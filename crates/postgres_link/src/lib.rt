@@ -12,6 +12,7 @@ mod row;
 mod saying;
 mod start;
 mod tag;
+mod words;
 
 pub use asked::{Asked, Reply, Stage, Verb, Wanted, Word};
 pub use codes::{OUT_OF_MEMORY, PROGRAM_LIMIT_EXCEEDED};
@@ -19,3 +20,4 @@ pub use hearing::{Excess, HEARD_LIMIT, Heard, Hearer, Listening, Step, hear};
 pub use inbox::Inbox;
 pub use laws::cut_anywhere;
 pub use start::{Arrival, Welcome};
+pub use words::{WORDS_LIMIT, Words};

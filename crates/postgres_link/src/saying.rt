@@ -11,11 +11,12 @@
 //! Open --tag of the word that opens it--> Begun --columns--> Rows
 //! ```
 //!
-//! Settings and notices are passed over everywhere. Where the answer is too large the rest is
-//! passed over, and it is refused:
+//! Settings and notices are passed over everywhere. Where the answer is too large, or a value in
+//! it is none that is read here, the rest is passed over, and it is refused:
 //!
 //! ```text
 //! Open, Begun, Rows --too large--> Over --ready--> the refusal      Over --error--> Said
+//! Rows --a row with a value that is not read--> Over
 //! ```
 ghost use Rattle.std.specs.Prelude.{◌≡◌, true, false, OnErr, OnOk, IfOk, IfSome, IfNone, IsTrue, ◌↔◌, All, length};
 ghost use Rattle.postgres_link.specs.declared.asked.Stage.{Stage};
@@ -26,7 +27,7 @@ use crate::asked::{Asked, Reply, Stage, Wanted, Word};
 use crate::code::code_of;
 use crate::codes::{OUT_OF_MEMORY, PROGRAM_LIMIT_EXCEEDED};
 use crate::hearing::{Excess, Hearer, Step};
-use crate::row::cells_of;
+use crate::row::{Cells, cells_of};
 use crate::tag::{counted, verb_tag, word_tag};
 use pg_messages::{Field, Part, ServerMessage};
 use pg_values::ColType;
@@ -123,11 +124,17 @@ fn gain(
     if !has_rows(&asked.stage) {
         return Ok(Step::Breaks);
     }
-    let Some(cells) = cells_of(alloc, kinds.as_slice(), texts)? else {
-        return Ok(Step::Breaks);
-    };
-    push_row(&mut asked.stage, Row { cells })?;
-    Ok(Step::Goes)
+    match cells_of(alloc, kinds.as_slice(), texts)? {
+        Cells::Values(cells) => {
+            push_row(&mut asked.stage, Row { cells })?;
+            Ok(Step::Goes)
+        }
+        Cells::Unread(code) => {
+            set(&mut asked.stage, Stage::Over(code));
+            Ok(Step::Goes)
+        }
+        Cells::Miscounted => Ok(Step::Breaks),
+    }
 }
 
 /// What the tag says of what is answered by a tag alone.

@@ -6,7 +6,7 @@ ghost use Rattle.postgres_talk.specs.Forms.{IsSaid};
 use crate::answers::answer_of;
 use backend_trait::{Answer, Request};
 use pool_base::NoMemory;
-use postgres_link::{Asked, Heard, Inbox, Listening, Wanted, hear};
+use postgres_link::{Asked, Heard, Inbox, Listening, Wanted, Words, hear};
 use std::alloc::Global;
 
 /// A request that was sent, and how far its answer has come.
@@ -45,6 +45,11 @@ impl Talk {
             request,
             listening: Listening::new(Asked::new(wanted)),
         }
+    }
+
+    /// The server's last error.
+    pub fn words(&self) -> Words {
+        self.listening.words
     }
 
     /// Hears what has come, up to the end of the answer. Where memory was refused, the next call

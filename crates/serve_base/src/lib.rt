@@ -31,7 +31,7 @@ pub use names::{database_of, option_of};
 pub use notes::Notes;
 pub use place::place_of;
 pub use reader::read_status;
-pub use shown::shown_name;
+pub use shown::{shown_name, shown_text};
 pub use stamp::{Stamp, stamp_of};
 pub use start::{attached_at_start, attached_of, down_since, status_at_start};
 pub use status::{Down, Standing, StatusFault};

@@ -11,10 +11,13 @@ use std::net::{Net, TcpStream};
 use std::random::RandomSource;
 
 /// As whom a check comes, and with which password.
+///
+/// Units: `patience` is seconds, as that of `Introduction`.
 #[derive(Drop)]
 pub struct Asker {
     options: List<Pair>,
     password: Option<Text>,
+    patience: u32,
 }
 
 fn pair(alloc: Global, name: &str, value: &str) -> Result<Pair, NoMemory> {
@@ -42,12 +45,14 @@ fn options_of(alloc: Global, user: &str, database: &str) -> Result<List<Pair>, N
 }
 
 impl Asker {
-    /// A check comes as that user, to that database, with that password where it is asked for one.
+    /// A check comes as that user, to that database, with that password where it is asked for one,
+    /// to servers that have so many seconds to let it in.
     pub fn new(
         alloc: Global,
         user: &str,
         database: &str,
         password: Option<&str>,
+        patience: u32,
     ) -> Result<Asker, NoMemory> {
         let password = match password {
             Some(password) => Some(Text::from_str(alloc, password)?),
@@ -56,6 +61,7 @@ impl Asker {
         Ok(Asker {
             options: options_of(alloc, user, database)?,
             password,
+            patience,
         })
     }
 
@@ -82,6 +88,7 @@ pub fn begin_as<R: Net<Stream = TcpStream> + RandomSource>(
         options: asker.options.as_slice(),
         password: asker.password(),
         nonce: nonce.as_slice(),
+        patience: asker.patience,
     };
     begin(rt, alloc, node.host.as_str(), node.port, introduction)
 }

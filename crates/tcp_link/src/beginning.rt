@@ -5,7 +5,7 @@ use crate::inquiry::Inquiry;
 use crate::password::Unshown;
 use crate::stream::TcpWire;
 use pool_base::{Code, NoMemory};
-use postgres_link::Inbox;
+use postgres_link::{Inbox, Words};
 use std::alloc::Global;
 use std::net::{Net, TcpStream};
 
@@ -44,10 +44,11 @@ pub fn begin<R: Net<Stream = TcpStream>>(
     port: u16,
     introduction: Introduction<'_>,
 ) -> Result<Begun, NoMemory> {
-    let Ok(mut wire) = reach(rt, host, port) else {
+    let Ok(mut wire) = reach(rt, host, port, introduction.patience) else {
         return Ok(Begun::Failed);
     };
     let mut inbox = Inbox::new(alloc);
-    let entry = introduce(alloc, &mut wire, &mut inbox, introduction)?;
+    let mut words = Words::none();
+    let entry = introduce(alloc, &mut wire, &mut inbox, introduction, &mut words)?;
     Ok(made_by(alloc, wire, inbox, entry))
 }

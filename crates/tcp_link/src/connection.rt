@@ -14,8 +14,8 @@ use catalogue::Catalogue;
 use login::Entry as Showing;
 use pg_messages::Pair;
 use pool_base::{Code, List, NoMemory};
-use postgres_link::{Arrival, Heard, Inbox, Listening, Welcome, hear};
-use postgres_talk::put_start;
+use postgres_link::{Arrival, Heard, Inbox, Listening, Welcome, Words, hear};
+use postgres_talk::{Ear, put_start};
 use session_links::Want;
 use std::alloc::Global;
 use std::io;
@@ -27,13 +27,8 @@ use std::time::Duration;
 /// Units: milliseconds.
 const PATIENCE: u64 = 50;
 
-/// How long a connection may take to be made.
-///
-/// Units: seconds.
-const CONNECT_PATIENCE: u64 = 5;
-
-/// How many reads may come to nothing before a server that says nothing is given up.
-const START_TRIES: u32 = 200;
+/// How many looks take a second.
+const LOOKS: u32 = 20;
 
 /// How many bytes are taken at once while the server lets the session in.
 const PIECE: usize = 1024;
@@ -46,11 +41,22 @@ const ENCRYPTION: [u8; 8] = [0, 0, 0, 8, 4, 210, 22, 47];
 
 /// How the pool introduces itself to a server: the options of its start message, the password that
 /// it shows where it is asked for one, and a nonce for that, which is fresh.
+///
+/// Units: `patience` is seconds: so long a server may take to be reached, and so long to let the
+/// session in.
 #[derive(Clone, Copy)]
 pub struct Introduction<'a> {
     pub options: &'a [Pair],
     pub password: Option<&'a [u8]>,
     pub nonce: &'a [u8],
+    pub patience: u32,
+}
+
+impl<'a> Introduction<'a> {
+    /// So many looks at what a server says may come to nothing.
+    pub(crate) fn looks(self) -> u32 {
+        self.patience.saturating_mul(LOOKS)
+    }
 }
 
 /// What became of the beginning of a session.
@@ -121,16 +127,17 @@ fn unresolved<R: Net<Stream = TcpStream>>(rt: &R) -> Unreached {
     }
 }
 
-/// A wire to the first of a host's addresses that answers.
+/// A wire to the first of a host's addresses that answers, each within so many seconds.
 pub(crate) fn reach<R: Net<Stream = TcpStream>>(
     rt: &R,
     host: &str,
     port: u16,
+    patience: u32,
 ) -> Result<TcpWire, Unreached> {
     let Ok(addrs) = (host, port).to_socket_addrs(rt) else {
         return Err(unresolved(rt));
     };
-    let patience = Duration::from_secs(CONNECT_PATIENCE);
+    let patience = Duration::from_secs(u64::from(patience));
     let mut last = Unreached::Failed;
     for addr in addrs {
         match TcpStream::connect_timeout(rt, &addr, patience) {
@@ -141,9 +148,9 @@ pub(crate) fn reach<R: Net<Stream = TcpStream>>(
     Err(last)
 }
 
-/// Sends all of the bytes, unless the wire is broken or out of patience.
-pub(crate) fn send_all<W: Wire>(wire: &mut W, outbox: &mut Outbox) -> bool {
-    for _ in 0..START_TRIES {
+/// Sends all of the bytes, unless the wire is broken or takes none in so many looks.
+pub(crate) fn send_all<W: Wire>(wire: &mut W, outbox: &mut Outbox, looks: u32) -> bool {
+    for _ in 0..looks {
         match outbox.empty(wire) {
             Emptied::All => return true,
             Emptied::NotYet => {}
@@ -162,17 +169,22 @@ fn entry_by(welcome: Welcome) -> Entry {
     }
 }
 
-/// Takes what the server sends until it is ready, or turns the client away.
+/// Takes what the server sends until it is ready, or turns the client away, and what it says of
+/// that.
 fn arrive<W: Wire>(
     alloc: Global,
     wire: &mut W,
     inbox: &mut Inbox,
     arrival: Arrival,
+    looks: u32,
+    words: &mut Words,
 ) -> Result<Entry, NoMemory> {
     let mut listening = Listening::new(arrival);
     let mut piece = [0u8; PIECE];
-    for _ in 0..START_TRIES {
-        match hear(alloc, inbox, &mut listening)? {
+    for _ in 0..looks {
+        let heard = hear(alloc, inbox, &mut listening)?;
+        *words = listening.words;
+        match heard {
             Heard::NotYet => {}
             Heard::Reply(welcome) => return Ok(entry_by(welcome)),
             Heard::Broken => return Ok(Entry::Failed),
@@ -192,10 +204,15 @@ fn enter<W: Wire>(
     wire: &mut W,
     inbox: &mut Inbox,
     showing: Showing,
+    looks: u32,
+    words: &mut Words,
 ) -> Result<Entry, NoMemory> {
-    match show(alloc, wire, inbox, showing)? {
-        Shown::LetIn => arrive(alloc, wire, inbox, Arrival::Inside),
-        Shown::Otherwise => arrive(alloc, wire, inbox, Arrival::Outside),
+    match show(alloc, wire, inbox, showing, looks)? {
+        Shown::LetIn(inside) => {
+            drop(inside);
+            arrive(alloc, wire, inbox, Arrival::Inside, looks, words)
+        }
+        Shown::Otherwise => arrive(alloc, wire, inbox, Arrival::Outside, looks, words),
         Shown::Unshown(unshown) => Ok(Entry::Unshown(unshown)),
         Shown::Forged => Ok(Entry::Forged),
         Shown::Failed => Ok(Entry::Failed),
@@ -212,24 +229,27 @@ fn showing(alloc: Global, introduction: Introduction<'_>) -> Result<Showing, NoM
     Ok(Showing::new(password, nonce))
 }
 
-/// Sends the start message, and takes what the server says to it.
+/// Sends the start message, and takes what the server says to it. Where that is an error its words
+/// are handed out too.
 pub(crate) fn introduce<W: Wire>(
     alloc: Global,
     wire: &mut W,
     inbox: &mut Inbox,
     introduction: Introduction<'_>,
+    words: &mut Words,
 ) -> Result<Entry, NoMemory> {
+    let looks = introduction.looks();
     let mut start = List::new(alloc);
     if !put_start(introduction.options, &mut start)? {
         return Ok(Entry::Failed);
     }
     let mut outbox = Outbox::new(alloc);
     outbox.fill(start);
-    if !send_all(wire, &mut outbox) {
+    if !send_all(wire, &mut outbox, looks) {
         return Ok(Entry::Failed);
     }
     let showing = showing(alloc, introduction)?;
-    enter(alloc, wire, inbox, showing)
+    enter(alloc, wire, inbox, showing, looks, words)
 }
 
 fn started<'a>(
@@ -237,11 +257,16 @@ fn started<'a>(
     tables: &'a Catalogue,
     mut wire: TcpWire,
     introduction: Introduction<'_>,
+    ear: Option<Ear<'a>>,
 ) -> Result<Connected<'a>, NoMemory>
     ensures { IfOk result IsConnected }
 {
     let mut inbox = Inbox::new(alloc);
-    let entry = introduce(alloc, &mut wire, &mut inbox, introduction)?;
+    let mut words = Words::none();
+    let entry = introduce(alloc, &mut wire, &mut inbox, introduction, &mut words)?;
+    if let Some(ear) = ear {
+        ear.greet(words);
+    }
     let (refusal, unshown) = match entry {
         Entry::LetIn => (None, None),
         Entry::Refused(code) => (Some(code), None),
@@ -249,7 +274,8 @@ fn started<'a>(
         Entry::Forged => return Ok(Connected::Forged),
         Entry::Failed => return Ok(Connected::Failed),
     };
-    let link = PatientLink::new(alloc, tables, wire, inbox, refusal)?;
+    let mut link = PatientLink::new(alloc, tables, wire, inbox, refusal)?;
+    link.tell_to(ear);
     Ok(match (unshown, refusal) {
         (Some(unshown), _) => Connected::Unshown(link, unshown),
         (None, Some(code)) => Connected::TurnedAway(link, code),
@@ -263,10 +289,11 @@ fn begun<'a>(
     tables: &'a Catalogue,
     wire: TcpWire,
     introduction: Introduction<'_>,
+    ear: Option<Ear<'a>>,
 ) -> Connected<'a>
     ensures { IsConnected result }
 {
-    match started(alloc, tables, wire, introduction) {
+    match started(alloc, tables, wire, introduction, ear) {
         Ok(connected) => connected,
         Err(NoMemory) => Connected::NoMemory,
     }
@@ -289,7 +316,7 @@ fn hears<W: Wire>(wire: &mut W, looks: u32) -> bool {
 /// begins no session, so that a server that has no connection free answers too. Where the pool
 /// lacks what a connection needs the server is not looked at, and there is no word against it.
 pub fn answers<R: Net<Stream = TcpStream>>(rt: &R, host: &str, port: u16, looks: u32) -> bool {
-    match reach(rt, host, port) {
+    match reach(rt, host, port, looks.div_ceil(LOOKS)) {
         Ok(wire) => greets(wire, looks),
         Err(unreached) => matches!(unreached, Unreached::Short(_)),
     }
@@ -304,7 +331,8 @@ fn greets<W: Wire>(wire: W, looks: u32) -> bool {
 /// Begins a session at the server of that address, with the options of the introduction, as `user`
 /// and `database`. Where the server asks for a password by SCRAM-SHA-256, it is shown, and the
 /// server has to show that it knows it too. A client that the server turns away while it lets
-/// others in has a link that refuses each snapshot with the server's code.
+/// others in has a link that refuses each snapshot with the server's code. What the server says of
+/// an error, then or later, is kept where `ear` says.
 pub fn connect<'a, R: Net<Stream = TcpStream>>(
     rt: &R,
     alloc: Global,
@@ -312,12 +340,13 @@ pub fn connect<'a, R: Net<Stream = TcpStream>>(
     host: &str,
     port: u16,
     introduction: Introduction<'_>,
+    ear: Option<Ear<'a>>,
 ) -> Connected<'a>
     // A link that is ready has nothing pending, and is not lost.
     ensures ready { IsConnected result }
 {
-    match reach(rt, host, port) {
-        Ok(wire) => begun(alloc, tables, wire, introduction),
+    match reach(rt, host, port, introduction.patience) {
+        Ok(wire) => begun(alloc, tables, wire, introduction, ear),
         Err(Unreached::Failed) => Connected::Failed,
         Err(Unreached::Short(want)) => Connected::Short(want),
     }

@@ -16,6 +16,9 @@ const PIECE: usize = 4096;
 /// takes 50 milliseconds, so this is an hour.
 const TRIES: u32 = 72_000;
 
+/// How many looks a server may take that takes none of a text: ten seconds.
+const SENDING: u32 = 200;
+
 /// How many looks a server may take that is to answer soon: two seconds.
 const SOON: u32 = 40;
 
@@ -65,7 +68,7 @@ impl<W: Wire> Inquiry<W> {
             Some(bytes) => {
                 let mut outbox = Outbox::new(self.alloc);
                 outbox.fill(bytes);
-                Ok(send_all(&mut self.wire, &mut outbox))
+                Ok(send_all(&mut self.wire, &mut outbox, SENDING))
             }
             None => Ok(false),
         }

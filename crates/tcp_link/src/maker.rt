@@ -17,6 +17,7 @@ use catalogue::Catalogue;
 use pg_messages::Pair;
 use pool_base::{BackendId, BackendSet, List, NoMemory};
 use pool_config::Config;
+use postgres_talk::{Ear, LastWords};
 use serve_base::tell;
 use session_links::{Connected, LinkMaker, Opened, Want};
 use std::alloc::Global;
@@ -35,6 +36,8 @@ pub struct TcpMaker<'a, R> {
     pub config: &'a Config,
     /// The backends where the last try began no session, each by its bit.
     pub unreached: &'a Cell<u8>,
+    /// What the servers said last of an error.
+    pub words: &'a LastWords,
     /// The links that were made before their first use.
     pub held: Held<'a>,
     /// Who speaks for a server to which a link has broken.
@@ -108,6 +111,11 @@ impl<'a, R: Net<Stream = TcpStream> + RandomSource + Eprint + Clock + Copy> TcpM
             options,
             password,
             nonce,
+            patience: self.config.sessions.server_timeout,
+        };
+        let ear = Ear {
+            words: self.words,
+            b,
         };
         let host = node.host.as_str();
         connect(
@@ -117,6 +125,7 @@ impl<'a, R: Net<Stream = TcpStream> + RandomSource + Eprint + Clock + Copy> TcpM
             host,
             node.port,
             introduction,
+            Some(ear),
         )
     }
 

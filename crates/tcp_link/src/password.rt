@@ -9,14 +9,11 @@ ghost use Rattle.pg_messages.specs.declared.read.Read.TheVariants.{Whole};
 use crate::connection::send_all;
 use crate::outbox::Outbox;
 use crate::wire::{Received, Wire};
-use login::{Entry, Heard};
+use login::{Entry, Heard, Inside};
 use pg_messages::{Read, ServerMessage, login_fits, read_server, write_login};
 use pool_base::{List, NoMemory};
 use postgres_link::Inbox;
 use std::alloc::Global;
-
-/// How many reads may come to nothing before a server that says nothing is given up.
-const TRIES: u32 = 200;
 
 /// How many bytes are taken at once.
 const PIECE: usize = 1024;
@@ -49,8 +46,8 @@ pub fn why_unshown(unshown: Unshown) -> &'static str {
 /// What became of a server's question for a password.
 pub(crate) enum Shown {
     /// The server lets the client in: it has asked for no password, or has shown that it knows the
-    /// keys of the one that it was shown.
-    LetIn,
+    /// keys of the one that it was shown. Only an `Entry` that has heard so gives the proof.
+    LetIn(Inside),
     /// What the server says is not of a password.
     Otherwise,
     /// It asks for what it is not shown.
@@ -115,7 +112,7 @@ fn otherwise(entry: &Entry, bytes: &[u8]) -> Shown {
 }
 
 /// Sends what is said in a message `p`.
-fn say<W: Wire>(alloc: Global, wire: &mut W, body: List<u8>) -> Result<Next, NoMemory> {
+fn say<W: Wire>(alloc: Global, wire: &mut W, body: List<u8>, looks: u32) -> Result<Next, NoMemory> {
     if !login_fits(body.as_slice()) {
         drop(body);
         return Ok(Next::Is(Shown::Failed));
@@ -124,7 +121,7 @@ fn say<W: Wire>(alloc: Global, wire: &mut W, body: List<u8>) -> Result<Next, NoM
     write_login(body.as_slice(), &mut bytes)?;
     let mut outbox = Outbox::new(alloc);
     outbox.fill(bytes);
-    Ok(if send_all(wire, &mut outbox) {
+    Ok(if send_all(wire, &mut outbox, looks) {
         Next::Again
     } else {
         Next::Is(Shown::Failed)
@@ -137,12 +134,13 @@ fn heed<W: Wire>(
     wire: &mut W,
     entry: &mut Entry,
     message: &ServerMessage,
+    looks: u32,
 ) -> Result<Next, NoMemory> {
     let lacks = matches!(entry, Entry::Outside { password: None, .. });
     match entry.hear(alloc, message)? {
-        Heard::Says(body) => say(alloc, wire, body),
+        Heard::Says(body) => say(alloc, wire, body, looks),
         Heard::Goes => Ok(Next::Again),
-        Heard::In => Ok(Next::Is(Shown::LetIn)),
+        Heard::In(inside) => Ok(Next::Is(Shown::LetIn(inside))),
         Heard::Breaks if lacks => Ok(Next::Is(Shown::Unshown(Unshown::Password))),
         Heard::Breaks => Ok(Next::Is(Shown::Forged)),
     }
@@ -154,6 +152,7 @@ fn hear_next<W: Wire>(
     wire: &mut W,
     inbox: &mut Inbox,
     entry: &mut Entry,
+    looks: u32,
 ) -> Result<Next, NoMemory> {
     match front_of(alloc, inbox)? {
         Read::Whole { message, length } => {
@@ -162,7 +161,7 @@ fn hear_next<W: Wire>(
                 drop(message);
                 return Ok(Next::Is(shown));
             }
-            let next = heed(alloc, wire, entry, &message);
+            let next = heed(alloc, wire, entry, &message, looks);
             drop(message);
             inbox.pass(length);
             next
@@ -172,17 +171,19 @@ fn hear_next<W: Wire>(
     }
 }
 
-/// Shows the server the password, as far as it asks for one.
+/// Shows the server the password, as far as it asks for one. So many looks may come to nothing
+/// before a server that says nothing is given up.
 pub(crate) fn show<W: Wire>(
     alloc: Global,
     wire: &mut W,
     inbox: &mut Inbox,
     entry: Entry,
+    looks: u32,
 ) -> Result<Shown, NoMemory> {
     let mut entry = entry;
     let mut piece = [0u8; PIECE];
-    for _ in 0..TRIES {
-        match hear_next(alloc, wire, inbox, &mut entry)? {
+    for _ in 0..looks {
+        match hear_next(alloc, wire, inbox, &mut entry, looks)? {
             Next::Is(shown) => return Ok(shown),
             Next::Again => {}
             Next::NotYet => match wire.receive(&mut piece) {

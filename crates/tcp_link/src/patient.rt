@@ -23,7 +23,7 @@ use backend_trait::{Link, Polled, Posted, Request};
 use catalogue::Catalogue;
 use pool_base::{Code, NoMemory};
 use postgres_link::{Inbox, PROGRAM_LIMIT_EXCEEDED, Reply, Wanted};
-use postgres_talk::{Ending, NotSpelled, Said, Spelled, Talk, answer_of, spell, spell_next};
+use postgres_talk::{Ear, Ending, NotSpelled, Said, Spelled, Talk, answer_of, spell, spell_next};
 use std::alloc::Global;
 use std::mem;
 
@@ -61,6 +61,8 @@ pub struct PatientLink<'a, W: Wire> {
     violations: u64,
     /// The code with which the server has turned the client away.
     refusal: Option<Code>,
+    /// Where what the server says of an error is kept.
+    ear: Option<Ear<'a>>,
     ghost room: { 0 < length piece.items },
 }
 
@@ -98,7 +100,16 @@ impl<'a, W: Wire> PatientLink<'a, W> {
             lost: false,
             violations: 0,
             refusal,
+            ear: None,
         })
+    }
+
+    /// What the server says of an error is kept there from now on.
+    pub(crate) fn tell_to(&mut self, ear: Option<Ear<'a>>)
+        ensures state { self.new.state ≡ self.old.state }
+        ensures lost { self.new.lost ≡ self.old.lost }
+    {
+        self.ear = ear;
     }
 
     fn set(&mut self, state: State)
@@ -158,6 +169,9 @@ impl<'a, W: Wire> PatientLink<'a, W> {
         }
         self.outbox.add(bytes)?;
         self.debt.pay();
+        if let Some(ear) = self.ear {
+            ear.forget();
+        }
         Ok(wanted)
     }
 
@@ -174,8 +188,15 @@ impl<'a, W: Wire> PatientLink<'a, W> {
             Ended::NotYet => return Ok(Said::NotYet),
             Ended::Broken => return Ok(Said::Broken),
         }
+        let ear = self.ear;
         match &mut self.state {
-            State::Sent(talk) => talk.listen(self.alloc, &mut self.inbox),
+            State::Sent(talk) => {
+                let said = talk.listen(self.alloc, &mut self.inbox);
+                if let Some(ear) = ear {
+                    ear.heed(talk.words());
+                }
+                said
+            }
             State::Idle | State::Unsent(_) | State::Held(_, _) => Ok(Said::Broken),
         }
     }

@@ -47,11 +47,12 @@ pub struct Witnesses {
     each: Vec<Mutex<Witness>>,
 }
 
-/// Who the pool is at the servers.
+/// Who the pool is at the servers, and how many seconds they have to let it in.
 #[derive(Drop)]
 struct Name {
     options: List<Pair>,
     password: Option<List<u8>>,
+    patience: u32,
 }
 
 fn pair(alloc: Global, name: &[u8], value: &[u8]) -> Result<Pair, NoMemory> {
@@ -112,7 +113,11 @@ fn name_of<R: Env + AllocGlobal>(
     };
     let options = options_of(alloc, user.as_slice(), database.as_slice())?;
     let password = password_of(rt, alloc, config)?;
-    Ok(Some(Name { options, password }))
+    Ok(Some(Name {
+        options,
+        password,
+        patience: config.sessions.server_timeout,
+    }))
 }
 
 /// Begins the connection to a node. `None`: there is none.
@@ -133,6 +138,7 @@ fn inquiry_at<R: Net<Stream = TcpStream> + RandomSource>(
         options: name.options.as_slice(),
         password,
         nonce: nonce.as_slice(),
+        patience: name.patience,
     };
     match begin(rt, alloc, node.host.as_str(), node.port, introduction)? {
         Begun::Ready(inquiry) => Ok(Some(inquiry)),

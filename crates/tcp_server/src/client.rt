@@ -342,6 +342,7 @@ impl<'a, R: Clock + Eprint + Copy> ClientSource for TcpSource<'a, R> {
         if !self.doorway.threshold.is_passed() {
             return Some(self.read_at_door(into));
         }
+        self.doorway.tell_refused();
         if self.wait(patience_of(spell)).is_err() {
             return Some(self.fail());
         }

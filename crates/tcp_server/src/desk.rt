@@ -1,7 +1,9 @@
 //! Where a client is received: what is asked and told of it before its session begins.
 
+use crate::why::shown;
 use pg_messages::Pair;
-use pool_config::Sessions;
+use pool_config::{Config, Sessions};
+use postgres_talk::{LastWords, Refusal};
 use serve_base::{Turned, Visit, tell};
 use std::alloc::Global;
 use std::rt::Clock;
@@ -19,6 +21,9 @@ pub(crate) struct Desk<'a, R> {
     pub rt: &'a R,
     pub alloc: Global,
     pub visit: &'a Visit,
+    pub config: &'a Config,
+    /// What the servers of its session said last of an error.
+    pub words: LastWords,
     /// How long it has to be let in, and whether the start of its session is told.
     pub sessions: Sessions,
     /// It is asked for its password behind its start message.
@@ -41,13 +46,8 @@ fn patience(sessions: Sessions, asks: bool) -> Duration {
 
 impl<'a, R: Clock + Eprint + Copy> Desk<'a, R> {
     /// The client has connected now.
-    pub fn new(
-        rt: &'a R,
-        alloc: Global,
-        visit: &'a Visit,
-        sessions: Sessions,
-        asks: bool,
-    ) -> Desk<'a, R> {
+    pub fn new(rt: &'a R, alloc: Global, visit: &'a Visit, config: &'a Config) -> Desk<'a, R> {
+        let (sessions, asks) = (config.sessions, !config.users.is_empty());
         let until = match Instant::now(rt) {
             Ok(now) => now.checked_add(patience(sessions, asks)),
             Err(_) => None,
@@ -56,6 +56,8 @@ impl<'a, R: Clock + Eprint + Copy> Desk<'a, R> {
             rt,
             alloc,
             visit,
+            config,
+            words: LastWords::new(),
             sessions,
             asks,
             until,
@@ -80,6 +82,26 @@ impl<'a, R: Clock + Eprint + Copy> Desk<'a, R> {
         if self.sessions.log_connections && self.visit.has_names() {
             tell(self.rt, self.alloc, format_args!("{} begins", self.visit));
         }
+    }
+
+    /// An operator is told where a server has refused a statement for a cause of its own, and what
+    /// it says of that.
+    pub fn tell_refused(&self) {
+        let Some((b, code)) = self.words.take_untold() else {
+            return;
+        };
+        let (host, port) = match self.config.nodes.get(usize::from(b)) {
+            Some(node) => (node.host.as_str(), node.port),
+            None => ("", 0),
+        };
+        let (visit, said) = (self.visit, shown(self.alloc, self.words.of(b)));
+        let words = &said;
+        let refusal = Refusal { code, words };
+        tell(
+            self.rt,
+            self.alloc,
+            format_args!("{visit} is refused by backend {b} ({host}, port {port}): {refusal}"),
+        );
     }
 
     /// The client has said who it is. False: memory was refused.

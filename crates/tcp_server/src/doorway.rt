@@ -123,6 +123,11 @@ impl<'a, R: Clock + Eprint + Copy> Doorway<'a, R> {
         self.threshold.hand(&mut piece);
     }
 
+    /// An operator is told what a server has refused for a cause of its own.
+    pub fn tell_refused(&self) {
+        self.desk.tell_refused();
+    }
+
     /// Lets a read wait as long as is left of the client's time. False: nothing is.
     pub fn limit(&self, stream: &TcpStream) -> bool {
         match self.desk.time_left() {

@@ -4,9 +4,10 @@ ghost use Rattle.std.specs.Prelude.{◌≡◌, ◌<◌, ℕ, true};
 ghost use Rattle.pool_base.specs.Sets.{has};
 ghost use Rattle.tcp_server.specs.Noting.{is_noted};
 
-use crate::why::Why;
+use crate::why::{Why, spoken_of};
 use pool_base::{BackendId, GateCall, SessionId};
 use pool_server::{EndCause, Notices};
+use postgres_talk::LastWords;
 use serve_base::{Keeper, Noted, Notes, tell};
 use session_machine::Cause;
 use std::alloc::Global;
@@ -54,6 +55,8 @@ pub(crate) struct Explained<'a, R, N> {
     pub keeper: &'a Keeper,
     /// The backends where the last try began no session, each by its bit.
     pub unreached: &'a Cell<u8>,
+    /// What the servers said last of an error.
+    pub words: &'a LastWords,
     pub lines: N,
 }
 
@@ -62,8 +65,14 @@ impl<'a, R: Wait + Clock + Eprint + Copy, N: Notices> Notices for Explained<'a, 
 
     fn detached(&mut self, s: SessionId, b: BackendId, cause: &Cause) {
         self.lines.detached(s, b, cause);
+        self.words.are_told();
         let unreached = self.unreached.get() >> b.number & 1 == 1;
-        let why = Why { cause, unreached };
+        let spoken = spoken_of(self.alloc, self.words, b, cause);
+        let why = Why {
+            cause,
+            unreached,
+            spoken: &spoken,
+        };
         if let Ok(words) = format!(in self.alloc; "{why}") {
             let noted = self.keeper.explain(self.rt, b, words.as_str());
             tell_unwritten(self.rt, self.alloc, b, noted);

@@ -1,9 +1,10 @@
 //! What an operator is told, on standard error.
 
-use crate::why::{Why, why_ended};
+use crate::why::{Why, spoken_of, why_ended};
 use pool_base::{BackendId, SessionId};
 use pool_config::Config;
 use pool_server::{EndCause, Notices};
+use postgres_talk::LastWords;
 use serve_base::{Turned, Visit, tell};
 use session_machine::Cause;
 use std::alloc::Global;
@@ -19,6 +20,8 @@ pub(crate) struct ErrorLines<'a, R> {
     pub visit: &'a Visit,
     /// The backends where the last try began no session, each by its bit.
     pub unreached: &'a Cell<u8>,
+    /// What the servers said last of an error.
+    pub words: &'a LastWords,
 }
 
 impl<'a, R: Eprint + Clock + Copy> ErrorLines<'a, R> {
@@ -44,7 +47,13 @@ impl<'a, R: Eprint + Clock + Copy> Notices for ErrorLines<'a, R> {
 
     fn detached(&mut self, _: SessionId, b: BackendId, cause: &Cause) {
         let unreached = self.unreached.get() >> b.number & 1 == 1;
-        self.tell_detached(b, Why { cause, unreached });
+        let spoken = spoken_of(self.alloc, self.words, b, cause);
+        let why = Why {
+            cause,
+            unreached,
+            spoken: &spoken,
+        };
+        self.tell_detached(b, why);
     }
 
     fn none_left(&mut self) {

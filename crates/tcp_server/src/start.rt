@@ -40,7 +40,7 @@ fn run<R: Host, G: AtGate>(rt: &R, alloc: Global, room: &Room<G>, job: Job<G>) {
         visit,
     } = job;
     let config = &room.house.config;
-    let desk = Desk::new(rt, alloc, &visit, config.sessions, !config.users.is_empty());
+    let desk = Desk::new(rt, alloc, &visit, config);
     let idle_limit = u64::from(config.sessions.client_idle_limit);
     match split(stream, &desk, &room.house.control, idle_limit) {
         Ok((source, sink)) => {
@@ -89,12 +89,14 @@ fn notices_of<'a, R, G: AtGate>(
         alloc: desk.alloc,
         keeper: &room.house.keeper,
         unreached,
+        words: &desk.words,
         lines: ErrorLines {
             rt: desk.rt,
             alloc: desk.alloc,
             config: &room.house.config,
             visit: desk.visit,
             unreached,
+            words: &desk.words,
         },
     }
 }
@@ -123,6 +125,7 @@ fn maker_of<'a, R: Host, G: AtGate>(
         tables: &room.house.tables,
         config: &room.house.config,
         unreached,
+        words: &desk.words,
         held: Held::new(desk.alloc),
         witnesses: &room.house.witnesses,
         faults: 0,

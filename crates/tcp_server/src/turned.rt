@@ -4,11 +4,12 @@ use crate::desk::Desk;
 use crate::host::Host;
 use crate::refusal::refusal;
 use crate::room::{AtGate, Room};
+use crate::why::shown;
 use pool_base::{Code, write_all};
-use pool_server::{EndCause, farewell_bytes};
+use pool_server::EndCause;
+use postgres_talk::Refusal;
 use serve_base::tell;
 use session_links::{Verdict, Want};
-use std::str;
 use tcp_link::TcpSink;
 use wire_reply::Saying;
 
@@ -21,18 +22,20 @@ fn saying_of(verdict: Verdict) -> Saying {
     }
 }
 
-/// An operator is told which backend turns the client away.
+/// An operator is told which backend turns the client away, and what its server says of that.
 fn tell_turned<R: Host, G: AtGate>(desk: &Desk<'_, R>, room: &Room<G>, b: u8, code: Code) {
     let visit = desk.visit;
     let (host, port) = match room.house.config.nodes.get(usize::from(b)) {
         Some(node) => (node.host.as_str(), node.port),
         None => ("", 0),
     };
-    let code = str::from_utf8(&code.bytes).unwrap_or("");
+    let said = shown(desk.alloc, desk.words.of(b));
+    let words = &said;
+    let refusal = Refusal { code, words };
     tell(
         desk.rt,
         desk.alloc,
-        format_args!("{visit} ends: backend {b} ({host}, port {port}) turns it away: {code}"),
+        format_args!("{visit} ends: backend {b} ({host}, port {port}) turns it away: {refusal}"),
     );
 }
 
@@ -69,11 +72,18 @@ pub(crate) fn turn_away<R: Host, G: AtGate>(
     }
 }
 
+/// What a client is told whose session has ended with its connection to a server.
+///
+/// Shape: `E`, `Int32 78`, then the parts `S`, `V`, `C` and `M`, each with a zero byte behind it,
+/// and a zero byte.
+const SEVERED: [u8; 79] =
+    *b"E\0\0\0NSFATAL\0VFATAL\0C57P01\0Mterminating connection: a server has ended its own\0\0";
+
 /// A session has ended. A client that has lost it with its connection to a server, and has had no
 /// reply to its last order, is told so.
 pub(crate) fn part(cause: EndCause, sink: TcpSink) {
     let mut sink = sink;
     if matches!(cause, EndCause::Broken) {
-        drop(write_all(&mut sink, farewell_bytes()));
+        drop(write_all(&mut sink, &SEVERED));
     }
 }

@@ -1,9 +1,21 @@
 //! Why a backend is detached and why a session ends, in words for an operator.
 
-use backend_trait::Answer;
+use pool_base::{BackendId, List};
 use pool_server::EndCause;
+use postgres_link::Words;
+use postgres_talk::{LastWords, Told};
+use serve_base::shown_text;
 use session_machine::Cause;
+use std::alloc::Global;
 use std::{fmt, str};
+
+/// What servers have said, as it is shown: the backend that is detached, and one whose answer is
+/// kept.
+#[derive(Drop)]
+pub(crate) struct Spoken {
+    own: List<u8>,
+    kept: List<u8>,
+}
 
 /// Why a backend is detached, with what the session knows of its links.
 #[derive(Clone, Copy)]
@@ -11,40 +23,67 @@ pub(crate) struct Why<'a> {
     pub cause: &'a Cause,
     /// No session could be begun there at the last try.
     pub unreached: bool,
+    pub spoken: &'a Spoken,
 }
 
-/// What a backend answered.
-#[derive(Clone, Copy)]
-struct Said<'a> {
-    answer: &'a Answer,
-}
-
-impl<'a> fmt::Display for Said<'a> {
-    fn fmt<W: fmt::Write>(&self, f: &mut fmt::Formatter<W>) -> fmt::Result {
-        match self.answer {
-            Answer::Began => f.write_str("a snapshot"),
-            Answer::Rows(rows) => write!(f, "{} rows", rows.len()),
-            Answer::Count(count) => write!(f, "a count of {count}"),
-            Answer::Locked => f.write_str("a lock"),
-            Answer::Done => f.write_str("that it is done"),
-            Answer::Serial(next) => write!(f, "the serial number {next}"),
-            Answer::Refused(code) => {
-                let code = str::from_utf8(code.bytes.as_slice()).unwrap_or("");
-                write!(f, "the refusal {code}")
-            }
-        }
+/// A server's words as they are shown. None, where there is no memory for them.
+pub(crate) fn shown(alloc: Global, words: Words) -> List<u8> {
+    match shown_text(alloc, words.as_slice()) {
+        Ok(text) => text,
+        Err(_) => List::new(alloc),
     }
+}
+
+/// What servers have said of why a backend is detached.
+pub(crate) fn spoken_of(alloc: Global, words: &LastWords, b: BackendId, cause: &Cause) -> Spoken {
+    let (own, kept) = match cause {
+        Cause::Fault { .. } => (words.of(b.number), Words::none()),
+        Cause::Differs { kept, own } => (words.own(b, own), words.alike(kept)),
+    };
+    Spoken {
+        own: shown(alloc, own),
+        kept: shown(alloc, kept),
+    }
+}
+
+/// The text of what a server said.
+fn text_of(words: &List<u8>) -> &str {
+    str::from_utf8(words.as_slice()).unwrap_or("")
+}
+
+/// Writes what a server said behind what is told of it, if it said anything.
+fn put_words<W: fmt::Write>(f: &mut fmt::Formatter<W>, words: &List<u8>) -> fmt::Result {
+    if words.len() == 0 {
+        return Ok(());
+    }
+    let text = text_of(words);
+    write!(f, ": {text}")
 }
 
 impl<'a> fmt::Display for Why<'a> {
     fn fmt<W: fmt::Write>(&self, f: &mut fmt::Formatter<W>) -> fmt::Result {
+        let (own, kept) = (&self.spoken.own, &self.spoken.kept);
         match self.cause {
             Cause::Fault { .. } if self.unreached => {
-                f.write_str("it is not reached, or lets no session begin")
+                f.write_str("it is not reached, or lets no session begin")?;
+                put_words(f, own)
             }
-            Cause::Fault { .. } => f.write_str("its session there was lost"),
-            Cause::Differs { kept, own } => {
-                let (kept, own) = (Said { answer: kept }, Said { answer: own });
+            Cause::Fault { .. } => {
+                f.write_str("its session there was lost")?;
+                put_words(f, own)
+            }
+            Cause::Differs {
+                kept: answer,
+                own: other,
+            } => {
+                let kept = Told {
+                    answer,
+                    words: kept,
+                };
+                let own = Told {
+                    answer: other,
+                    words: own,
+                };
                 write!(f, "it answered {own}, not {kept}")
             }
         }

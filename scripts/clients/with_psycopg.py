@@ -1,21 +1,22 @@
-"""psycopg2: with_psycopg2.py PORT KEY. Each step is told in a line."""
+"""psycopg2 and psycopg 3: with_psycopg.py DRIVER PORT KEY, of which DRIVER is psycopg2 or psycopg. Each step is told in a line."""
+import importlib
 import sys
 
-import psycopg2
-
-port, key = int(sys.argv[1]), int(sys.argv[2])
+driver, port, key = importlib.import_module(sys.argv[1]), int(sys.argv[2]), int(sys.argv[3])
+# (psycopg 3 has the client put values into the text where it is told so, as psycopg2 does)
+ways = {"cursor_factory": driver.ClientCursor} if hasattr(driver, "ClientCursor") else {}
 
 
 def connect():
-    return psycopg2.connect(host="127.0.0.1", port=port, user="pool", dbname="pool")
+    return driver.connect(host="127.0.0.1", port=port, user="pool", dbname="pool", **ways)
 
 
 def code_of(cursor, text, values=()):
     try:
         cursor.execute(text, values)
         return "none"
-    except psycopg2.Error as fault:
-        return fault.pgcode
+    except driver.Error as fault:
+        return fault.sqlstate if hasattr(fault, "sqlstate") else fault.pgcode
 
 
 one = connect()
