@@ -8,7 +8,7 @@ import time
 
 import passwords
 from postgres import USER
-from serving import DATABASE
+from serving import DATABASE, nodes_of
 
 ROUNDS = 20  # kills under load
 WRITERS = range(1, 9)
@@ -110,14 +110,6 @@ def is_out(servers, pool, expect, number, why):
     expect(nodes_of(pool) == ["down" if one == number else "up" for one in range(3)], f"the backends are {nodes_of(pool)}")
     servers.all[number].stop()
     return line
-
-
-def nodes_of(pool):
-    """What SHOW pool_nodes says of each backend."""
-    client = pool.connect()
-    answer = client.ask("SHOW pool_nodes")
-    client.close()
-    return [row[3].decode() for row in answer.rows]
 
 
 def start_trial(text, number, why):

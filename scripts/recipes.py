@@ -5,7 +5,7 @@ import shutil
 import subprocess
 
 from postgres import POSTGRES, Client, Skipped, install_packages
-from serving import DATABASE, TOP
+from serving import DATABASE, TOP, nodes_of
 
 PAGES = f"{TOP}/docs"
 PYTHON = "/usr/bin/python3"
@@ -150,14 +150,6 @@ def commands(servers, pool, expect, word, **given):
     return told
 
 
-def status_of(pool):
-    """What SHOW pool_nodes says of each backend."""
-    client = pool.connect()
-    answer = client.ask("SHOW pool_nodes")
-    client.close()
-    return [row[3].decode() for row in answer.rows]
-
-
 def got_back(servers, pool, expect):
     """A server was lost, and is behind: by the commands of the page it has all rows again, and is used."""
     servers.all[1].stop()
@@ -172,7 +164,7 @@ def got_back(servers, pool, expect):
     expect("3 backends are equal" in told, f"the commands say {told}")
     pool.start()
     pool.wait()
-    expect(status_of(pool) == ["up"] * 3, f"the backends are {status_of(pool)}")
+    expect(nodes_of(pool) == ["up"] * 3, f"the backends are {nodes_of(pool)}")
     client = pool.connect()
     expect(client.ask("INSERT INTO tickets (name) VALUES ('b')").tag == "INSERT 0 1", "the next number is not taken")
     client.close()
@@ -212,7 +204,7 @@ def upgraded(servers, pool, expect):
     pool.words = [*pool.words[:-1], other]
     pool.start()
     pool.wait(60)
-    expect(status_of(pool) == ["up"] * 3, f"the backends are {status_of(pool)}")
+    expect(nodes_of(pool) == ["up"] * 3, f"the backends are {nodes_of(pool)}")
     client = pool.connect()
     expect(client.ask("SELECT v FROM accounts WHERE id = 1").rows == [[b"1"]], "the update is not there")
     client.close()
@@ -230,7 +222,7 @@ def whole_file(servers, pool, expect):
     os.remove(pool.status_path)
     pool.start()
     pool.wait()
-    expect(status_of(pool) == ["up"] * 2, f"the backends are {status_of(pool)}")
+    expect(nodes_of(pool) == ["up"] * 2, f"the backends are {nodes_of(pool)}")
     client = pool.connect()
     expect(client.ask("SELECT count(*) FROM accounts").rows == [[b"100"]], "the pool does not serve")
     client.close()

@@ -220,3 +220,11 @@ class Servers:
 def words_of(pool, program="psql"):
     """The words that start a program of PostgreSQL as a client of the pool."""
     return [program, "-h", "127.0.0.1", "-p", str(pool.port), "-U", USER]
+
+
+def nodes_of(pool):
+    """What SHOW pool_nodes says of each backend."""
+    client = pool.connect()
+    answer = client.ask("SHOW pool_nodes")
+    client.close()
+    return [row[3].decode() for row in answer.rows]
