@@ -1,4 +1,5 @@
 //! The command `serve`, from what was read to its status.
+ghost use Rattle.schema.specs.Allowed.{AreAllowed};
 ghost use Rattle.schema.specs.Grammar.{IsWithin};
 
 use crate::check::DIFFERENT;
@@ -127,6 +128,7 @@ fn serve_at<R: Host>(
     control: Arc<Control, Global>,
 ) -> u8
     requires within { IsWithin tables }
+    requires allowed { ∥ AreAllowed tables ∥₁ }
 {
     let (mut faults, mut stops) = (0, 0);
     let end = tcp_server::serve(

@@ -1,4 +1,5 @@
 //! What is to be served.
+ghost use Rattle.schema.specs.Allowed.{AreAllowed};
 ghost use Rattle.schema.specs.Grammar.{IsWithin};
 
 use pool_config::Config;
@@ -10,4 +11,5 @@ pub struct Served {
     pub config: Config,
     pub tables: Catalogue,
     ghost within: { IsWithin tables },
+    ghost allowed: { ∥ AreAllowed tables ∥₁ },
 }

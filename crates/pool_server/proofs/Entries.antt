@@ -5,8 +5,8 @@ use Rattle.pool_base.specs.declared.gate_call.GateCall.{GateCall}
 use Rattle.pool_base.specs.declared.gate_call.GateAnswer.{GateAnswer}
 use Rattle.shared_gate.specs.declared.history.Entry.{Entry}
 use Rattle.shared_gate.specs.History.{entry}
-use Rattle.pool_server.specs.Deeds.{Call, made}
-use Rattle.pool_server.specs.Sights.{calls_in}
+use Rattle.served_recovery.specs.Calls.{Call, made}
+use Rattle.pool_server.specs.Entries.{calls_in}
 
 pub one_more : (mine later : List Entry) (by : ℕ) (call : GateCall) (answer : GateAnswer) → later ≡ mine ++ entry by call answer ∷ [] → calls_in later ≡ calls_in mine ++ made call answer ∷ []
 one_more mine later by call answer has = ap calls_in has ∙ map-append (λ (e : Entry). made e.call e.answer) mine (entry by call answer ∷ [])

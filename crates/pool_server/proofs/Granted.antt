@@ -7,7 +7,7 @@ use Rattle.snapshot_gate.specs.declared.state.GateState.{GateState}
 use Rattle.snapshot_gate.specs.Function.{step}
 use Rattle.shared_gate.specs.declared.history.Entry.{Entry}
 use Rattle.shared_gate.specs.History.{state_after, IsReplay, Known, Made, entry, is_grant}
-use Rattle.pool_server.specs.Passes.{is_leave}
+use Rattle.served_recovery.specs.Passes.{is_leave}
 
 -- the last answer of a history is that of the gate
 pub last_answer : (s : GateState) (log : List Entry) (e : Entry) → IsReplay s (log ++ e ∷ []) → (step (state_after s log) e.call).1 ≡ e.answer
@@ -27,7 +27,7 @@ granted_leave s StartCopy h = absurd (cc)
 granted_leave s AskQuiet h = absurd (cc)
 granted_leave s EnterQuiet h = absurd (cc)
 granted_leave s (Attach b) h = absurd (cc)
-granted_leave s LeaveQuiet h = absurd (cc)
+granted_leave s LeaveQuiet h = refl
 
 pub made_leaves : (v w : Known) (call : GateCall) (answer : GateAnswer) → Made v call answer w → is_leave call ≡ true → is_grant answer ≡ true
 made_leaves v w call answer made h =

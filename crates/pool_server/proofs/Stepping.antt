@@ -2,6 +2,7 @@
 use Rattle.std.proofs.Common.{◌≡◌, ℕ, Bool, true, false, List, [], ◌∷◌, ◌++◌, refl, sym, ap, ◌∙◌, subst, inl, inr, append_assoc}
 use Rattle.std.specs.Prelude.{ℤ, ◌⊎◌, Option, Some, None, is_some, IfNone, IfSome, pos}
 use Rattle.std.proofs.lemmas.List.{append-nil}
+use Rattle.std.proofs.lemmas.Bool.{false≢true}
 use Rattle.pool_base.proofs.Sinking.{appends_nothing}
 use Rattle.pool_base.specs.Outside.{Appends, Gives}
 use Rattle.pool_base.specs.declared.session_id.SessionId.{SessionId}
@@ -18,31 +19,32 @@ use Rattle.session_engine.specs.declared.ask.Ask.TheVariants as asks
 use Rattle.session_engine.specs.Handing.{asked_of, handed}
 use Rattle.session_wire.specs.Shown.{IsFresh, View}
 use Rattle.session_links.specs.Plans.{Told}
-use Rattle.pool_server.specs.declared.end.EndCause.{EndCause}
-use Rattle.pool_server.specs.declared.end.EndCause.TheVariants as causes
-use Rattle.pool_server.specs.declared.parting.Step.{Step}
-use Rattle.pool_server.specs.declared.parting.Step.TheVariants as steps
-use Rattle.pool_server.specs.declared.parting.Parting.{Parting}
-use Rattle.pool_server.specs.declared.parting.Parting.TheVariants as partings
-use Rattle.pool_server.specs.Causes.{in_answer, in_parting, in_step}
-use Rattle.pool_server.specs.Passes.{is_leave}
-use Rattle.pool_server.specs.Deeds.{Call, Deed, Does, Loses, Miss, Plainly, Unbidden}
-use Rattle.pool_server.specs.Places.{CausesMiss, Misses, Setting, Place, at_moment, first_loss, place}
-use Rattle.pool_server.specs.Reaches.{DeedAt}
-use Rattle.pool_server.specs.Sights.{Seen, Shows, Went, calls_by, ends_by, moments_by, read_by, with_links, written_by}
-use Rattle.pool_server.specs.Servings.{AllLeave, ComesOut, Ends, EndsBy, EndsIn, Finishes, Leads, Serves, first_of, is_leaving, leaves_with, lost_by, lost_over, lost_with, standing, standing_by, unbidden_by}
-use Rattle.pool_server.proofs.Going.{gives_nothing, went_none, went_on, went_one, went_same, went_to}
-use Rattle.pool_server.proofs.Talking.{ended}
+use Rattle.served_recovery.specs.declared.end.EndCause.{EndCause}
+use Rattle.served_recovery.specs.declared.end.EndCause.TheVariants as causes
+use Rattle.serve_steps.specs.declared.parting.Step.{Step}
+use Rattle.serve_steps.specs.declared.parting.Step.TheVariants as steps
+use Rattle.serve_steps.specs.declared.parting.Parting.{Parting}
+use Rattle.serve_steps.specs.declared.parting.Parting.TheVariants as partings
+use Rattle.serve_steps.specs.Causes.{in_answer, in_parting, in_step, is_recovery}
+use Rattle.served_recovery.specs.Passes.{is_leave}
+use Rattle.served_recovery.specs.Calls.{Call}
+use Rattle.serve_steps.specs.Deeds.{Deed, Does, Loses, Miss, Plainly, Unbidden}
+use Rattle.serve_steps.specs.Places.{CausesMiss, Misses, NoRecovery, Setting, Place, at_moment, first_loss, place}
+use Rattle.serve_steps.specs.Reaches.{DeedAt}
+use Rattle.serve_steps.specs.Sights.{Seen, Shows, Went, calls_by, ends_by, moments_by, read_by, with_links, written_by}
+use Rattle.serve_steps.specs.Servings.{AllLeave, ComesOut, Ends, EndsBy, EndsIn, Finishes, Leads, Serves, first_of, is_leaving, leaves_with, lost_by, lost_over, lost_with, standing, standing_by, unbidden_by, placed, course_with}
+use Rattle.serve_steps.proofs.Going.{gives_nothing, went_none, went_on, went_one, went_same, went_to}
+use Rattle.serve_steps.proofs.Talking.{ended}
 
 pub none_lost : (lost : Option EndCause) → is_some lost ≡ false → lost ≡ None
 none_lost None is = refl
 none_lost (Some cause) is = absurd (cc)
 
-is_lost : (lost : Option EndCause) (cause : EndCause) → is_some (first_loss lost cause) ≡ true
+pub is_lost : (lost : Option EndCause) (cause : EndCause) → is_some (first_loss lost cause) ≡ true
 is_lost None cause = refl
 is_lost (Some first) cause = refl
 
-nothing_seen : (s : Seen) (deed : Deed) → read_by deed ≡ [] → written_by deed ≡ [] → moments_by deed ≡ [] → calls_by deed ≡ [] → ((ended : Bool) → ends_by ended deed ≡ ended) → DeedAt deed s.reach s.reach → Shows (deed ∷ []) s s
+pub nothing_seen : (s : Seen) (deed : Deed) → read_by deed ≡ [] → written_by deed ≡ [] → moments_by deed ≡ [] → calls_by deed ≡ [] → ((ended : Bool) → ends_by ended deed ≡ ended) → DeedAt deed s.reach s.reach → Shows (deed ∷ []) s s
 nothing_seen s deed reads writes moments calls ends reaches = record {
   read = subst (λ (z : List ℕ). Gives s.left s.left (z ++ [])) (sym reads) (gives_nothing s.left);
   ended = sym (ends s.ended);
@@ -57,21 +59,21 @@ pub leaves : (w : Setting) (s : Seen) (m n : Machine) (v v' : View) (parting par
     → n ≡ after m (events.Ordered (at_moment (pos 0) orders.Leave)) → v' ≡ v → lost_by parting' ≡ first_loss (lost_by parting) cause → is_leaving parting' ≡ true
     → Went w (standing_by m v parting (steps.Lost cause)) s (standing n v' parting') s
 leaves w s m n v v' parting parting' cause may leads same first told = went_one w (standing_by m v parting (steps.Lost cause)) (standing n v' parting') (Does (events.Ordered (at_moment (pos 0) orders.Leave))) s s
-    (first, (told, (record { may = (may, tt); leads = leads }, (refl, (is_lost (lost_by parting) cause, same)))))
+    ((refl, refl), (first, (told, (record { may = (may, tt); leads = leads }, (refl, (is_lost (lost_by parting) cause, same))))))
     (nothing_seen s (Does (events.Ordered (at_moment (pos 0) orders.Leave))) refl refl refl refl (λ ended. refl) refl)
 
 -- the machine is at its end
 pub finished : (w : Setting) (s : Seen) (m n : Machine) (v : View) (parting : Parting) → next_action m ≡ actions.End → n ≡ handed m
     → Went w (standing m v parting) s (standing n v parting) s
 finished w s m n v parting due leads = went_one w (standing m v parting) (standing n v parting) (Does events.Ended) s s
-    (refl, (refl, (record { may = due; leads = leads ∙ ended m due }, refl)))
+    ((refl, refl), (refl, (refl, (record { may = due; leads = leads ∙ ended m due }, refl))))
     (nothing_seen s (Does events.Ended) refl refl refl refl (λ ended. refl) refl)
 
 -- the session ends at once by that cause
 pub loses_so : (w : Setting) (s : Seen) (p : Place) (cause : EndCause) (miss : Miss) → p.lost ≡ None → CausesMiss w cause miss p (record p { lost = Some cause }) → Misses w miss p (record p { lost = Some cause }) → Shows (Loses cause miss ∷ []) s s → Leads w p s cause s
 loses_so w s p cause miss there may misses shows = record {
   last = record p { lost = Some cause };
-  went = went_one w p (record p { lost = Some cause }) (Loses cause miss) s s (sym (ap (λ (l : Option EndCause). first_loss l cause) there), (refl, (may, misses))) shows;
+  went = went_one w p (record p { lost = Some cause }) (Loses cause miss) s s (inl refl, (sym (ap (λ (l : Option EndCause). first_loss l cause) there), (refl, (may, misses)))) shows;
   ends = inl refl;
 }
 
@@ -178,24 +180,24 @@ out_on a b c one two = record {
 
 -- The same machine, and the same client.
 
-pub between : (w : Setting) (m m' n n' : Machine) (v u u' : View) (lost lost' : Option EndCause) (leaving leaving' : Bool) (s t t' : Seen) → m' ≡ m → n' ≡ n → u' ≡ u → t' ≡ t → Went w (place m' v lost leaving) s (place n u lost' leaving') t
-    → Went w (place m v lost leaving) s (place n' u' lost' leaving') t'
-between w m m' n n' v u u' lost lost' leaving leaving' s t t' one two three four went =
-    subst (λ (z : Seen). Went w (place m v lost leaving) s (place n' u' lost' leaving') z) (sym four)
-    (subst (λ (y : View). Went w (place m v lost leaving) s (place n' y lost' leaving') t) (sym three)
-    (subst (λ (x : Machine). Went w (place m v lost leaving) s (place x u lost' leaving') t) (sym two) (subst (λ (x : Machine). Went w (place x v lost leaving) s (place n u lost' leaving') t) one went)))
+pub between : (w : Setting) (m m' n n' : Machine) (v u u' : View) (lost lost' : Option EndCause) (leaving leaving' : Bool) (step : Step) (s t t' : Seen) → m' ≡ m → n' ≡ n → u' ≡ u → t' ≡ t → Went w (place m' v lost leaving) s (placed n u lost' leaving' step) t
+    → Went w (place m v lost leaving) s (placed n' u' lost' leaving' step) t'
+between w m m' n n' v u u' lost lost' leaving leaving' step s t t' one two three four went =
+    subst (λ (z : Seen). Went w (place m v lost leaving) s (placed n' u' lost' leaving' step) z) (sym four)
+    (subst (λ (y : View). Went w (place m v lost leaving) s (placed n' y lost' leaving' step) t) (sym three)
+    (subst (λ (x : Machine). Went w (place m v lost leaving) s (placed x u lost' leaving' step) t) (sym two) (subst (λ (x : Machine). Went w (place x v lost leaving) s (placed n u lost' leaving' step) t) one went)))
 
-pub ends_between : (step : Step) (n n' : Machine) (u u' : View) (lost : Option EndCause) (leaving : Bool) → n' ≡ n → u' ≡ u → EndsIn step (place n u lost leaving) → EndsIn step (place n' u' lost leaving)
+pub ends_between : (step : Step) (n n' : Machine) (u u' : View) (lost : Option EndCause) (leaving : Bool) → n' ≡ n → u' ≡ u → EndsIn step (placed n u lost leaving step) → EndsIn step (placed n' u' lost leaving step)
 ends_between step n n' u u' lost leaving two three ends =
-    subst (λ (y : View). EndsIn step (place n' y lost leaving)) (sym three) (subst (λ (x : Machine). EndsIn step (place x u lost leaving)) (sym two) ends)
+    subst (λ (y : View). EndsIn step (placed n' y lost leaving step)) (sym three) (subst (λ (x : Machine). EndsIn step (placed x u lost leaving step)) (sym two) ends)
 
-pub there : (w : Setting) (m n : Machine) (v v' : View) (parting : Parting) (step : Step) (s t : Seen) → is_some (lost_by parting) ≡ false → Went w (place m v None (is_leaving parting)) s (place n v' (lost_with None step) (leaves_with step (is_leaving parting))) t
+pub there : (w : Setting) (m n : Machine) (v v' : View) (parting : Parting) (step : Step) (s t : Seen) → is_some (lost_by parting) ≡ false → Went w (place m v None (is_leaving parting)) s (placed n v' (lost_with None step) (leaves_with step (is_leaving parting)) step) t
     → Went w (standing m v parting) s (standing_by n v' parting step) t
 there w m n v v' parting step s t is went =
-    subst (λ (l : Option EndCause). Went w (place m v l (is_leaving parting)) s (place n v' (lost_with l step) (leaves_with step (is_leaving parting))) t) (sym (none_lost (lost_by parting) is)) went
+    subst (λ (l : Option EndCause). Went w (place m v l (is_leaving parting)) s (placed n v' (lost_with l step) (leaves_with step (is_leaving parting)) step) t) (sym (none_lost (lost_by parting) is)) went
 
-pub ends_there : (m : Machine) (v : View) (parting : Parting) (step : Step) → is_some (lost_by parting) ≡ false → EndsIn step (place m v (lost_with None step) (leaves_with step (is_leaving parting))) → EndsIn step (standing_by m v parting step)
-ends_there m v parting step is ends = subst (λ (l : Option EndCause). EndsIn step (place m v (lost_with l step) (leaves_with step (is_leaving parting)))) (sym (none_lost (lost_by parting) is)) ends
+pub ends_there : (m : Machine) (v : View) (parting : Parting) (step : Step) → is_some (lost_by parting) ≡ false → EndsIn step (placed m v (lost_with None step) (leaves_with step (is_leaving parting)) step) → EndsIn step (standing_by m v parting step)
+ends_there m v parting step is ends = subst (λ (l : Option EndCause). EndsIn step (placed m v (lost_with l step) (leaves_with step (is_leaving parting)) step)) (sym (none_lost (lost_by parting) is)) ends
 
 -- A step, and what is behind it.
 
@@ -221,10 +223,20 @@ pub ends_kept : (m : Machine) (v : View) (parting parting' : Parting) (step : St
 ends_kept m v parting parting' step same ends = subst (λ (g : Parting). EndsIn step (standing_by m v g step)) (sym same) ends
 
 -- where a step has changed nothing, and nothing is done behind it
-pub unmoved : (w : Setting) (s : Seen) (m n : Machine) (v v' : View) (parting parting' : Parting) (step : Step) → lost_with (lost_by parting) step ≡ lost_by parting → leaves_with step (is_leaving parting) ≡ is_leaving parting' → n ≡ m → v' ≡ v → lost_by parting' ≡ lost_by parting
+pub unmoved : (w : Setting) (s : Seen) (m n : Machine) (v v' : View) (parting parting' : Parting) (step : Step) → lost_with (lost_by parting) step ≡ lost_by parting → leaves_with step (is_leaving parting) ≡ is_leaving parting' → course_with step ≡ NoRecovery → n ≡ m → v' ≡ v → lost_by parting' ≡ lost_by parting
     → Went w (standing_by m v parting step) s (standing n v' parting') s
-unmoved w s m n v v' parting parting' step is told one two three =
-    went_same w (standing_by m v parting step) (standing n v' parting') s s (λ i. place (one i) (two i) ((three ∙ sym is) i) (sym told i)) refl
+unmoved w s m n v v' parting parting' step is told alone one two three =
+    went_same w (standing_by m v parting step) (standing n v' parting') s s (λ i. record { machine = one i; view = two i; lost = (three ∙ sym is) i; leaving = sym told i; course = sym alone i }) refl
+
+-- a step that hands on no order of a recovery leaves none
+pub no_course : (step : Step) → is_recovery step ≡ false → course_with step ≡ NoRecovery
+no_course steps.Goes is = refl
+no_course steps.Silent is = refl
+no_course steps.Leaves is = refl
+no_course (steps.Lost cause) is = refl
+no_course steps.Ended is = refl
+no_course (steps.Recovers moment number) is = absurd (false≢true (sym is))
+no_course (steps.Over cause) is = refl
 
 pub goes_on : (lost : Option EndCause) (step : Step) → (step ≡ steps.Goes) ⊎ (step ≡ steps.Silent) → lost_with lost step ≡ lost
 goes_on lost step (inl is) = ap (lost_with lost) is
@@ -351,6 +363,6 @@ begun w s m v parting is = went_same w (place m v None false) (standing m v part
 pub no_fault : (test : EndCause → Bool) (parting : Parting) (P : Type 0) → parting ≡ partings.No → in_parting test parting ≡ true → P
 no_fault test parting P is told = let never : false ≡ true = subst (λ (p : Parting). in_parting test p ≡ true) is told in absurd (cc)
 
-pub none_by : (result : Option EndCause) (P : Type 0) → ((cause : EndCause) → result ≡ Some cause → ⊥) → IfNone result P → P
+pub none_by : {X : Type 0} (result : Option X) (P : Type 0) → ((x : X) → result ≡ Some x → ⊥) → IfNone result P → P
 none_by None P not is = is
-none_by (Some cause) P not is = absurd (not cause refl)
+none_by (Some x) P not is = absurd (not x refl)

@@ -1,14 +1,4 @@
-pub mod Passes
-pub mod Causes
-pub mod Told
 pub mod Seats
 pub mod Policies
-pub mod Breaks
-pub mod Deeds
-pub mod Farewells
-pub mod Places
-pub mod Reaches
-pub mod Sights
-pub mod Servings
-pub mod Notes
 pub mod Machines
+pub mod Entries

@@ -1,25 +1,26 @@
 //! How a session parts: where a step leads, and the causes of its end.
-ghost use Rattle.std.specs.Prelude.{◌≡◌, ◌⊎◌, true, IfNone, IfSome};
+ghost use Rattle.std.specs.Prelude.{◌≡◌, ◌⊎◌, true, false, IfNone, IfSome};
 ghost use Rattle.session_machine.specs.declared.action.Action.TheVariants as actions;
 ghost use Rattle.session_machine.specs.Rules.{next_action};
 ghost use Rattle.session_engine.specs.Cores.{machine_in};
 ghost use Rattle.session_links.specs.Plans.{told_at};
 ghost use Rattle.session_wire.specs.Shown.{shown};
-ghost use Rattle.pool_server.specs.Places.{Setting, first_loss};
-ghost use Rattle.pool_server.specs.Sights.{Seen, Went};
-ghost use Rattle.pool_server.specs.Servings.{EndsIn, Leads, first_of, is_leaving, lost_by, standing, standing_by, unbidden_by};
-ghost use Rattle.pool_server.specs.Causes.{in_answer, in_parting, in_step, is_cut_off, is_put_out, is_read_fault, is_write_fault};
+ghost use Rattle.serve_steps.specs.Places.{Setting, first_loss};
+ghost use Rattle.serve_steps.specs.Sights.{Seen, Went};
+ghost use Rattle.serve_steps.specs.Servings.{EndsIn, Leads, first_of, is_leaving, lost_by, standing, standing_by, unbidden_by};
+ghost use Rattle.serve_steps.specs.Causes.{in_answer, in_parting, in_step, is_cut_off, is_put_out, is_read_fault, is_recovery, is_write_fault};
 
-use crate::end::EndCause;
-use crate::parting::{Parting, Step};
 use crate::session::Session;
 use backend_trait::Link;
+use serve_steps::{Parting, Step};
+use served_recovery::EndCause;
 
 impl<L: Link> Session<L> {
     /// Where a step leads.
     pub fn behind(&mut self, step: Step, is_cut: bool) -> Option<EndCause>
         requires ends { EndsIn step (standing_by (machine_in self.old.work.core)
             (shown self.old.talk.wire) self.old.parting step) }
+        requires alone { is_recovery step ≡ false }
         ensures links { told_at L.pending L.plan self.new.work.links.slots.items
             ≡ told_at L.pending L.plan self.old.work.links.slots.items }
         ensures read { in_answer is_read_fault result ≡ true
@@ -57,6 +58,7 @@ impl<L: Link> Session<L> {
     {
         match step {
             Step::Goes | Step::Silent => None,
+            Step::Recovers(_, _) => None,
             Step::Leaves => {
                 self.close();
                 None

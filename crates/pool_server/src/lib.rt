@@ -3,29 +3,20 @@
 //! out.
 #![tactic(auto)]
 
-mod breaks;
 mod departure;
-mod end;
-mod farewell;
-mod footing;
 mod laws;
 mod noted;
-mod outside;
-mod parting;
 mod policy;
+mod recovering;
 mod seats;
 mod serve;
 mod session;
-mod talk;
 mod way_out;
-mod work;
 
-pub use end::EndCause;
-pub use farewell::farewell_bytes;
-pub use footing::{Footing, Phase};
 pub use laws::deeds_are_a_run;
 pub use noted::serve_noted;
-pub use outside::{ClientSource, GatePass, Notices, Posture, Spell};
 pub use policy::policy_of;
 pub use seats::Seats;
 pub use serve::{Around, serve_session};
+pub use serve_steps::{ClientSource, Posture, Spell, farewell_bytes};
+pub use served_recovery::{EndCause, Footing, GatePass, Notices, Phase, Progress, Quiet};

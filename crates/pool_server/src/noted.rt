@@ -1,21 +1,22 @@
 //! A session that is served, and whose end is told.
 ghost use Rattle.std.specs.Prelude.{◌≡◌, ◌∷◌, [], List, Option};
 ghost use Rattle.pool_base.specs.Outside.{Appends};
+ghost use Rattle.schema.specs.Allowed.{AreAllowed};
 ghost use Rattle.schema.specs.Grammar.{IsWithin};
-ghost use Rattle.shared_gate.specs.History.{Out};
-ghost use Rattle.pool_server.specs.Notes.{Ended, Note};
-ghost use Rattle.pool_server.specs.Places.{setting};
+ghost use Rattle.served_recovery.specs.Passes.{IsOut};
+ghost use Rattle.served_recovery.specs.Notes.{Ended, Note};
+ghost use Rattle.serve_steps.specs.Places.{setting};
 ghost use Rattle.pool_server.specs.Policies.{policy_of};
-ghost use Rattle.pool_server.specs.Reaches.{alone};
-ghost use Rattle.pool_server.specs.Servings.{IsServed};
-ghost use Rattle.pool_server.specs.Sights.{seen};
+ghost use Rattle.served_recovery.specs.Reach.{alone};
+ghost use Rattle.serve_steps.specs.Servings.{IsServed};
+ghost use Rattle.serve_steps.specs.Sights.{seen};
 
-use crate::end::EndCause;
-use crate::outside::{ClientSource, GatePass, Notices};
 use crate::serve::{Around, serve_session};
 use catalogue::Catalogue;
 use pool_base::{Clock, SessionId, Sink};
 use pool_config::Config;
+use serve_steps::ClientSource;
+use served_recovery::{EndCause, GatePass, Notices};
 use session_links::LinkMaker;
 use std::alloc::Global;
 
@@ -35,6 +36,7 @@ where
     G: GatePass,
     N: Notices,
     requires within { IsWithin tables.now }
+    requires allowed { AreAllowed tables.now }
     // It was served with just these: its source, its sink, its clock, its pass and its links.
     ensures served { IsServed (setting tables.now config.now.nodes) s (policy_of config.now)
         (seen (I.left around.old.source) (I.ended around.old.source)
@@ -43,7 +45,7 @@ where
         (seen (I.left around.new.source) (I.ended around.new.source)
         (O.taken around.new.sink) (C.given around.new.clock) (G.calls around.new.gate)
         (alone (M.plans around.new.maker) (G.stand around.new.gate))) }
-    ensures out { G.stand around.new.gate ≡ Out }
+    ensures out { IsOut (G.stand around.new.gate) }
     // The last that is told of it is its end, with this cause.
     ensures noted { (before : Option (List Note))
         × Appends before (N.told around.new.notices) (Ended s result ∷ []) }

@@ -1,27 +1,27 @@
 //! A whole session.
 ghost use Rattle.std.specs.Prelude.{◌≡◌, ◌≤◌, true, false, None};
 ghost use Rattle.pool_base.specs.Outside.{Rose};
+ghost use Rattle.schema.specs.Allowed.{AreAllowed};
 ghost use Rattle.schema.specs.Grammar.{IsWithin};
-ghost use Rattle.shared_gate.specs.History.{Out};
-ghost use Rattle.pool_server.specs.Causes.{is_cut_off, is_put_out, is_read_fault, is_write_fault};
+ghost use Rattle.served_recovery.specs.Passes.{IsOut};
+ghost use Rattle.serve_steps.specs.Causes.{is_cut_off, is_put_out, is_read_fault, is_write_fault};
 ghost use Rattle.pool_server.specs.Policies.{policy_of};
 ghost use Rattle.session_engine.specs.Cores.{machine_in};
 ghost use Rattle.session_wire.specs.Shown.{shown};
-ghost use Rattle.pool_server.specs.Places.{place, setting};
-ghost use Rattle.pool_server.specs.Reaches.{alone, reach};
-ghost use Rattle.pool_server.specs.Sights.{seen};
-ghost use Rattle.pool_server.specs.Servings.{Finishes, IsServed, Serves};
-ghost use Rattle.pool_server.specs.Told.{Begins};
+ghost use Rattle.serve_steps.specs.Places.{place, setting};
+ghost use Rattle.served_recovery.specs.Reach.{alone, reach};
+ghost use Rattle.serve_steps.specs.Sights.{seen};
+ghost use Rattle.serve_steps.specs.Servings.{Finishes, IsServed, Serves};
+ghost use Rattle.serve_steps.specs.Told.{Begins};
 
-use crate::end::EndCause;
-use crate::outside::{ClientSource, GatePass, Notices};
-use crate::parting::Parting;
 use crate::session::Session;
 use crate::way_out::come_out;
 use backend_trait::Link;
 use catalogue::Catalogue;
 use pool_base::{Clock, NoMemory, SessionId, Sink};
 use pool_config::Config;
+use serve_steps::{ClientSource, Parting};
+use served_recovery::{EndCause, GatePass, Notices};
 use session_links::LinkMaker;
 use std::alloc::Global;
 
@@ -55,6 +55,7 @@ where
     G: GatePass,
     N: Notices,
     requires within { IsWithin tables.now }
+    requires allowed { AreAllowed tables.now }
     // Where it ends by a fault of its client's bytes, that count rose.
     ensures read { is_read_fault result ≡ true
         → Rose (I.fault_count around.old.source) (I.fault_count around.new.source) }
@@ -76,7 +77,7 @@ where
         (O.taken around.new.sink) (C.given around.new.clock) (G.calls around.new.gate)
         (alone (M.plans around.new.maker) (G.stand around.new.gate))) }
     // However it ends, its pass is out.
-    ensures out { G.stand around.new.gate ≡ Out }
+    ensures out { IsOut (G.stand around.new.gate) }
 {
     let cause = run(alloc, around, config, tables, s);
     come_out(&mut around.gate);
@@ -100,6 +101,7 @@ where
     G: GatePass,
     N: Notices,
     requires within { IsWithin tables.now }
+    requires allowed { AreAllowed tables.now }
     ensures read { is_read_fault result ≡ true
         → Rose (I.fault_count around.old.source) (I.fault_count around.new.source) }
     ensures write { is_write_fault result ≡ true
@@ -125,7 +127,7 @@ where
 }
 
 /// The steps of a session whose client is there, to its end.
-#[tactic(auto, using(crate::proofs::Begun::begins_same))]
+#[tactic(auto, using(serve_steps::proofs::Begun::begins_same))]
 fn steps<L, I, O, M, C, G, N>(
     session: &mut Session<L>,
     around: &mut Around<I, O, M, C, G, N>,
@@ -141,6 +143,7 @@ where
     G: GatePass,
     N: Notices,
     requires within { IsWithin tables.now }
+    requires allowed { AreAllowed tables.now }
     requires there { session.old.parting ≡ Parting.No }
     ensures read { is_read_fault result ≡ true
         → Rose (I.fault_count around.old.source) (I.fault_count around.new.source) }

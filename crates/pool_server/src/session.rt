@@ -9,8 +9,9 @@
 //!
 //! One thing is done a step: what is due of the core, and where nothing is, what is due of the
 //! wire.
-ghost use Rattle.std.specs.Prelude.{◌≡◌, ◌≤◌, ◌⊎◌, ℕ, Bool, true, false, IfOk, IfNone, IfSome, is_some, List, None};
+ghost use Rattle.std.specs.Prelude.{◌≡◌, ◌≤◌, ◌⊎◌, ℕ, ℤ, Bool, true, false, IfOk, IfNone, IfSome, is_some, List, None};
 ghost use Rattle.pool_base.specs.Outside.{Rose};
+ghost use Rattle.schema.specs.Allowed.{AreAllowed};
 ghost use Rattle.schema.specs.Grammar.{IsWithin};
 ghost use Rattle.pool_config.specs.declared.config.Node.{Node};
 ghost use Rattle.session_machine.specs.declared.action.Action.TheVariants as actions;
@@ -22,25 +23,22 @@ ghost use Rattle.session_engine.specs.Cores.{machine_in};
 ghost use Rattle.session_links.specs.Plans.{NoLink, told_at};
 ghost use Rattle.session_wire.specs.Shown.{IsFresh, shown};
 ghost use Rattle.pool_server.specs.Policies.{policy_of};
-ghost use Rattle.pool_server.specs.Places.{Setting, place, setting, waits_freely};
-ghost use Rattle.pool_server.specs.Reaches.{reach};
-ghost use Rattle.pool_server.specs.Sights.{Seen, Went, seen};
-ghost use Rattle.pool_server.specs.Servings.{EndsIn, Finishes, Leads, leaves_with, lost_by, lost_with, standing, standing_by};
-ghost use Rattle.pool_server.specs.Causes.{IsQuiet, in_answer, in_parting, in_step, is_cut_off, is_put_out, is_read_fault, is_write_fault};
-ghost use Rattle.pool_server.specs.Told.{Begins};
+ghost use Rattle.serve_steps.specs.Places.{Setting, place, setting, waits_freely};
+ghost use Rattle.served_recovery.specs.Reach.{reach};
+ghost use Rattle.serve_steps.specs.Sights.{Seen, Went, seen};
+ghost use Rattle.serve_steps.specs.Servings.{EndsIn, Finishes, Leads, leaves_with, lost_by, lost_with, placed, standing, standing_by};
+ghost use Rattle.serve_steps.specs.Causes.{IsQuiet, in_answer, in_parting, in_step, is_cut_off, is_put_out, is_read_fault, is_recovery, is_write_fault};
+ghost use Rattle.serve_steps.specs.Told.{Begins};
 
 use crate::departure::first_of;
-use crate::end::EndCause;
-use crate::outside::{ClientSource, GatePass, Notices, Posture, Spell};
-use crate::parting::{Parting, Step};
 use crate::policy::policy_of;
 use crate::serve::Around;
-use crate::talk::Talk;
-use crate::work::Work;
 use backend_trait::Link;
 use catalogue::Catalogue;
 use pool_base::{BackendId, Clock, NoMemory, SessionId, Sink};
 use pool_config::Config;
+use serve_steps::{ClientSource, Parting, Posture, Spell, Step, Talk, Work};
+use served_recovery::{EndCause, GatePass, Notices};
 use session_engine::{Ask, Due, Standing};
 use session_links::LinkMaker;
 use session_machine::{GatePhase, Status, may_stop};
@@ -52,6 +50,7 @@ pub(crate) struct Session<L: Link> {
     pub talk: Talk,
     pub work: Work<L>,
     pub parting: Parting,
+    pub alloc: Global,
     /// The client has sent nothing for a short while, and the backends know all.
     is_silent: bool,
     /// It was looked whether the client is there, since the last look for an answer.
@@ -79,6 +78,7 @@ impl<L: Link> Session<L> {
             talk: Talk::new(alloc, s)?,
             work: Work::new(alloc, s, policy_of(config), config.sessions.server_timeout)?,
             parting: Parting::No,
+            alloc,
             is_silent: false,
             has_looked: false,
         })
@@ -102,7 +102,7 @@ impl<L: Link> Session<L> {
 
     /// What is due of the wire is done, where its client is there. Where the client is silent the
     /// backends are told what was held back from them, before it is waited for longer.
-    #[tactic(auto, using(crate::proofs::Begun::begins_same))]
+    #[tactic(auto, using(serve_steps::proofs::Begun::begins_same))]
     fn rest<I, O, M, C, G, N>(
         &mut self,
         around: &mut Around<I, O, M, C, G, N>,
@@ -130,6 +130,9 @@ impl<L: Link> Session<L> {
         ensures write_later { O.fault_count around.old.sink ≤ O.fault_count around.new.sink }
         ensures taken { Begins (O.taken around.old.sink) (O.taken around.new.sink) }
         ensures parting { self.new.parting ≡ self.old.parting }
+        ensures rests { (moment : ℤ) → (number : ℕ) → result ≡ Step.Recovers moment number
+            → (next_action (machine_in self.new.work.core) ≡ actions.Rest)
+            × (lost_by self.old.parting ≡ None) }
         ensures went { (nodes : List Node) → Went (setting tables.now nodes)
             (standing (machine_in self.old.work.core) (shown self.old.talk.wire) self.old.parting)
             (seen (I.left around.old.source) (I.ended around.old.source)
@@ -187,20 +190,23 @@ impl<L: Link> Session<L> {
         ensures write_later { O.fault_count around.old.sink ≤ O.fault_count around.new.sink }
         ensures taken { Begins (O.taken around.old.sink) (O.taken around.new.sink) }
         ensures parting { self.new.parting ≡ self.old.parting }
+        ensures rests { (moment : ℤ) → (number : ℕ) → result ≡ Step.Recovers moment number
+            → next_action (machine_in self.new.work.core) ≡ actions.Rest }
         ensures went { (nodes : List Node) → (leaving : Bool) → Went (setting tables.now nodes)
             (place (machine_in self.old.work.core) (shown self.old.talk.wire) None leaving)
             (seen (I.left around.old.source) (I.ended around.old.source)
             (O.taken around.old.sink) (C.given around.old.clock) (G.calls around.old.gate)
             (reach L.pending L.plan self.old.work.links.slots.items (M.plans around.old.maker)
             (G.stand around.old.gate)))
-            (place (machine_in self.new.work.core) (shown self.new.talk.wire)
-            (lost_with None result) (leaves_with result leaving))
+            (placed (machine_in self.new.work.core) (shown self.new.talk.wire)
+            (lost_with None result) (leaves_with result leaving) result)
             (seen (I.left around.new.source) (I.ended around.new.source)
             (O.taken around.new.sink) (C.given around.new.clock) (G.calls around.new.gate)
             (reach L.pending L.plan self.new.work.links.slots.items (M.plans around.new.maker)
             (G.stand around.new.gate))) }
-        ensures ends { (leaving : Bool) → EndsIn result (place (machine_in self.new.work.core)
-            (shown self.new.talk.wire) (lost_with None result) (leaves_with result leaving)) }
+        ensures ends { (leaving : Bool) → EndsIn result (placed (machine_in self.new.work.core)
+            (shown self.new.talk.wire) (lost_with None result) (leaves_with result leaving)
+            result) }
     {
         self.work.rest();
         let posture = self.posture();
@@ -247,8 +253,8 @@ impl<L: Link> Session<L> {
         first_of(self.parting, EndCause::NoMemory)
     }
 
-    /// What is due is done.
-    #[tactic(auto, using(crate::proofs::Begun::begins_same))]
+    /// What is due is done. A recovery that the client has ordered is brought to its end.
+    #[tactic(auto, using(serve_steps::proofs::Begun::begins_same, serve_steps::proofs::Begun::begins_trans))]
     fn due<I, O, M, C, G, N>(
         &mut self,
         around: &mut Around<I, O, M, C, G, N>,
@@ -263,6 +269,7 @@ impl<L: Link> Session<L> {
         G: GatePass,
         N: Notices,
         requires within { IsWithin tables.now }
+        requires allowed { AreAllowed tables.now }
         ensures read { in_step is_read_fault result ≡ true
             → Rose (I.fault_count around.old.source) (I.fault_count around.new.source) }
         ensures write { in_step is_write_fault result ≡ true
@@ -277,6 +284,7 @@ impl<L: Link> Session<L> {
         ensures write_later { O.fault_count around.old.sink ≤ O.fault_count around.new.sink }
         ensures taken { Begins (O.taken around.old.sink) (O.taken around.new.sink) }
         ensures parting { self.new.parting ≡ self.old.parting }
+        ensures alone { is_recovery result ≡ false }
         ensures went { Went (setting tables.now config.now.nodes)
             (standing (machine_in self.old.work.core) (shown self.old.talk.wire) self.old.parting)
             (seen (I.left around.old.source) (I.ended around.old.source)
@@ -293,7 +301,10 @@ impl<L: Link> Session<L> {
             (shown self.new.talk.wire) self.old.parting result) }
     {
         match self.work.core.asks() {
-            Ask::Rest => self.rest(around, tables),
+            Ask::Rest => match self.rest(around, tables) {
+                Step::Recovers(_, number) => self.recover(number, around, config, tables),
+                step => step,
+            },
             Ask::Gate(call) => self.work.call(call, &mut around.gate),
             Ask::Detach(b) => self.work.detach(b, &mut around.gate, &mut around.notices),
             Ask::Post(b) => {
@@ -308,7 +319,7 @@ impl<L: Link> Session<L> {
     }
 
     /// An answer of a backend is awaited. It is looked now and then whether the client is there.
-    #[tactic(auto, using(crate::proofs::Begun::begins_same))]
+    #[tactic(auto, using(serve_steps::proofs::Begun::begins_same))]
     fn wait<I, O, M, C, G, N>(
         &mut self,
         b: BackendId,
@@ -335,6 +346,7 @@ impl<L: Link> Session<L> {
         ensures write_later { O.fault_count around.old.sink ≤ O.fault_count around.new.sink }
         ensures taken { Begins (O.taken around.old.sink) (O.taken around.new.sink) }
         ensures parting { self.new.parting ≡ self.old.parting }
+        ensures alone { is_recovery result ≡ false }
         ensures went { (w : Setting) → Went w
             (standing (machine_in self.old.work.core) (shown self.old.talk.wire) self.old.parting)
             (seen (I.left around.old.source) (I.ended around.old.source)
@@ -408,6 +420,7 @@ impl<L: Link> Session<L> {
         G: GatePass,
         N: Notices,
         requires within { IsWithin tables.now }
+        requires allowed { AreAllowed tables.now }
         // A fault is told of where it was this step's, or one by which the client was lost before.
         ensures read { in_answer is_read_fault result ≡ true
             → (in_parting is_read_fault self.old.parting ≡ true)

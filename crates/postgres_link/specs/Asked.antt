@@ -33,6 +33,7 @@ use Rattle.postgres_link.specs.declared.hearing.Excess.TheVariants as excess
 abbrev pub word_tag : Word → List ℕ
 word_tag word.Begin = codes "BEGIN"
 word_tag word.LockTable = codes "LOCK TABLE"
+word_tag word.TruncateTable = codes "TRUNCATE TABLE"
 word_tag word.Commit = codes "COMMIT"
 word_tag word.Rollback = codes "ROLLBACK"
 

@@ -10,6 +10,7 @@ use sql_eval::Row;
 pub enum Word {
     Begin,
     LockTable,
+    TruncateTable,
     Commit,
     Rollback,
 }

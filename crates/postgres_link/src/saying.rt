@@ -246,7 +246,8 @@ fn leaves(wanted: &Wanted, reply: &Reply, status: u8) -> bool
     match (reply, wanted) {
         (Reply::Refused(_), _) => status != b'T',
         (_, Wanted::Done(Word::Commit | Word::Rollback)) => status == b'I',
-        (_, Wanted::Done(Word::Begin | Word::LockTable)) | (_, Wanted::Count(_)) => status == b'T',
+        (_, Wanted::Done(Word::Begin | Word::LockTable | Word::TruncateTable))
+        | (_, Wanted::Count(_)) => status == b'T',
         (
             _,
             Wanted::Rows {

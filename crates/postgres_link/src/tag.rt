@@ -14,6 +14,7 @@ pub(crate) fn word_tag(word: Word) -> &'static [u8]
     match word {
         Word::Begin => b"BEGIN",
         Word::LockTable => b"LOCK TABLE",
+        Word::TruncateTable => b"TRUNCATE TABLE",
         Word::Commit => b"COMMIT",
         Word::Rollback => b"ROLLBACK",
     }

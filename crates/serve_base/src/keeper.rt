@@ -149,7 +149,8 @@ impl Keeper {
         self.settle(&mut said)
     }
 
-    /// An operator's word: a backend is up from the next start on.
+    /// A backend is up: from the next start on, by an operator's word, or since a recovery has
+    /// attached it.
     pub fn note_up<R: Wait>(&self, rt: &R, b: BackendId) -> Noted {
         let mut said = self.said.lock(rt);
         change(self.alloc, &mut said, b, None);

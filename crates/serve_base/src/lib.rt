@@ -1,5 +1,6 @@
-//! What `serve` stands on besides its sessions: the status file, the lines of the log, and what
-//! has come of a client up to its start message. Each is told of without a thread.
+//! What `serve` stands on besides its sessions: the status file, the lines of the log, what has
+//! come of a client up to its start message, and whose turn it is at the gate. Each is told of
+//! without a thread.
 #![tactic(auto)]
 
 mod change;
@@ -19,7 +20,9 @@ mod stamp;
 mod start;
 mod status;
 mod threshold;
+mod turns;
 mod visit;
+mod whereabouts;
 mod writer;
 
 pub use change::{is_up, mark};
@@ -28,7 +31,7 @@ pub use first::{First, first_of};
 pub use keeper::{Keeper, Noted};
 pub use log::{is_second_over, stamp_now, tell};
 pub use names::{database_of, option_of};
-pub use notes::Notes;
+pub use notes::{Arrivals, Notes};
 pub use place::place_of;
 pub use reader::read_status;
 pub use shown::shown_name;
@@ -36,5 +39,7 @@ pub use stamp::{Stamp, stamp_of};
 pub use start::{attached_at_start, attached_of, down_since, status_at_start};
 pub use status::{Down, Standing, StatusFault};
 pub use threshold::Threshold;
+pub use turns::Turns;
 pub use visit::{Turned, Visit};
+pub use whereabouts::Whereabouts;
 pub use writer::{are_plain, is_plain, write_status};

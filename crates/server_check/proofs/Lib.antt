@@ -1,2 +1,3 @@
 mod Goodness
 mod Largest
+mod Pushes

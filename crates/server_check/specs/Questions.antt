@@ -9,7 +9,7 @@ use Rattle.schema.specs.declared.catalogue.ColumnDef.{ColumnDef}
 use Rattle.schema.specs.declared.catalogue.TableDef.{TableDef}
 use Rattle.server_check.specs.declared.question.Question.{Question}
 use Rattle.server_check.specs.declared.sql.TheConstants.{BEGIN, COLUMNS, KEY, ORDER, SEQUENCE, WRITES}
-use Rattle.server_check.specs.Texts.{about_text, column_text, lock_text, next_text, rows_text, sequence_name}
+use Rattle.server_check.specs.Texts.{about_text, column_text, lock_text, next_text, rights_text, rows_text, sequence_name, sequence_right_text, size_text}
 
 unfoldable pub question_of : List ℕ → List ℕ → List ℕ → List ℕ → Option (List ℕ) → Question
 question_of place what name sql wanted = record { subject = (place ++ what) ++ name; sql = sql; wanted = wanted; word = None }
@@ -104,3 +104,38 @@ questions_of locks tables = (if locks then shapes_of tables ++ lock_questions ta
 
 abbrev pub nexts_of : List TableDef → List Question
 nexts_of tables = flat_map next_questions tables
+
+-- ---- before a copy: the source
+
+-- all rows of a table fit into one answer, and each into a row
+unfoldable pub size_question : TableDef → Question
+size_question table = question_of table.name (codes ": size") [] (size_text table) (Some (codes "at most 240 MB, in rows of at most 1048000 bytes"))
+
+-- the user has a right on the sequence of a serial column
+unfoldable pub sequence_right_question : List ℕ → TableDef → ColumnDef → Question
+sequence_right_question right table column =
+    question_of table.name (codes ": right on the sequence of ") column.name (sequence_right_text (sequence_name table.name column.name) right) (Some right)
+
+abbrev pub sequence_right_by : List ℕ → TableDef → Option ColumnDef → List Question
+sequence_right_by right table None = []
+sequence_right_by right table (Some column) = sequence_right_question right table column ∷ []
+
+unfoldable pub sequence_rights : List ℕ → TableDef → List Question
+sequence_rights right table = sequence_right_by right table (serial_of table)
+
+abbrev pub source_questions : TableDef → List Question
+source_questions table = size_question table ∷ sequence_rights (codes "SELECT") table
+
+abbrev pub sources_of : List TableDef → List Question
+sources_of tables = flat_map source_questions tables
+
+-- ---- .. and the target
+
+unfoldable pub rights_question : TableDef → Question
+rights_question table = question_of table.name (codes ": rights") [] (rights_text table.name) (Some (codes "SELECT, INSERT, DELETE"))
+
+abbrev pub target_questions : TableDef → List Question
+target_questions table = rights_question table ∷ sequence_rights (codes "UPDATE") table
+
+abbrev pub targets_of : List TableDef → List Question
+targets_of tables = flat_map target_questions tables

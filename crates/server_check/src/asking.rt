@@ -1,12 +1,12 @@
 //! Which questions a server is asked.
 ghost use Rattle.std.specs.Prelude.{◌≡◌, ◌++◌, map, IfOk, OnOk, option_copied, option_map};
 ghost use Rattle.std.specs.List.{flat_map};
-ghost use Rattle.server_check.specs.Questions.{begin_question, column_question, columns_question, done_question, key_question, kind_text, lock_question, lock_questions, next_question, next_questions, nexts_of, null_text, order_question, question_of, questions_of, rows_question, sequence_question, serial_of, serial_questions, shapes_of, table_questions, type_text, writes_question};
+ghost use Rattle.server_check.specs.Questions.{begin_question, column_question, columns_question, done_question, key_question, kind_text, lock_question, lock_questions, next_question, next_questions, nexts_of, null_text, order_question, question_of, questions_of, rights_question, rows_question, sequence_question, sequence_right_question, sequence_rights, serial_of, serial_questions, shapes_of, size_question, sources_of, table_questions, targets_of, type_text, writes_question};
 
 use crate::question::Question;
 use crate::sql::{
-    BEGIN, COLUMNS, KEY, ORDER, SEQUENCE, WRITES, about, column_sql, lock_sql, next_sql, rows_sql,
-    sequence,
+    BEGIN, COLUMNS, KEY, ORDER, SEQUENCE, WRITES, about, column_sql, lock_sql, next_sql,
+    rights_sql, rows_sql, sequence, sequence_right_sql, size_sql,
 };
 use pg_values::ColType;
 use pool_base::{List, NoMemory, Text};
@@ -314,7 +314,7 @@ fn put_nexts(alloc: Global, tables: &[TableDef], onto: &mut List<Question>) -> R
 
 /// The questions about the shape of a server: of itself, and of every table its columns, its key
 /// and its sequence.
-fn shapes(alloc: Global, tables: &Catalogue) -> Result<List<Question>, NoMemory>
+pub fn shapes(alloc: Global, tables: &Catalogue) -> Result<List<Question>, NoMemory>
     ensures { IfOk result (λ asked. asked ≡ shapes_of tables.now) }
 {
     let mut asked = List::new(alloc);
@@ -352,5 +352,117 @@ pub fn next_numbers(alloc: Global, tables: &Catalogue) -> Result<List<Question>,
 {
     let mut asked = List::new(alloc);
     put_nexts(alloc, tables.tables(), &mut asked)?;
+    Ok(asked)
+}
+
+#[tactic(auto, unfolding(crate::specs::Questions::size_question))]
+/// How large a table is.
+fn size_question(alloc: Global, table: &TableDef) -> Result<Question, NoMemory>
+    ensures { IfOk result (λ q. q ≡ size_question table.now) }
+{
+    let sql = size_sql(alloc, table)?;
+    let wanted = Text::from_str(alloc, "at most 240 MB, in rows of at most 1048000 bytes")?;
+    question(alloc, table.name.as_str(), ": size", "", sql, Some(wanted))
+}
+
+#[tactic(auto, unfolding(crate::specs::Questions::rights_question))]
+/// What the user may do with a table.
+fn rights_question(alloc: Global, table: &TableDef) -> Result<Question, NoMemory>
+    ensures { IfOk result (λ q. q ≡ rights_question table.now) }
+{
+    let name = table.name.as_str();
+    let sql = rights_sql(alloc, name)?;
+    let wanted = Text::from_str(alloc, "SELECT, INSERT, DELETE")?;
+    question(alloc, name, ": rights", "", sql, Some(wanted))
+}
+
+#[tactic(auto, unfolding(crate::specs::Questions::sequence_right_question))]
+/// Whether the user has a right on the sequence of a serial column.
+fn sequence_right_question(
+    alloc: Global,
+    right: &str,
+    table: &TableDef,
+    column: &ColumnDef,
+) -> Result<Question, NoMemory>
+    ensures { IfOk result (λ q. q ≡ sequence_right_question right.now table.now column.now) }
+{
+    let (table, name) = (table.name.as_str(), column.name.as_str());
+    let sequence = sequence(alloc, table, name)?;
+    let sql = sequence_right_sql(alloc, sequence.as_str(), right)?;
+    let wanted = Text::from_str(alloc, right)?;
+    question(
+        alloc,
+        table,
+        ": right on the sequence of ",
+        name,
+        sql,
+        Some(wanted),
+    )
+}
+
+#[tactic(auto, unfolding(crate::specs::Questions::sequence_rights))]
+/// Puts the question after a right on a sequence behind the others, where the table has one.
+fn put_sequence_right(
+    alloc: Global,
+    right: &str,
+    table: &TableDef,
+    onto: &mut List<Question>,
+) -> Result<(), NoMemory>
+    ensures { OnOk result (onto.new ≡ onto.old ++ sequence_rights right.now table.now) }
+{
+    match serial_of(table) {
+        Some(column) => onto.push(sequence_right_question(alloc, right, table, column)?),
+        None => Ok(()),
+    }
+}
+
+/// Puts the questions about these tables of a source behind the others.
+fn put_sources(
+    alloc: Global,
+    tables: &[TableDef],
+    onto: &mut List<Question>,
+) -> Result<(), NoMemory>
+    ensures { OnOk result (onto.new ≡ onto.old ++ sources_of tables.now) }
+{
+    let [table, others @ ..] = tables else {
+        return Ok(());
+    };
+    onto.push(size_question(alloc, table)?)?;
+    put_sequence_right(alloc, "SELECT", table, onto)?;
+    put_sources(alloc, others, onto)
+}
+
+/// Puts the questions about these tables of a target behind the others.
+fn put_targets(
+    alloc: Global,
+    tables: &[TableDef],
+    onto: &mut List<Question>,
+) -> Result<(), NoMemory>
+    ensures { OnOk result (onto.new ≡ onto.old ++ targets_of tables.now) }
+{
+    let [table, others @ ..] = tables else {
+        return Ok(());
+    };
+    onto.push(rights_question(alloc, table)?)?;
+    put_sequence_right(alloc, "UPDATE", table, onto)?;
+    put_targets(alloc, others, onto)
+}
+
+/// What the source of a copy is asked: how large each table is, and whether its next numbers may be
+/// read.
+pub fn source_questions(alloc: Global, tables: &Catalogue) -> Result<List<Question>, NoMemory>
+    ensures { IfOk result (λ asked. asked ≡ sources_of tables.now) }
+{
+    let mut asked = List::new(alloc);
+    put_sources(alloc, tables.tables(), &mut asked)?;
+    Ok(asked)
+}
+
+/// What the target of a copy is asked: whether each table may be written, and its next numbers set.
+pub fn target_questions(alloc: Global, tables: &Catalogue) -> Result<List<Question>, NoMemory>
+    ensures { IfOk result (λ asked. asked ≡ targets_of tables.now) }
+{
+    let mut asked = List::new(alloc);
+    put_targets(alloc, tables.tables(), &mut asked)?;
     Ok(asked)
 }

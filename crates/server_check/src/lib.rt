@@ -6,6 +6,7 @@
 mod answer;
 mod asking;
 mod checking;
+mod copying;
 mod faults;
 mod groups;
 mod lines;
@@ -23,8 +24,9 @@ mod twins;
 mod verdict;
 
 pub use answer::Answer;
-pub use asking::{next_numbers, questions};
+pub use asking::{next_numbers, questions, shapes, source_questions, target_questions};
 pub use checking::{Start, compare, start_by};
+pub use copying::copy_faults;
 pub use groups::{chosen, kept};
 pub use lines::{difference, report};
 pub use numbers::{greatest, told_number};

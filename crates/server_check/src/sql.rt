@@ -3,8 +3,9 @@ ghost use Rattle.std.specs.Prelude.{◌≡◌, ◌++◌, IfOk, OnOk, string_byte
 ghost use Rattle.std.specs.List.{flat_map};
 ghost use Rattle.sql_print.specs.Spelling.{name, spelled};
 ghost use Rattle.server_check.specs.declared.sql.TheConstants.{LOCK};
-ghost use Rattle.server_check.specs.Texts.{about_text, cell_text, column_text, lock_text, next_text, set_text, rows_text, sequence_name};
+ghost use Rattle.server_check.specs.Texts.{about_text, cell_text, column_text, lock_text, next_text, one_text, right_text, rights_text, set_text, rows_text, sequence_name, sequence_right_text, size_text, whole_text};
 
+use pg_values::ColType;
 use pool_base::{BackendId, NoMemory, Text};
 use schema::{ColumnDef, TableDef};
 use sql_print::{push_name, push_string};
@@ -184,5 +185,131 @@ pub(crate) fn rows_sql(alloc: Global, table: &TableDef) -> Result<Text, NoMemory
     push_cells(table.columns.as_slice(), &mut text)?;
     text.push_str(")::text, 0)::numeric), 0) FROM ")?;
     push_name(table.name.as_str(), &mut text)?;
+    Ok(Text::from_string(text))
+}
+
+/// How much a table's rows are, as an answer and each as a row, up to the sums of their cells.
+pub(crate) const SIZE: &str = "SELECT CASE WHEN sum(whole) > 240000000 \
+    THEN count(*) || ' rows of ' || sum(whole) / 1000000 || ' MB' \
+    WHEN max(one) > 1048000 THEN 'a row of ' || max(one) || ' bytes' \
+    ELSE 'at most 240 MB, in rows of at most 1048000 bytes' END FROM (SELECT 7";
+
+/// Puts what a column adds to an answer behind the text.
+fn push_cell_whole(column: &ColumnDef, onto: &mut String) -> Result<(), NoMemory>
+    ensures { OnOk result (string_bytes onto.new ≡ string_bytes onto.old
+        ++ whole_text column.now) }
+{
+    onto.push_str(" + 4 + octet_length(coalesce(")?;
+    push_name(column.name.as_str(), onto)?;
+    onto.push_str("::text, ''))")?;
+    Ok(())
+}
+
+/// Puts what each column adds to an answer behind the text.
+fn push_whole(columns: &[ColumnDef], onto: &mut String) -> Result<(), NoMemory>
+    ensures { OnOk result (string_bytes onto.new ≡ string_bytes onto.old
+        ++ flat_map whole_text columns.now) }
+{
+    let [column, others @ ..] = columns else {
+        return Ok(());
+    };
+    push_cell_whole(column, onto)?;
+    push_whole(others, onto)
+}
+
+/// Puts what a column adds to a row behind the text: a text counts its bytes, another cell 32, and
+/// each 4 more.
+fn push_one(column: &ColumnDef, onto: &mut String) -> Result<(), NoMemory>
+    ensures { OnOk result (string_bytes onto.new ≡ string_bytes onto.old
+        ++ one_text column.now) }
+{
+    match column.kind {
+        ColType::Text => {
+            onto.push_str(" + coalesce(octet_length(")?;
+            push_name(column.name.as_str(), onto)?;
+            onto.push_str(") + 4, 36)")?;
+        }
+        ColType::Bool | ColType::Int4 | ColType::Int8 | ColType::Moment => {
+            onto.push_str(" + 36")?;
+        }
+    }
+    Ok(())
+}
+
+/// Puts what each column adds to a row behind the text.
+fn push_ones(columns: &[ColumnDef], onto: &mut String) -> Result<(), NoMemory>
+    ensures { OnOk result (string_bytes onto.new ≡ string_bytes onto.old
+        ++ flat_map one_text columns.now) }
+{
+    let [column, others @ ..] = columns else {
+        return Ok(());
+    };
+    push_one(column, onto)?;
+    push_ones(others, onto)
+}
+
+#[tactic(auto, unfolding(crate::specs::Texts::size_text))]
+/// The question after the size of a table's rows.
+pub(crate) fn size_sql(alloc: Global, table: &TableDef) -> Result<Text, NoMemory>
+    ensures { IfOk result (λ text. text ≡ size_text table.now) }
+{
+    let mut text = String::from_str(alloc, SIZE)?;
+    push_whole(table.columns.as_slice(), &mut text)?;
+    text.push_str(" AS whole, 0")?;
+    push_ones(table.columns.as_slice(), &mut text)?;
+    text.push_str(" AS one FROM ")?;
+    push_name(table.name.as_str(), &mut text)?;
+    text.push_str(") AS sizes")?;
+    Ok(Text::from_string(text))
+}
+
+#[tactic(auto, unfolding(crate::specs::Texts::right_text))]
+/// Puts a right behind the text, where the user has it on what has that name.
+fn push_right(privilege: &str, name: &str, right: &str, onto: &mut String) -> Result<(), NoMemory>
+    ensures { OnOk result (string_bytes onto.new ≡ string_bytes onto.old
+        ++ right_text privilege.now name.now right.now) }
+{
+    let mut quoted = String::new(*onto.allocator());
+    push_name(name, &mut quoted)?;
+    onto.push_str(", CASE WHEN ")?;
+    onto.push_str(privilege)?;
+    onto.push_str("(")?;
+    push_string(quoted.as_str(), onto)?;
+    onto.push_str(", ")?;
+    push_string(right, onto)?;
+    onto.push_str(") THEN ")?;
+    push_string(right, onto)?;
+    onto.push_str(" END")?;
+    Ok(())
+}
+
+/// A question after rights, up to the first.
+const RIGHTS: &str = "SELECT concat_ws(', '";
+
+#[tactic(auto, unfolding(crate::specs::Texts::rights_text))]
+/// The question after the rights that a copy needs on a table.
+pub(crate) fn rights_sql(alloc: Global, table: &str) -> Result<Text, NoMemory>
+    ensures { IfOk result (λ text. text ≡ rights_text table.now) }
+{
+    let mut text = String::from_str(alloc, RIGHTS)?;
+    push_right("has_table_privilege", table, "SELECT", &mut text)?;
+    push_right("has_table_privilege", table, "INSERT", &mut text)?;
+    push_right("has_table_privilege", table, "DELETE", &mut text)?;
+    text.push_str(")")?;
+    Ok(Text::from_string(text))
+}
+
+#[tactic(auto, unfolding(crate::specs::Texts::sequence_right_text))]
+/// The question whether the user has a right on a sequence.
+pub(crate) fn sequence_right_sql(
+    alloc: Global,
+    sequence: &str,
+    right: &str,
+) -> Result<Text, NoMemory>
+    ensures { IfOk result (λ text. text ≡ sequence_right_text sequence.now right.now) }
+{
+    let mut text = String::from_str(alloc, RIGHTS)?;
+    push_right("has_sequence_privilege", sequence, right, &mut text)?;
+    text.push_str(")")?;
     Ok(Text::from_string(text))
 }

@@ -53,13 +53,23 @@ fn own_of(identities: &[Identity]) -> BackendSet {
     own
 }
 
+/// Asks each server who it is, by a key of this check. One that does not say is left out.
+pub(crate) fn identities<R: RandomSource>(
+    rt: &R,
+    alloc: Global,
+    seats: &mut [Seat<Session>],
+) -> Result<List<Identity>, NoMemory> {
+    let key = random_key(rt);
+    take_keys(alloc, seats, key)?;
+    identities_of(alloc, seats, key)
+}
+
 /// Asks each server who it is, and leaves out those that do not say, or are a lower number's.
 pub(crate) fn tell_apart<R: RandomSource>(
     rt: &R,
     alloc: Global,
     found: Seats,
 ) -> Result<Seats, NoMemory> {
-    let key = random_key(rt);
     let Seats {
         mut seats,
         identities,
@@ -67,8 +77,7 @@ pub(crate) fn tell_apart<R: RandomSource>(
         reasons,
     } = found;
     drop(identities);
-    take_keys(alloc, seats.as_mut_slice(), key)?;
-    let identities = identities_of(alloc, seats.as_mut_slice(), key)?;
+    let identities = self::identities(rt, alloc, seats.as_mut_slice())?;
     let seats = kept_seats(alloc, seats, own_of(identities.as_slice()))?;
     Ok(Seats {
         seats,

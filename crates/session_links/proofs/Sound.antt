@@ -48,6 +48,13 @@ put_here slots b new below = get_or-set_same (set slots b Empty) b new Empty (su
 pub put_else : {L : Type 0} (slots : List (Slot L)) (b c : ℕ) (new : Slot L) → c ≢ b → slot_at (set (set slots b Empty) b new) c ≡ slot_at slots c
 put_else slots b c new other = get_or-set_other (set slots b Empty) b c new Empty other ∙ get_or-set_other slots b c Empty Empty other
 
+-- a slot that was written, and another
+pub set_here : {L : Type 0} (slots : List (Slot L)) (b : ℕ) (new : Slot L) → b < length slots → slot_at (set slots b new) b ≡ new
+set_here slots b new below = get_or-set_same slots b new Empty below
+
+pub set_else : {L : Type 0} (slots : List (Slot L)) (b c : ℕ) (new : Slot L) → c ≢ b → slot_at (set slots b new) c ≡ slot_at slots c
+set_else slots b c new other = get_or-set_other slots b c new Empty other
+
 -- of the slots below a number those outside the set are empty, and the others are as they were
 pub record IsKept {L : Type 0} (bits : ℕ) (old now : List (Slot L)) (n : ℕ) : Type 0 where
   pub kept : (c : ℕ) → has bits c ≡ true → slot_at now c ≡ slot_at old c

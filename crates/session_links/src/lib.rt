@@ -10,6 +10,6 @@ mod verdict;
 
 pub use links::Links;
 pub use loss::Loss;
-pub use maker::{Connected, LinkMaker};
+pub use maker::{Connected, LinkMaker, Readied};
 pub use slot::{Found, Sent, Slot};
 pub use verdict::{Opened, Verdict, Want, verdict_of};

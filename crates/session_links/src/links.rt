@@ -1,11 +1,11 @@
 //! The links of one session, one for each backend at most.
-ghost use Rattle.std.specs.Prelude.{◌≡◌, ◌≢◌, ◌<◌, ℕ, true, false, length, set, replicate, IfOk};
+ghost use Rattle.std.specs.Prelude.{◌≡◌, ◌≢◌, ◌<◌, ℕ, true, false, length, set, replicate, None, IfOk};
 ghost use Rattle.pool_base.specs.Sets.{has};
-ghost use Rattle.session_links.specs.Plans.{IsHeard, Puts, awaits, given_up, told_at};
+ghost use Rattle.session_links.specs.Plans.{IsHeard, Linked, Puts, awaits, given_up, told_at};
 ghost use Rattle.session_links.specs.Slots.{IsFound, IsSent, are_sound, is_awaited, is_sound, kept_at, request_in, slot_at};
 
 use crate::maker::LinkMaker;
-use crate::slot::{Found, Sent, Slot, given_up, look, put, settled};
+use crate::slot::{Found, Sent, Slot, blanked, given_up, look, put, settled};
 use backend_trait::{Link, Request};
 use pg_messages::Pair;
 use pool_base::{BackendId, BackendSet, NoMemory};
@@ -138,6 +138,35 @@ impl<L: Link> Links<L> {
     {
         let slot = self.take(b);
         self.put_back(b, given_up(slot));
+    }
+
+    /// Takes a link that was made for a backend, in place of what was there.
+    #[tactic(auto, using(crate::proofs::Sound::set_here, crate::proofs::Sound::set_else))]
+    pub fn put(&mut self, b: BackendId, link: L)
+        requires { L.pending link ≡ None }
+        ensures there { slot_at self.new.slots.items b.number ≡ Slot.Idle link }
+        ensures told { told_at L.pending L.plan self.new.slots.items b.number
+            ≡ Linked None (L.plan link) }
+        ensures others { (c : ℕ) → c ≢ b.number
+            → slot_at self.new.slots.items c ≡ slot_at self.old.slots.items c }
+    {
+        self.put_back(b, Slot::Idle(link));
+    }
+
+    /// Has the tables of this backend left without rows, over the link that is there with no answer
+    /// awaited. Where there is none nothing is done.
+    #[tactic(auto, using(crate::proofs::Sound::put_here, crate::proofs::Sound::put_else))]
+    pub fn blank<M: LinkMaker<L = L>>(&mut self, b: BackendId, maker: &mut M)
+        ensures awaited { is_awaited (slot_at self.new.slots.items b.number)
+            ≡ is_awaited (slot_at self.old.slots.items b.number) }
+        ensures told { told_at L.pending L.plan self.new.slots.items b.number
+            ≡ told_at L.pending L.plan self.old.slots.items b.number }
+        ensures others { (c : ℕ) → c ≢ b.number
+            → slot_at self.new.slots.items c ≡ slot_at self.old.slots.items c }
+        ensures plans { M.plans maker.new ≡ M.plans maker.old }
+    {
+        let slot = self.take(b);
+        self.put_back(b, blanked(slot, maker));
     }
 
     /// Drops the links to all backends but these.

@@ -1,5 +1,5 @@
 //! What makes links.
-ghost use Rattle.std.specs.Prelude.{◌≡◌, ◌≤◌, ℕ, List, Option, None};
+ghost use Rattle.std.specs.Prelude.{◌≡◌, ◌≤◌, ◌⊎◌, ℕ, true, List, Option, None};
 ghost use Rattle.pool_base.specs.Outside.{Rose};
 ghost use Rattle.session_links.specs.Plans.{Makes, MakesNone, Plan};
 
@@ -15,6 +15,16 @@ pub enum Connected<L: Drop> {
     Failed,
     /// The pool itself lacks what a link needs of the system: no word against the backend.
     Short,
+    NoMemory,
+}
+
+/// What became of a link to a backend that is to be brought in.
+#[derive(Drop)]
+pub enum Readied<L: Drop> {
+    Ready(L),
+    /// Nothing can be copied to it, and the count of faults rose. An operator is told why.
+    Unfit,
+    /// Memory was refused, or the pool itself lacks what a link needs: no word against the backend.
     NoMemory,
 }
 
@@ -42,6 +52,36 @@ pub trait LinkMaker {
         ensures spared { (result ≡ Connected.Failed → ⊥)
             → fault_count self.new ≡ fault_count self.old }
         ensures later { fault_count self.old ≤ fault_count self.new };
+
+    /// Begins a session at a backend that is to be brought in, with the options of the client's
+    /// own start, where its tables are those of the schema and the rows of the source can be copied
+    /// to it. Nothing is changed there.
+    fn ready(&mut self, b: BackendId, source: BackendId, options: &[Pair]) -> Readied<Self::L>
+        ensures ready { (link : _) → result ≡ Readied.Ready link
+            → Self.L.pending link ≡ None }
+        ensures makes { (link : _) → result ≡ Readied.Ready link
+            → Makes b (plans self.old) (Self.L.plan link) (plans self.new) }
+        ensures kept { ((link : _) → result ≡ Readied.Ready link → ⊥)
+            → plans self.new ≡ plans self.old }
+        ensures unfit { result ≡ Readied.Unfit
+            → Rose (fault_count self.old) (fault_count self.new) }
+        ensures spared { (result ≡ Readied.Unfit → ⊥)
+            → fault_count self.new ≡ fault_count self.old }
+        ensures later { fault_count self.old ≤ fault_count self.new };
+
+    /// Leaves the tables of a backend that is to be brought in without rows, where `ready` has made
+    /// the link and nothing is pending. Where that fails the link refuses its next snapshot, or is
+    /// lost.
+    fn blank(&mut self, link: &mut Self::L)
+        requires idle { Self.L.pending link.old ≡ None }
+        ensures kept { Self.L.pending link.new ≡ Self.L.pending link.old }
+        ensures plan { Self.L.plan link.new ≡ Self.L.plan link.old }
+        ensures lost { Self.L.lost link.new ≡ true → (Self.L.lost link.old ≡ true)
+            ⊎ Rose (Self.L.fault_count link.old) (Self.L.fault_count link.new) }
+        ensures stays { Self.L.lost link.old ≡ true → Self.L.lost link.new ≡ true }
+        ensures more { Self.L.fault_count link.old ≤ Self.L.fault_count link.new }
+        ensures plans { plans self.new ≡ plans self.old }
+        ensures spared { fault_count self.new ≡ fault_count self.old };
 
     /// Whether that backend says anything to one who comes anew. No session is begun.
     fn answers(&self, b: BackendId) -> bool;

@@ -179,6 +179,23 @@ pub(crate) fn settled<L: Link>(slot: Slot<L>) -> (Slot<L>, bool)
     }
 }
 
+/// Leaves the tables of a backend without rows, where a link is there with no answer awaited.
+pub(crate) fn blanked<L: Link, M: LinkMaker<L = L>>(slot: Slot<L>, maker: &mut M) -> Slot<L>
+    requires before { is_sound L.pending slot ≡ true }
+    ensures sound { is_sound L.pending result ≡ true }
+    ensures awaited { is_awaited result ≡ is_awaited slot }
+    ensures told { told_in L.pending L.plan result ≡ told_in L.pending L.plan slot }
+    ensures plans { M.plans maker.new ≡ M.plans maker.old }
+{
+    match slot {
+        Slot::Idle(mut link) => {
+            maker.blank(&mut link);
+            Slot::Idle(link)
+        }
+        other => other,
+    }
+}
+
 /// Waits for an answer no longer. Where none is awaited nothing changes.
 pub(crate) fn given_up<L: Link>(slot: Slot<L>) -> Slot<L>
     requires before { is_sound L.pending slot ≡ true }

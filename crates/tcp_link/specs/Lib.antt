@@ -3,4 +3,3 @@ pub mod Debts
 pub mod Links
 pub mod Connections
 pub mod Users
-pub mod Makings

@@ -2,7 +2,7 @@
 use pool_base::Code;
 
 /// The server wants to know more of the client than its name: a password, say.
-pub(crate) const INVALID_AUTHORIZATION: Code = Code { bytes: *b"28000" };
+pub const INVALID_AUTHORIZATION: Code = Code { bytes: *b"28000" };
 
 /// The server has no database of that name.
 const INVALID_CATALOG: Code = Code { bytes: *b"3D000" };

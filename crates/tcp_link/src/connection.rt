@@ -1,5 +1,5 @@
 //! How a session at a server begins.
-ghost use Rattle.std.specs.Prelude.{IfOk};
+ghost use Rattle.std.specs.Prelude.{◌≤◌, IfOk};
 ghost use Rattle.tcp_link.specs.Connections.{IsConnected};
 
 use crate::TcpLink;
@@ -142,7 +142,9 @@ pub(crate) fn reach<R: Net<Stream = TcpStream>>(
 }
 
 /// Sends all of the bytes, unless the wire is broken or out of patience.
-pub(crate) fn send_all<W: Wire>(wire: &mut W, outbox: &mut Outbox) -> bool {
+pub(crate) fn send_all<W: Wire>(wire: &mut W, outbox: &mut Outbox) -> bool
+    ensures later { W.fault_count wire.old ≤ W.fault_count wire.new }
+{
     for _ in 0..START_TRIES {
         match outbox.empty(wire) {
             Emptied::All => return true,

@@ -1,4 +1,5 @@
 //! A session at a server that is asked one text after the other.
+ghost use Rattle.std.specs.Prelude.{◌≤◌};
 
 use crate::connection::send_all;
 use crate::outbox::Outbox;
@@ -18,6 +19,60 @@ const TRIES: u32 = 72_000;
 
 /// How many looks a server may take that is to answer soon: two seconds.
 const SOON: u32 = 40;
+
+/// Sends a text. False: the session is lost.
+pub(crate) fn ask<W: Wire>(alloc: Global, wire: &mut W, sql: &[u8]) -> Result<bool, NoMemory>
+    ensures later { W.fault_count wire.old ≤ W.fault_count wire.new }
+{
+    match message_of(alloc, sql)? {
+        Some(bytes) => {
+            let mut outbox = Outbox::new(alloc);
+            outbox.fill(bytes);
+            Ok(send_all(wire, &mut outbox))
+        }
+        None => Ok(false),
+    }
+}
+
+/// Takes what comes next. False: the wire is broken.
+fn take<W: Wire>(wire: &mut W, inbox: &mut Inbox) -> Result<bool, NoMemory>
+    ensures later { W.fault_count wire.old ≤ W.fault_count wire.new }
+{
+    let mut piece = [0u8; PIECE];
+    match wire.receive(&mut piece) {
+        Received::Bytes(count) => {
+            inbox.take(&piece[..count])?;
+            Ok(true)
+        }
+        Received::NotYet => Ok(true),
+        Received::Failed => Ok(false),
+    }
+}
+
+/// Waits for the reply to a text that was sent, for so many looks at most. `Ok(None)`: the session
+/// is lost.
+pub(crate) fn reply_within<W: Wire>(
+    alloc: Global,
+    wire: &mut W,
+    inbox: &mut Inbox,
+    wanted: Wanted,
+    tries: u32,
+) -> Result<Option<Reply>, NoMemory>
+    ensures later { W.fault_count wire.old ≤ W.fault_count wire.new }
+{
+    let mut listening = Listening::new(Asked::new(wanted));
+    for _ in 0..tries {
+        match hear(alloc, inbox, &mut listening)? {
+            Heard::NotYet => {}
+            Heard::Broken => return Ok(None),
+            Heard::Reply(reply) => return Ok(Some(reply)),
+        }
+        if !take(wire, inbox)? {
+            return Ok(None);
+        }
+    }
+    Ok(None)
+}
 
 /// A session at a server.
 #[derive(Drop)]
@@ -61,14 +116,7 @@ impl<W: Wire> Inquiry<W> {
 
     /// Sends a text. False: the session is lost.
     pub fn ask(&mut self, sql: &[u8]) -> Result<bool, NoMemory> {
-        match message_of(self.alloc, sql)? {
-            Some(bytes) => {
-                let mut outbox = Outbox::new(self.alloc);
-                outbox.fill(bytes);
-                Ok(send_all(&mut self.wire, &mut outbox))
-            }
-            None => Ok(false),
-        }
+        ask(self.alloc, &mut self.wire, sql)
     }
 
     /// Whether the server answers a text of one text a row, within two seconds.
@@ -76,7 +124,7 @@ impl<W: Wire> Inquiry<W> {
         if !self.ask(sql)? {
             return Ok(false);
         }
-        match self.reply_within(None, SOON)? {
+        match self.reply_soon(None, SOON)? {
             Some(reply) => {
                 drop(reply);
                 Ok(true)
@@ -85,38 +133,15 @@ impl<W: Wire> Inquiry<W> {
         }
     }
 
-    /// Takes what comes next. False: the wire is broken.
-    fn take(&mut self) -> Result<bool, NoMemory> {
-        let mut piece = [0u8; PIECE];
-        match self.wire.receive(&mut piece) {
-            Received::Bytes(count) => {
-                self.inbox.take(&piece[..count])?;
-                Ok(true)
-            }
-            Received::NotYet => Ok(true),
-            Received::Failed => Ok(false),
-        }
-    }
-
     /// Waits for the reply to the text that was sent: the tag of that word, or else rows of one
     /// text each. `Ok(None)`: the session is lost.
     pub fn reply(&mut self, word: Option<Word>) -> Result<Option<Reply>, NoMemory> {
-        self.reply_within(word, TRIES)
+        self.reply_soon(word, TRIES)
     }
 
     /// The same, for so many looks at most.
-    fn reply_within(&mut self, word: Option<Word>, tries: u32) -> Result<Option<Reply>, NoMemory> {
-        let mut listening = Listening::new(Asked::new(wanted_by(self.alloc, word)?));
-        for _ in 0..tries {
-            match hear(self.alloc, &mut self.inbox, &mut listening)? {
-                Heard::NotYet => {}
-                Heard::Broken => return Ok(None),
-                Heard::Reply(reply) => return Ok(Some(reply)),
-            }
-            if !self.take()? {
-                return Ok(None);
-            }
-        }
-        Ok(None)
+    fn reply_soon(&mut self, word: Option<Word>, tries: u32) -> Result<Option<Reply>, NoMemory> {
+        let wanted = wanted_by(self.alloc, word)?;
+        reply_within(self.alloc, &mut self.wire, &mut self.inbox, wanted, tries)
     }
 }

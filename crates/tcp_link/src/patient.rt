@@ -16,6 +16,7 @@ ghost use Rattle.backend_trait.specs.LinkForms.{IsPolled};
 ghost use Rattle.tcp_link.specs.Links.{Answers, pending_of, faults_of};
 
 use crate::debt::{Debt, Ended};
+use crate::inquiry::{ask, reply_within};
 use crate::outbox::{Emptied, Outbox};
 use crate::stream::TcpWire;
 use crate::wire::{Received, Wire};
@@ -29,6 +30,9 @@ use std::mem;
 
 /// How many bytes are taken from the wire at once.
 const PIECE: usize = 16384;
+
+/// How often a look for the reply to an inquiry may come to nothing. A look takes 50 milliseconds.
+const INQUIRY_TRIES: u32 = 1_200;
 
 /// What of a request waits for its answer.
 #[derive(Drop)]
@@ -383,9 +387,53 @@ impl<'a, W: Wire> PatientLink<'a, W> {
     }
 }
 
+impl<'a, W: Wire> PatientLink<'a, W> {
+    /// Sends what is left of the request that is pending, as far as the wire takes it now. A wire
+    /// that has failed fails at the next poll too.
+    pub fn push(&mut self)
+        ensures state { self.new.state ≡ self.old.state }
+        ensures lost { self.new.lost ≡ self.old.lost }
+        ensures later { faults_of (W.fault_count self.old.wire) self.old.violations
+            ≤ faults_of (W.fault_count self.new.wire) self.new.violations }
+    {
+        self.outbox.empty(&mut self.wire);
+    }
+
+    /// What the server of a session at which nothing is pending or owed replies to a text of the
+    /// caller's own, within a minute. `Ok(None)`: no reply to it.
+    pub fn inquire(&mut self, sql: &[u8], wanted: Wanted) -> Result<Option<Reply>, NoMemory>
+        ensures state { self.new.state ≡ self.old.state }
+        ensures lost { self.new.lost ≡ self.old.lost }
+        ensures later { faults_of (W.fault_count self.old.wire) self.old.violations
+            ≤ faults_of (W.fault_count self.new.wire) self.new.violations }
+    {
+        if self.lost || self.refusal.is_some() || !ask(self.alloc, &mut self.wire, sql)? {
+            drop(wanted);
+            return Ok(None);
+        }
+        reply_within(
+            self.alloc,
+            &mut self.wire,
+            &mut self.inbox,
+            wanted,
+            INQUIRY_TRIES,
+        )
+    }
+
+    /// From now on nothing is sent: each snapshot is refused with that code.
+    pub fn turn_away(&mut self, code: Code)
+        ensures state { self.new.state ≡ self.old.state }
+        ensures lost { self.new.lost ≡ self.old.lost }
+        ensures wire { self.new.wire ≡ self.old.wire }
+        ensures violations { self.new.violations ≡ self.old.violations }
+    {
+        self.refusal = Some(code);
+    }
+}
+
 impl<'a> PatientLink<'a, TcpWire> {
     /// Whether the server of a session at which nothing was asked yet has ended it.
-    pub(crate) fn has_ended(&self) -> bool {
+    pub fn has_ended(&self) -> bool {
         self.refusal.is_none() && self.wire.has_ended()
     }
 }

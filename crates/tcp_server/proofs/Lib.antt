@@ -3,3 +3,4 @@ pub mod Calls
 pub mod Noted
 pub mod Letting
 pub mod Looking
+pub mod Allowed

@@ -1,5 +1,5 @@
--- What was noted stays noted, and a call that is made was.
-use Rattle.std.proofs.Common.{◌≡◌, ◌<◌, ℕ, true, List, [], ◌∷◌, ◌++◌, refl, ap, ◌∙◌}
+-- What was noted stays noted, and a call that is made was; what was attached was noted too.
+use Rattle.std.proofs.Common.{◌≡◌, ◌<◌, ℕ, true, List, [], ◌∷◌, ◌++◌, refl, ap, sym, ◌∙◌}
 use Rattle.std.proofs.lemmas.Bool.{and_from, and_parts}
 use Rattle.pool_base.specs.Sets.{has}
 use Rattle.pool_base.specs.declared.gate_call.GateCall.{GateCall}
@@ -7,7 +7,7 @@ use Rattle.pool_base.specs.declared.gate_call.GateCall.TheVariants.{Look, EnterS
 use Rattle.pool_base.specs.declared.gate_call.GateAnswer.{GateAnswer}
 use Rattle.shared_gate.specs.declared.history.Entry.{Entry}
 use Rattle.shared_gate.specs.History.{entry}
-use Rattle.tcp_server.specs.Noting.{is_noted, are_noted}
+use Rattle.tcp_server.specs.Noting.{is_noted, are_noted, arrivals_from, arrivals_in, arrived_by}
 
 abbrev pub Grows : ℕ → ℕ → Type 0
 Grows old new = (c : ℕ) → c < 8 → has old c ≡ true → has new c ≡ true
@@ -41,3 +41,11 @@ behind bits (e ∷ es) one is h =
 -- a call behind those that were noted, once it is noted too
 pub noted_more : (old new : ℕ) (mine later : List Entry) (by : ℕ) (call : GateCall) (answer : GateAnswer) → later ≡ mine ++ entry by call answer ∷ [] → Grows old new → is_noted new call ≡ true → are_noted old mine ≡ true → are_noted new later ≡ true
 noted_more old new mine later by call answer has grows is h = ap (are_noted new) has ∙ behind new mine (entry by call answer) is (still_all old new grows mine h)
+
+-- what was attached behind one more call
+arrivals_behind : (bits : ℕ) (es : List Entry) (one : Entry) → arrivals_from bits (es ++ one ∷ []) ≡ arrived_by (arrivals_from bits es) one.call one.answer
+arrivals_behind bits [] one = refl
+arrivals_behind bits (e ∷ es) one = arrivals_behind (arrived_by bits e.call e.answer) es one
+
+pub arrived_more : (old new : ℕ) (mine later : List Entry) (by : ℕ) (call : GateCall) (answer : GateAnswer) → later ≡ mine ++ entry by call answer ∷ [] → new ≡ arrived_by old call answer → old ≡ arrivals_in mine → new ≡ arrivals_in later
+arrived_more old new mine later by call answer has is h = is ∙ ap (λ bits. arrived_by bits call answer) h ∙ sym (ap arrivals_in has ∙ arrivals_behind 0 mine (entry by call answer))

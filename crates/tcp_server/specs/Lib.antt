@@ -1,3 +1,4 @@
 pub mod Rooms
 pub mod Askings
 pub mod Noting
+pub mod Showing

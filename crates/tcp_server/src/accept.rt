@@ -1,6 +1,7 @@
 //! The door: a thread for each connection, as long as there is a seat.
 ghost use Rattle.std.specs.Prelude.{◌≡◌, ◌≢◌, IfNone, IfOk, IfSome, Ok, None};
 ghost use Rattle.pool_base.specs.Outside.{Rose};
+ghost use Rattle.schema.specs.Allowed.{AreAllowed};
 ghost use Rattle.schema.specs.Grammar.{IsWithin};
 ghost use Rattle.tcp_server.specs.declared.accept.ServeEnd.TheVariants.{ListenFault, Stopped};
 
@@ -221,6 +222,7 @@ pub fn serve<R: Host>(
     control: Arc<Control, Global>,
 ) -> ServeEnd
     requires within { IsWithin tables }
+    requires allowed { ∥ AreAllowed tables ∥₁ }
     ensures listen_fault { result ≡ ListenFault → Rose faults.old faults.new }
     ensures stopped { result ≡ Stopped → Rose stops.old stops.new }
 {
@@ -264,6 +266,7 @@ fn house_of<R: Host>(
     control: Arc<Control, Global>,
 ) -> Result<Option<House>, NoMemory>
     requires within { IsWithin tables }
+    requires allowed { ∥ AreAllowed tables ∥₁ }
     ensures none { result ≡ Ok None → Rose faults.old faults.new }
     ensures kept { IfOk result (λ house. IfSome house (λ _. faults.new ≡ faults.old)) }
 {

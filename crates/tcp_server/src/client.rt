@@ -5,15 +5,18 @@
 //! start --read--> proof --go_back--> endless, where a password is asked for
 //! ```
 //!
+//! A client that rests in a transaction is put out where a recovery waits for it: behind a second
+//! of silence, or at its next rest once the recovery has waited for long.
+//!
 //! A stream has one time that a read of it waits at most. It is set anew only where the next read
 //! is to wait otherwise than the last: never, as long as the client is not silent. Up to the start
 //! message it is what is left of the time for that, so that one byte after another gains nothing.
 ghost use Rattle.std.specs.Prelude.{◌≡◌, ◌<◌, ◌≤◌, ◌||◌, ℕ, List, None, length};
 ghost use Rattle.pool_base.specs.Outside.{FaultyRead, Gave, is_end};
 
-use crate::control::Control;
 use crate::desk::Desk;
 use crate::doorway::{Doorway, Greeted, is_passing};
+use crate::outlook::Outlook;
 use pg_messages::Pair;
 use pool_base::{Got, NoMemory, Source};
 use pool_server::{ClientSource, Posture, Spell};
@@ -21,6 +24,7 @@ use std::io;
 use std::io::Read;
 use std::net::TcpStream;
 use std::rt::Clock;
+use std::sync::Wait;
 use std::time::{Duration, Instant};
 use tcp_link::TcpSink;
 
@@ -34,10 +38,25 @@ const SHORT: u64 = 5;
 /// Units: milliseconds.
 const LONG: u64 = 1000;
 
+/// So long while a recovery waits for quiet.
+///
+/// Units: milliseconds.
+const BRIEF: u64 = 100;
+
 /// How long a transaction may go on where the pool stops.
 ///
 /// Units: seconds.
 const GRACE: u64 = 10;
+
+/// How long a client may be silent in a transaction that a recovery waits for.
+///
+/// Units: seconds.
+const IDLE_IN_RECOVERY: u64 = 1;
+
+/// How long a recovery waits for the transactions of clients that are not silent.
+///
+/// Units: seconds.
+const RECOVERY_PATIENCE: u64 = 30;
 
 /// How long a read waits.
 #[derive(Clone, Copy, PartialEq, Eq)]
@@ -48,6 +67,8 @@ enum Patience {
     Endless,
     /// A second.
     Long,
+    /// A tenth of one.
+    Brief,
     /// A short while.
     Short,
     /// As long as is left of the time for a password.
@@ -63,7 +84,7 @@ pub(crate) struct TcpSource<'a, R> {
     patience: Patience,
     /// How long a read waits behind the start message.
     behind: Patience,
-    control: &'a Control,
+    outlook: Outlook<'a>,
     /// How long the client may send nothing. Zero: as long as it wants.
     ///
     /// Units: seconds.
@@ -81,12 +102,12 @@ pub(crate) struct TcpSource<'a, R> {
 pub(crate) fn split<'a, R>(
     stream: TcpStream,
     desk: &'a Desk<'a, R>,
-    control: &'a Control,
+    outlook: Outlook<'a>,
     idle_limit: u64,
 ) -> io::Result<(TcpSource<'a, R>, TcpSink)> {
     stream.set_nodelay(true)?;
     let other = stream.try_clone()?;
-    let source = TcpSource::new(stream, desk, control, idle_limit);
+    let source = TcpSource::new(stream, desk, outlook, idle_limit);
     Ok((source, TcpSink::new(other)))
 }
 
@@ -95,7 +116,7 @@ impl<'a, R> TcpSource<'a, R> {
     fn new(
         stream: TcpStream,
         desk: &'a Desk<'a, R>,
-        control: &'a Control,
+        outlook: Outlook<'a>,
         idle_limit: u64,
     ) -> TcpSource<'a, R> {
         TcpSource {
@@ -104,7 +125,7 @@ impl<'a, R> TcpSource<'a, R> {
             doorway: Doorway::new(desk),
             patience: Patience::Start,
             behind: Patience::Endless,
-            control,
+            outlook,
             idle_limit,
             silent: None,
             stopping: None,
@@ -141,6 +162,7 @@ impl<'a, R> TcpSource<'a, R> {
             let time = match patience {
                 Patience::Short => Some(Duration::from_millis(SHORT)),
                 Patience::Long => Some(Duration::from_millis(LONG)),
+                Patience::Brief => Some(Duration::from_millis(BRIEF)),
                 Patience::Endless | Patience::Start | Patience::Proof => None,
             };
             self.stream.set_read_timeout(time)?;
@@ -178,10 +200,12 @@ impl<'a, R> TcpSource<'a, R> {
     }
 }
 
-/// How long a read waits of a client that is listened for so long.
-fn patience_of(spell: Spell) -> Patience {
+/// How long a read waits of a client that is listened for so long, where a recovery waits for quiet
+/// or not.
+fn patience_of(spell: Spell, is_quiet_asked: bool) -> Patience {
     match spell {
         Spell::Short => Patience::Short,
+        Spell::Long if is_quiet_asked => Patience::Brief,
         Spell::Long => Patience::Long,
     }
 }
@@ -193,12 +217,17 @@ fn is_over<R: Clock>(rt: &R, begun: &mut Option<Instant>, seconds: u64) -> bool 
         return false;
     };
     match begun {
-        Some(begun) => now.saturating_duration_since(*begun) >= Duration::from_secs(seconds),
+        Some(begun) => has_passed(*begun, now, seconds),
         None => {
             *begun = Some(now);
             false
         }
     }
+}
+
+/// Whether so many seconds have passed between two moments.
+fn has_passed(begun: Instant, now: Instant, seconds: u64) -> bool {
+    now.saturating_duration_since(begun) >= Duration::from_secs(seconds)
 }
 
 impl<'a, R: Clock + Eprint + Copy> TcpSource<'a, R> {
@@ -213,7 +242,7 @@ impl<'a, R: Clock + Eprint + Copy> TcpSource<'a, R> {
         ensures faults { self.new.faults ≡ self.old.faults }
         ensures dismissed { self.new.dismissed ≡ self.old.dismissed }
     {
-        if !self.control.is_stopping() {
+        if !self.outlook.is_stopping() {
             return false;
         }
         let is_over = is_over(self.rt, &mut self.stopping, GRACE);
@@ -243,6 +272,36 @@ impl<'a, R: Clock + Eprint + Copy> TcpSource<'a, R> {
         ensures dismissed { self.new.dismissed ≡ self.old.dismissed }
     {
         self.idle_limit > 0 && is_over(self.rt, &mut self.silent, self.idle_limit)
+    }
+
+    /// Whether the client is in a transaction that a recovery has waited for in vain: it was silent
+    /// there for too long, or the recovery has waited for long.
+    fn is_in_the_way(&mut self) -> bool
+    where
+        R: Wait,
+        ensures ended { self.new.ended ≡ self.old.ended }
+        ensures faults { self.new.faults ≡ self.old.faults }
+        ensures dismissed { self.new.dismissed ≡ self.old.dismissed }
+    {
+        let is_silent = is_over(self.rt, &mut self.silent, IDLE_IN_RECOVERY);
+        if is_silent && self.has_waited(IDLE_IN_RECOVERY) {
+            return true;
+        }
+        self.has_waited(RECOVERY_PATIENCE)
+    }
+
+    /// Whether a recovery waits for quiet, or has it, for so many seconds.
+    fn has_waited(&self, seconds: u64) -> bool
+    where
+        R: Wait,
+    {
+        let Some(asked) = self.outlook.quiet_since(self.rt) else {
+            return false;
+        };
+        match Instant::now(self.rt) {
+            Ok(now) => has_passed(asked, now, seconds),
+            Err(_) => false,
+        }
     }
 
     /// Lets a read wait as long as it takes, or as is left of the time for a password.
@@ -317,14 +376,17 @@ impl<'a, R: Clock + Eprint + Copy> Source for TcpSource<'a, R> {
     }
 }
 
-impl<'a, R: Clock + Eprint + Copy> ClientSource for TcpSource<'a, R> {
+impl<'a, R: Wait + Clock + Eprint + Copy> ClientSource for TcpSource<'a, R> {
     ghost dismissed = { λ s. s.dismissed };
 
     fn is_dismissed(&mut self, posture: Posture) -> bool {
         let is = match posture {
             Posture::Resting => self.is_overdue(false) || self.is_idle_for_too_long(),
-            Posture::InBlock => self.is_overdue(true) || self.is_idle_for_too_long(),
-            Posture::Waiting => self.is_overdue(true),
+            Posture::InBlock => {
+                self.is_overdue(true) || self.is_idle_for_too_long() || self.is_in_the_way()
+            }
+            Posture::Waiting => self.is_overdue(true) || self.has_waited(RECOVERY_PATIENCE),
+            Posture::Recovering => self.is_overdue(false),
         };
         self.dismissed = self.dismissed || is;
         is
@@ -339,10 +401,12 @@ impl<'a, R: Clock + Eprint + Copy> ClientSource for TcpSource<'a, R> {
     }
 
     fn read_soon(&mut self, spell: Spell, into: &mut [u8]) -> Option<Got> {
+        self.outlook.rest();
         if !self.doorway.threshold.is_passed() {
             return Some(self.read_at_door(into));
         }
-        if self.wait(patience_of(spell)).is_err() {
+        let is_quiet_asked = self.outlook.is_quiet_asked();
+        if self.wait(patience_of(spell, is_quiet_asked)).is_err() {
             return Some(self.fail());
         }
         match self.stream.read(into) {

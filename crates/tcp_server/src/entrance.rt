@@ -11,8 +11,8 @@ use crate::pace::Paced;
 use crate::room::{AtGate, Room};
 use login::{Entrance, Refusal, enter};
 use pool_base::NoMemory;
-use pool_server::EndCause;
 use serve_base::tell;
+use served_recovery::EndCause;
 use tcp_link::{TcpSink, fresh_nonce};
 
 /// What becomes of a client before its session.

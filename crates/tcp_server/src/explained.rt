@@ -1,13 +1,13 @@
 //! The status file beside the gate: a detachment is written before it is made, and its reason
-//! behind that.
+//! behind that; that a backend is attached is written behind its attachment. So what is cut off in
+//! between leaves the backend down in the file.
 ghost use Rattle.std.specs.Prelude.{◌≡◌, ◌<◌, ℕ, true};
 ghost use Rattle.pool_base.specs.Sets.{has};
-ghost use Rattle.tcp_server.specs.Noting.{is_noted};
+ghost use Rattle.tcp_server.specs.Noting.{arrived_by, is_noted};
 
-use crate::why::Why;
-use pool_base::{BackendId, GateCall, SessionId};
-use pool_server::{EndCause, Notices};
-use serve_base::{Keeper, Noted, Notes, tell};
+use pool_base::{BackendId, GateAnswer, GateCall, SessionId};
+use serve_base::{Arrivals, Keeper, Noted, Notes, tell};
+use served_recovery::{EndCause, Notices, Progress, Why};
 use session_machine::Cause;
 use std::alloc::Global;
 use std::cell::Cell;
@@ -25,6 +25,30 @@ pub fn tell_unwritten<R: Clock + Eprint + Copy>(rt: &R, alloc: Global, b: Backen
             rt,
             alloc,
             format_args!("the status file does not say that backend {b} is down: {fault}"),
+        );
+    }
+}
+
+/// A call was answered at the gate. Where it has attached a backend the status file says that when
+/// this is over, or an operator is told that it does not.
+pub(crate) fn note_attached<R: Wait + Clock + Eprint + Copy>(
+    rt: &R,
+    keeper: &Keeper,
+    arrivals: &mut Arrivals,
+    call: GateCall,
+    answer: GateAnswer,
+)
+    ensures { arrivals.new ≡ arrived_by arrivals.old call answer }
+{
+    let (GateCall::Attach { b }, GateAnswer::Granted(_)) = (call, answer) else {
+        return;
+    };
+    if let Noted::Failed(fault) = arrivals.note_up(rt, keeper, b) {
+        let b = b.number;
+        tell(
+            rt,
+            keeper.alloc(),
+            format_args!("the status file does not say that backend {b} is up: {fault}"),
         );
     }
 }
@@ -72,6 +96,14 @@ impl<'a, R: Wait + Clock + Eprint + Copy, N: Notices> Notices for Explained<'a, 
 
     fn none_left(&mut self) {
         self.lines.none_left();
+    }
+
+    fn attached(&mut self, s: SessionId, b: BackendId) {
+        self.lines.attached(s, b);
+    }
+
+    fn progress(&mut self, s: SessionId, b: BackendId, progress: Progress) {
+        self.lines.progress(s, b, progress);
     }
 
     fn ended(&mut self, s: SessionId, cause: EndCause) {

@@ -11,6 +11,7 @@ mod entrance;
 mod explained;
 mod host;
 mod notices;
+mod outlook;
 mod pace;
 mod pass_at;
 mod porch;
@@ -18,8 +19,6 @@ mod refusal;
 mod room;
 mod start;
 mod turned;
-mod turns;
-mod why;
 
 pub use accept::{ServeEnd, serve};
 pub use control::Control;

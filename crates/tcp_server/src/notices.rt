@@ -1,10 +1,9 @@
 //! What an operator is told, on standard error.
 
-use crate::why::{Why, why_ended};
 use pool_base::{BackendId, SessionId};
 use pool_config::Config;
-use pool_server::{EndCause, Notices};
 use serve_base::{Turned, Visit, tell};
+use served_recovery::{EndCause, Notices, Progress, Report, Why, why_ended};
 use session_machine::Cause;
 use std::alloc::Global;
 use std::cell::Cell;
@@ -19,6 +18,8 @@ pub(crate) struct ErrorLines<'a, R> {
     pub visit: &'a Visit,
     /// The backends where the last try began no session, each by its bit.
     pub unreached: &'a Cell<u8>,
+    /// Where the session's recovery is, if it has one.
+    pub report: Report<'a, R>,
 }
 
 impl<'a, R: Eprint + Clock + Copy> ErrorLines<'a, R> {
@@ -49,6 +50,19 @@ impl<'a, R: Eprint + Clock + Copy> Notices for ErrorLines<'a, R> {
 
     fn none_left(&mut self) {
         tell(self.rt, self.alloc, "no backend is left");
+    }
+
+    fn attached(&mut self, _: SessionId, b: BackendId) {
+        let (visit, b) = (self.visit, b.number);
+        tell(
+            self.rt,
+            self.alloc,
+            format_args!("{visit} attaches backend {b}"),
+        );
+    }
+
+    fn progress(&mut self, _: SessionId, b: BackendId, progress: Progress) {
+        self.report.heed(b, progress);
     }
 
     fn ended(&mut self, _: SessionId, cause: EndCause) {

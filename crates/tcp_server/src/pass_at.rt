@@ -1,15 +1,16 @@
 //! A session's pass at the gate that threads share.
 ghost use Rattle.std.specs.Prelude.{◌≡◌, true};
-ghost use Rattle.shared_gate.specs.History.{IsOut, stand_of, copy_of, Out, Idle};
-ghost use Rattle.pool_server.specs.Passes.{stand_in};
-ghost use Rattle.tcp_server.specs.Noting.{are_noted};
+ghost use Rattle.shared_gate.specs.History.{copy_of, stand_of, state_after, Out, Idle};
+ghost use Rattle.served_recovery.specs.Passes.{copy_in, stand_in};
+ghost use Rattle.tcp_server.specs.Noting.{are_noted, arrivals_in};
+ghost use Rattle.tcp_server.specs.Showing.{IsShown, shown_prop};
 
-use crate::explained::note;
+use crate::explained::{note, note_attached};
+use crate::outlook::Outlook;
 use crate::room::{AtGate, OutPass};
-use crate::turns::Turns;
-use pool_base::{BackendSet, GateAnswer, GateCall};
-use pool_server::{Footing, GatePass};
-use serve_base::{Keeper, Notes};
+use pool_base::{BackendId, BackendSet, GateAnswer, GateCall};
+use serve_base::{Arrivals, Keeper, Notes};
+use served_recovery::{Footing, GatePass, Phase};
 use shared_gate::{Pass, SharedGate};
 use std::marker::PhantomData;
 use std::rt::Clock;
@@ -33,17 +34,20 @@ const DOUBLINGS: u32 = 4;
 pub(crate) struct PassAt<'a, R, G: AtGate> {
     rt: &'a R,
     gate: &'a SharedGate,
-    turns: &'a Turns,
+    outlook: Outlook<'a>,
     keeper: &'a Keeper,
     pass: Pass,
     notes: Notes,
+    arrivals: Arrivals,
     footing: Footing,
     of: PhantomData<G>,
     ghost gate_is: { gate.now ≡ G.gate },
     ghost pass_is: { pass.gate ≡ G.gate },
     ghost stands: { stand_of pass.mine ≡ stand_in footing.phase },
-    ghost idle: { copy_of pass.mine ≡ Idle },
+    ghost copies: { copy_of pass.mine ≡ copy_in footing.quiet },
+    ghost shows: { IsShown footing.shown (state_after pass.first pass.seen) } by { shown_prop _ _ },
     ghost noted: { are_noted notes pass.mine ≡ true },
+    ghost arrived: { arrivals ≡ arrivals_in pass.mine },
 }
 
 impl<'a, R, G: AtGate> PassAt<'a, R, G> {
@@ -51,21 +55,28 @@ impl<'a, R, G: AtGate> PassAt<'a, R, G> {
     pub fn new(
         rt: &'a R,
         gate: &'a SharedGate,
-        turns: &'a Turns,
+        outlook: Outlook<'a>,
         keeper: &'a Keeper,
         pass: OutPass<G>,
     ) -> PassAt<'a, R, G>
         requires { gate.now ≡ G.gate }
-        ensures { stand_of result.pass.mine ≡ Out }
+        ensures stand { stand_of result.pass.mine ≡ Out }
+        ensures copy { copy_of result.pass.mine ≡ Idle }
     {
-        let OutPass { pass, notes, .. } = pass;
+        let OutPass {
+            pass,
+            notes,
+            arrivals,
+            ..
+        } = pass;
         PassAt {
             rt,
             gate,
-            turns,
+            outlook,
             keeper,
             pass,
             notes,
+            arrivals,
             footing: Footing::new(),
             of: PhantomData,
         }
@@ -73,12 +84,19 @@ impl<'a, R, G: AtGate> PassAt<'a, R, G> {
 
     /// The pass, which is out.
     pub fn into_pass(self) -> OutPass<G>
-        requires { stand_of self.pass.mine ≡ Out }
+        requires stand { stand_of self.pass.mine ≡ Out }
+        requires copy { copy_of self.pass.mine ≡ Idle }
     {
-        let PassAt { pass, notes, .. } = self;
+        let PassAt {
+            pass,
+            notes,
+            arrivals,
+            ..
+        } = self;
         OutPass {
             pass,
             notes,
+            arrivals,
             of: PhantomData,
         }
     }
@@ -86,14 +104,21 @@ impl<'a, R, G: AtGate> PassAt<'a, R, G> {
 
 impl<'a, R: Wait + Clock + Eprint + Copy, G: AtGate> PassAt<'a, R, G> {
     /// The backends that are attached now.
-    #[tactic(auto, using(crate::proofs::Looking::looks))]
+    #[tactic(auto, using(crate::proofs::Looking::looked_stand, crate::proofs::Looking::looked_copy))]
     pub fn attached(&mut self) -> BackendSet
-        ensures { stand_of self.new.pass.mine ≡ stand_of self.old.pass.mine }
+        ensures stand { stand_of self.new.pass.mine ≡ stand_of self.old.pass.mine }
+        ensures copy { copy_of self.new.pass.mine ≡ copy_of self.old.pass.mine }
     {
-        match self.step(GateCall::Look) {
-            GateAnswer::Seen(view) | GateAnswer::Granted(view) => view.attached,
-            GateAnswer::Held(_) | GateAnswer::Spent => BackendSet::EMPTY,
-        }
+        let answer = self.step(GateCall::Look);
+        attached_in(answer)
+    }
+}
+
+/// The backends that an answer shows.
+fn attached_in(answer: GateAnswer) -> BackendSet {
+    match answer {
+        GateAnswer::Seen(view) | GateAnswer::Granted(view) => view.attached,
+        GateAnswer::Held(_) | GateAnswer::Spent => BackendSet::EMPTY,
     }
 }
 
@@ -107,10 +132,12 @@ fn wait_behind(tries: u32) -> Option<Duration> {
 }
 
 impl<'a, R: Wait + Clock + Eprint + Copy, G: AtGate> GatePass for PassAt<'a, R, G> {
-    ghost use Rattle.shared_gate.specs.History.{stand_of};
-    ghost use Rattle.pool_server.specs.Sights.{calls_in};
+    ghost use Rattle.served_recovery.specs.Passes.{station_in};
+    ghost use Rattle.pool_server.specs.Entries.{calls_in};
 
-    ghost stand = { λ p. stand_of p.pass.mine };
+    ghost stand = { λ p. station_in p.footing };
+
+    ghost shown = { λ p. p.footing.shown };
 
     ghost cut = { λ p. p.footing.is_cut };
 
@@ -126,10 +153,12 @@ impl<'a, R: Wait + Clock + Eprint + Copy, G: AtGate> GatePass for PassAt<'a, R, 
 
     fn step(&mut self, call: GateCall) -> GateAnswer {
         note(self.rt, self.keeper, &mut self.notes, call);
-        self.turns.wait(self.rt, call);
+        self.outlook.begin(self.rt, call);
         let answer = self.gate.step(self.rt, &mut self.pass, call);
-        self.turns.heed(self.rt, call, answer);
         self.footing = self.footing.after(call, answer);
+        let is_out = self.footing.phase == Phase::Out;
+        self.outlook.end(self.rt, call, answer, is_out);
+        note_attached(self.rt, self.keeper, &mut self.arrivals, call, answer);
         answer
     }
 
@@ -138,5 +167,9 @@ impl<'a, R: Wait + Clock + Eprint + Copy, G: AtGate> GatePass for PassAt<'a, R, 
             None => thread::yield_now(),
             Some(wait) => thread::sleep(self.rt, wait),
         }
+    }
+
+    fn may_swap(&self, b: BackendId) -> bool {
+        !self.outlook.are_others_at(b)
     }
 }

@@ -5,20 +5,20 @@
 //! free, its pass is there --take--> taken, its pass is with a session --give--> free
 //! ```
 ghost use Rattle.std.specs.Prelude.{◌≡◌, ◌≤◌, ◌↔◌, length, IfOk, IfSome, IsTrue, min, true};
+ghost use Rattle.schema.specs.Allowed.{AreAllowed};
 ghost use Rattle.schema.specs.Grammar.{IsWithin};
 ghost use Rattle.pool_server.specs.Seats.{AreFree};
 ghost use Rattle.shared_gate.specs.History.{IsOut};
-ghost use Rattle.tcp_server.specs.Noting.{are_noted};
+ghost use Rattle.tcp_server.specs.Noting.{are_noted, arrivals_in};
 ghost use Rattle.tcp_server.specs.Rooms.{AreMatched};
 
 use crate::control::Control;
 use crate::pace::Answers;
-use crate::turns::Turns;
 use pool_base::{NoMemory, SessionId};
 use pool_config::Config;
 use pool_server::Seats;
 use schema::Catalogue;
-use serve_base::{Keeper, Notes};
+use serve_base::{Arrivals, Keeper, Notes, Turns, Whereabouts};
 use shared_gate::{Pass, SharedGate};
 use std::alloc::Global;
 use std::marker::{Brand, PhantomData};
@@ -42,15 +42,18 @@ impl AtGate for Brand {
     ghost gate = { no_gate };
 }
 
-/// A pass of the gate that is out, with what was noted of the detachments that it has made.
+/// A pass of the gate that is out, with what was noted of the detachments and of the attachments
+/// that it has made.
 #[derive(Drop)]
 pub(crate) struct OutPass<G: AtGate> {
     pub pass: Pass,
     pub notes: Notes,
+    pub arrivals: Arrivals,
     pub of: PhantomData<G>,
     ghost of_gate: { pass.gate ≡ G.gate },
     ghost out: { IsOut pass },
     ghost noted: { are_noted notes pass.mine ≡ true },
+    ghost arrived: { arrivals ≡ arrivals_in pass.mine },
 }
 
 /// The seats, and the pass of each seat that is free.
@@ -118,6 +121,7 @@ fn split_off<G: AtGate>(gate: &SharedGate, pass: &mut Pass) -> OutPass<G>
     OutPass {
         pass: gate.split(pass),
         notes: Notes::new(),
+        arrivals: Arrivals::new(),
         of: PhantomData,
     }
 }
@@ -136,6 +140,7 @@ pub(crate) struct House {
     /// How fast clients try passwords.
     pub answers: Answers,
     ghost within: { IsWithin tables },
+    ghost allowed: { ∥ AreAllowed tables ∥₁ },
 }
 
 /// What the sessions share.
@@ -144,6 +149,7 @@ pub(crate) struct Room<G: AtGate> {
     pub gate: SharedGate,
     pub house: House,
     pub turns: Turns,
+    pub whereabouts: Whereabouts,
     places: Mutex<Places<G>>,
     ghost gate_is: { gate ≡ G.gate },
 }
@@ -161,14 +167,18 @@ impl<G: AtGate> Room<G> {
     {
         let mut pass = pass;
         let count = house.config.children.min(MOST);
-        match Places::<G>::new(alloc, &gate, &mut pass, count) {
-            Ok(places) => Ok(Room {
+        let places = Places::<G>::new(alloc, &gate, &mut pass, count);
+        match (places, Whereabouts::new(alloc, count)) {
+            (Ok(places), Ok(whereabouts)) => Ok(Room {
                 gate,
                 house,
                 turns: Turns::new(),
+                whereabouts,
                 places: Mutex::new(places),
             }),
-            Err(NoMemory) => {
+            (places, whereabouts) => {
+                drop(places);
+                drop(whereabouts);
                 drop(gate);
                 drop(house);
                 Err(NoMemory)

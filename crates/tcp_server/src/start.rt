@@ -8,19 +8,22 @@ use crate::entrance::{Asked, ask};
 use crate::explained::Explained;
 use crate::host::Host;
 use crate::notices::ErrorLines;
+use crate::outlook::Outlook;
 use crate::pass_at::PassAt;
 use crate::room::{AtGate, OutPass, Room};
 use crate::turned::{part, turn_away};
 use pool_base::{BackendSet, SessionId, SystemClock};
-use pool_server::{Around, EndCause, Notices, serve_noted};
+use pool_server::{Around, serve_noted};
 use serve_base::Visit;
+use served_recovery::{EndCause, Notices, Report};
 use session_links::{Verdict, verdict_of};
 use std::alloc::Global;
 use std::cell::Cell;
 use std::net::TcpStream;
 use std::sync::{Arc, Mutex};
 use std::thread;
-use tcp_link::{Held, TcpMaker, TcpSink};
+use tcp_link::TcpSink;
+use tcp_maker::{Held, TcpMaker};
 
 /// A connection that has a seat.
 #[derive(Drop)]
@@ -29,6 +32,16 @@ pub(crate) struct Job<G: AtGate> {
     pub pass: OutPass<G>,
     pub stream: TcpStream,
     pub visit: Visit,
+}
+
+/// What is seen of the room from a seat.
+fn outlook_of<G: AtGate>(room: &Room<G>, s: SessionId) -> Outlook<'_> {
+    Outlook {
+        s,
+        control: &room.house.control,
+        turns: &room.turns,
+        whereabouts: &room.whereabouts,
+    }
 }
 
 /// One session in its thread, from its first byte to its last: its seat and its pass go back.
@@ -42,7 +55,8 @@ fn run<R: Host, G: AtGate>(rt: &R, alloc: Global, room: &Room<G>, job: Job<G>) {
     let config = &room.house.config;
     let desk = Desk::new(rt, alloc, &visit, config.sessions, !config.users.is_empty());
     let idle_limit = u64::from(config.sessions.client_idle_limit);
-    match split(stream, &desk, &room.house.control, idle_limit) {
+    let outlook = outlook_of(room, s);
+    match split(stream, &desk, outlook, idle_limit) {
         Ok((source, sink)) => {
             let pass = receive(&desk, room, s, pass, source, sink);
             room.give(rt, s, pass);
@@ -95,6 +109,7 @@ fn notices_of<'a, R, G: AtGate>(
             config: &room.house.config,
             visit: desk.visit,
             unreached,
+            report: Report::new(desk.rt, desk.alloc, &room.house.tables),
         },
     }
 }
@@ -142,7 +157,8 @@ fn serve_client<'a, R: Host, G: AtGate>(
 {
     let unreached = Cell::new(0);
     let keeper = &room.house.keeper;
-    let mut gate = PassAt::new(desk.rt, &room.gate, &room.turns, keeper, pass);
+    let outlook = outlook_of(room, s);
+    let mut gate = PassAt::new(desk.rt, &room.gate, outlook, keeper, pass);
     let attached = gate.attached();
     let mut maker = maker_of(&*desk, &*room, &unreached);
     let verdict = verdict_on(&source, &mut maker, attached);
@@ -174,6 +190,7 @@ fn verdict_on<R: Host>(
 }
 
 /// Serves a client whose links are made. The pass comes back, and is out.
+#[tactic(auto, using(crate::proofs::Allowed::are_allowed))]
 fn serve_linked<'a, R: Host, G: AtGate>(
     desk: &'a Desk<'a, R>,
     room: &'a Room<G>,

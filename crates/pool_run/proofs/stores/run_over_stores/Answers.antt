@@ -5,4 +5,4 @@ use Rattle.pool_run.proofs.stores.run_over_stores.Goals as goal
 
 pub returns : goal.returns
 returns g c =
-    (_, returns_over _ _ _ _ _ _ _ _ _ _ _ _ (blanks _ _ 8 c.in_ok-put-8.ensures.blank_each (grind arith)) c.pool_run-code.ensures.ends)
+    (_, returns_over _ _ _ _ _ _ _ _ _ _ _ _ (blanks _ _ 16 c.loop.invariant.blank_each (grind arith)) c.pool_run-code.ensures.ends)

@@ -3,9 +3,9 @@ use Rattle.session_engine.specs.Cores.{machine_in}
 use Rattle.session_links.specs.Plans.{told_at}
 use Rattle.session_wire.specs.Shown.{shown}
 use Rattle.pool_server.specs.Policies.{policy_of}
-use Rattle.pool_server.specs.Places.{setting}
-use Rattle.pool_server.specs.Reaches.{alone}
-use Rattle.pool_server.specs.Sights.{seen}
+use Rattle.serve_steps.specs.Places.{setting}
+use Rattle.served_recovery.specs.Reach.{alone}
+use Rattle.serve_steps.specs.Sights.{seen}
 use Rattle.pool_server.proofs.Stepping.{opened}
 use Rattle.pool_server.proofs.serve.run.Goals as goal
 

@@ -4,14 +4,14 @@ use Rattle.std.specs.Prelude.{None}
 use Rattle.session_engine.specs.Cores.{machine_in}
 use Rattle.session_links.specs.Plans.{NoLink}
 use Rattle.session_wire.specs.Shown.{shown}
-use Rattle.pool_server.specs.Causes.{in_parting, is_cut_off, is_put_out, is_read_fault, is_write_fault}
-use Rattle.pool_server.specs.Places.{place, setting}
-use Rattle.pool_server.specs.Reaches.{alone, reach}
-use Rattle.pool_server.specs.Sights.{Went, seen}
-use Rattle.pool_server.specs.Servings.{standing}
-use Rattle.pool_server.proofs.Going.{went_on}
+use Rattle.serve_steps.specs.Causes.{in_parting, is_cut_off, is_put_out, is_read_fault, is_write_fault}
+use Rattle.serve_steps.specs.Places.{place, setting}
+use Rattle.served_recovery.specs.Reach.{alone, reach}
+use Rattle.serve_steps.specs.Sights.{Went, seen}
+use Rattle.serve_steps.specs.Servings.{standing}
+use Rattle.serve_steps.proofs.Going.{went_on}
 use Rattle.pool_server.proofs.Stepping.{begun, finishes_on, no_fault, none_by, parted_links, parts_so}
-use Rattle.pool_server.proofs.Begun.{begins_same, begins_trans}
+use Rattle.serve_steps.proofs.Begun.{begins_same, begins_trans}
 use Rattle.pool_server.proofs.Counts.{rose_over}
 use Rattle.pool_server.proofs.serve.steps.Goals as goal
 

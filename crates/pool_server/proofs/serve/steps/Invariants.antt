@@ -1,14 +1,14 @@
 use Rattle.std.proofs.Common.{◌≡◌, ◌≤◌, true, false}
 use Rattle.std.specs.Prelude.{None}
 use Rattle.pool_base.specs.Outside.{Rose}
-use Rattle.pool_server.specs.Causes.{in_parting, is_cut_off, is_put_out, is_read_fault, is_write_fault}
+use Rattle.serve_steps.specs.Causes.{in_parting, is_cut_off, is_put_out, is_read_fault, is_write_fault}
 use Rattle.session_engine.specs.Cores.{machine_in}
 use Rattle.session_wire.specs.Shown.{shown}
-use Rattle.pool_server.specs.Places.{place, setting}
-use Rattle.pool_server.specs.Reaches.{reach}
-use Rattle.pool_server.specs.Sights.{Went, seen}
-use Rattle.pool_server.specs.Servings.{standing}
-use Rattle.pool_server.specs.Told.{Begins}
+use Rattle.serve_steps.specs.Places.{place, setting}
+use Rattle.served_recovery.specs.Reach.{reach}
+use Rattle.serve_steps.specs.Sights.{Went, seen}
+use Rattle.serve_steps.specs.Servings.{standing}
+use Rattle.serve_steps.specs.Told.{Begins}
 use Rattle.pool_server.proofs.serve.steps.Given as goal
 
 abbrev pub invariant-steps : goal.invariant-steps

@@ -1,5 +1,5 @@
 use Rattle.std.proofs.Common.{refl}
-use Rattle.pool_server.specs.Deeds.{made}
+use Rattle.served_recovery.specs.Calls.{made}
 use Rattle.pool_server.proofs.Stepping.{out_none, out_one}
 use Rattle.pool_server.proofs.way_out.leave_by.Goals as goal
 

@@ -1,20 +1,20 @@
 use Rattle.std.proofs.Common.{◌≡◌, true, refl, sym, ◌∙◌}
 use Rattle.session_engine.specs.Cores.{machine_in}
 use Rattle.session_wire.specs.Shown.{shown}
-use Rattle.pool_server.specs.Causes.{is_cut_off, is_put_out, is_read_fault, is_write_fault}
-use Rattle.pool_server.specs.Servings.{is_leaving, lost_by, standing}
-use Rattle.pool_server.proofs.Stepping.{at_end, closing, end_goes, end_leads, goes_on, lost_cut, lost_goes, lost_here, over, over_at, over_cut, stays_so, stuck, told_so, unmoved}
+use Rattle.serve_steps.specs.Causes.{is_cut_off, is_put_out, is_read_fault, is_write_fault}
+use Rattle.serve_steps.specs.Servings.{is_leaving, lost_by, standing}
+use Rattle.pool_server.proofs.Stepping.{at_end, closing, end_goes, end_leads, goes_on, lost_cut, lost_goes, lost_here, no_course, over, over_at, over_cut, stays_so, stuck, told_so, unmoved}
 use Rattle.pool_server.proofs.session.Session.behind.Goals as goal
 
 pub returns-in-Goes-clause-went : goal.returns-in-Goes-clause-went
 returns-in-Goes-clause-went g c = λ w s.
     unmoved w s (machine_in c.args.self.now.work.core) (machine_in c.args.self.now.work.core) (shown c.args.self.now.talk.wire) (shown c.args.self.now.talk.wire) c.args.self.now.parting c.args.self.now.parting c.args.step
-    (goes_on (lost_by c.args.self.now.parting) c.args.step c.in-Goes.is) (stays_so (is_leaving c.args.self.now.parting) c.args.step c.in-Goes.is) refl refl refl
+    (goes_on (lost_by c.args.self.now.parting) c.args.step c.in-Goes.is) (stays_so (is_leaving c.args.self.now.parting) c.args.step c.in-Goes.is) (no_course c.args.step c.requires.alone) refl refl refl
 
 pub returns-in-Leaves-clause-went : goal.returns-in-Leaves-clause-went
 returns-in-Leaves-clause-went g c = λ w s.
     unmoved w s (machine_in c.args.self.now.work.core) (machine_in c.close.new.self.work.core) (shown c.args.self.now.talk.wire) (shown c.close.new.self.talk.wire) c.args.self.now.parting c.close.new.self.parting c.args.step
-    (closing (lost_by c.args.self.now.parting) c.args.step c.in-Leaves.is) (told_so (is_leaving c.args.self.now.parting) c.args.step c.in-Leaves.is ∙ sym c.close.ensures.leaving) c.close.ensures.machine c.close.ensures.wire c.close.ensures.lost
+    (closing (lost_by c.args.self.now.parting) c.args.step c.in-Leaves.is) (told_so (is_leaving c.args.self.now.parting) c.args.step c.in-Leaves.is ∙ sym c.close.ensures.leaving) (no_course c.args.step c.requires.alone) c.close.ensures.machine c.close.ensures.wire c.close.ensures.lost
 
 pub returns-in-Lost-clause-went : goal.returns-in-Lost-clause-went
 returns-in-Lost-clause-went g c = lost_goes (machine_in c.args.self.now.work.core) (shown c.args.self.now.talk.wire) c.args.self.now.parting c.args.step c.in-Lost.cause (standing (machine_in c.lose.new.self.work.core) (shown c.lose.new.self.talk.wire) c.lose.new.self.parting) c.lose.result c.in-Lost.is c.lose.ensures.went

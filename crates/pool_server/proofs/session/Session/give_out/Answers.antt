@@ -1,7 +1,7 @@
 use Rattle.std.proofs.Common.{refl}
 use Rattle.session_engine.specs.Cores.{machine_in}
 use Rattle.session_wire.specs.Shown.{shown}
-use Rattle.pool_server.specs.Causes.{is_cut_off, is_put_out, is_read_fault, is_write_fault}
+use Rattle.serve_steps.specs.Causes.{is_cut_off, is_put_out, is_read_fault, is_write_fault}
 use Rattle.pool_server.proofs.Stepping.{given_out, memory_in}
 use Rattle.pool_server.proofs.session.Session.give_out.Goals as goal
 

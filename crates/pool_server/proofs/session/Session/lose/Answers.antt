@@ -7,7 +7,7 @@ use Rattle.session_machine.specs.Rules.{after}
 use Rattle.session_machine.specs.declared.action.SessionEvent.TheVariants as events
 use Rattle.session_orders.specs.declared.order.OrderBody.TheVariants as orders
 use Rattle.session_wire.specs.Shown.{shown}
-use Rattle.pool_server.specs.Places.{at_moment}
+use Rattle.serve_steps.specs.Places.{at_moment}
 use Rattle.pool_server.proofs.Stepping.{gone_by, leaves, none_gone}
 use Rattle.pool_server.proofs.session.Session.lose.Goals as goal
 

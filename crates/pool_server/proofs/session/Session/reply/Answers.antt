@@ -1,8 +1,8 @@
 use Rattle.std.proofs.Common.{refl, sym, ◌∙◌}
 use Rattle.session_engine.specs.Cores.{machine_in}
 use Rattle.session_wire.specs.Shown.{shown}
-use Rattle.pool_server.specs.Places.{setting}
-use Rattle.pool_server.specs.Servings.{standing}
+use Rattle.serve_steps.specs.Places.{setting}
+use Rattle.serve_steps.specs.Servings.{standing}
 use Rattle.pool_server.proofs.Stepping.{there, unserved}
 use Rattle.pool_server.proofs.session.Session.reply.Goals as goal
 

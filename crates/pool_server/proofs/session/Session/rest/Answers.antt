@@ -1,10 +1,10 @@
 use Rattle.std.proofs.Common.{refl, sym, ◌∙◌}
 use Rattle.session_engine.specs.Cores.{machine_in}
 use Rattle.session_wire.specs.Shown.{shown}
-use Rattle.pool_server.specs.Places.{setting}
-use Rattle.pool_server.specs.Reaches.{reach}
-use Rattle.pool_server.specs.Sights.{seen}
-use Rattle.pool_server.specs.Servings.{is_leaving, standing}
+use Rattle.serve_steps.specs.Places.{setting}
+use Rattle.served_recovery.specs.Reach.{reach}
+use Rattle.serve_steps.specs.Sights.{seen}
+use Rattle.serve_steps.specs.Servings.{is_leaving, standing}
 use Rattle.pool_server.proofs.Stepping.{ends_there, there, unserved}
 use Rattle.pool_server.proofs.session.Session.rest.Goals as goal
 

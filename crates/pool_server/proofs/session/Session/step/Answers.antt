@@ -1,15 +1,15 @@
 use Rattle.session_engine.specs.Cores.{machine_in}
 use Rattle.session_links.specs.Plans.{told_at}
 use Rattle.session_wire.specs.Shown.{shown}
-use Rattle.pool_server.specs.Places.{setting}
-use Rattle.pool_server.specs.Reaches.{reach}
-use Rattle.pool_server.specs.Sights.{seen}
-use Rattle.pool_server.specs.Servings.{standing}
+use Rattle.serve_steps.specs.Places.{setting}
+use Rattle.served_recovery.specs.Reach.{reach}
+use Rattle.serve_steps.specs.Sights.{seen}
+use Rattle.serve_steps.specs.Servings.{standing}
 use Rattle.pool_server.proofs.Stepping.{ends_kept, step_ends, step_on}
 use Rattle.pool_server.proofs.session.Session.step.Goals as goal
 
 pub behind-requires : goal.behind-requires
-behind-requires g c = record { ends = ends_kept (machine_in c.due-step.new.self.work.core) (shown c.due-step.new.self.talk.wire) c.args.self.now.parting c.due-step.new.self.parting c.due-step.result c.due-step.ensures.parting c.due-step.ensures.ends }
+behind-requires g c = record { ends = ends_kept (machine_in c.due-step.new.self.work.core) (shown c.due-step.new.self.talk.wire) c.args.self.now.parting c.due-step.new.self.parting c.due-step.result c.due-step.ensures.parting c.due-step.ensures.ends; alone = c.due-step.ensures.alone }
 
 pub returns-clause-went : goal.returns-clause-went
 returns-clause-went g c =

@@ -2,10 +2,10 @@ use Rattle.std.proofs.Common.{refl, ap}
 use Rattle.std.specs.Prelude.{is_some}
 use Rattle.session_engine.specs.Cores.{machine_in}
 use Rattle.session_wire.specs.Shown.{shown}
-use Rattle.pool_server.specs.declared.parting.Parting.{Parting}
-use Rattle.pool_server.specs.Reaches.{reach}
-use Rattle.pool_server.specs.Sights.{seen}
-use Rattle.pool_server.specs.Servings.{lost_by, standing}
+use Rattle.serve_steps.specs.declared.parting.Parting.{Parting}
+use Rattle.served_recovery.specs.Reach.{reach}
+use Rattle.serve_steps.specs.Sights.{seen}
+use Rattle.serve_steps.specs.Servings.{lost_by, standing}
 use Rattle.pool_server.proofs.Stepping.{there}
 use Rattle.pool_server.proofs.session.Session.wait.Goals as goal
 

@@ -1,6 +1,0 @@
-use Rattle.std.proofs.Common.{refl}
-use Rattle.session_machine.proofs.SameCode.{same_code}
-use Rattle.pool_server.proofs.breaks.out_of_memory.Goals as goal
-
-pub returns : goal.returns
-returns c = same_code _ _ refl

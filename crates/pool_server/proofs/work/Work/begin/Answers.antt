@@ -1,9 +1,0 @@
-use Rattle.std.proofs.Common.{inl, refl}
-use Rattle.pool_server.proofs.Linking.{dropped_all}
-use Rattle.pool_server.proofs.work.Work.begin.Goals as goal
-
-pub returns-then-is_other-clause-links : goal.returns-then-is_other-clause-links
-returns-then-is_other-clause-links g c = dropped_all g.L.Link.pending g.L.Link.plan _ _ _ c.keep.ensures.kept c.keep.ensures.dropped
-
-pub returns-else-is_other-clause-links : goal.returns-else-is_other-clause-links
-returns-else-is_other-clause-links g c = λ b below. inl refl

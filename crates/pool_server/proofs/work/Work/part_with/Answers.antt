@@ -1,5 +1,0 @@
-use Rattle.std.proofs.Common.{inr}
-use Rattle.pool_server.proofs.work.Work.part_with.Goals as goal
-
-pub returns-clause-loses : goal.returns-clause-loses
-returns-clause-loses g c = inr c.lose.ensures.happens

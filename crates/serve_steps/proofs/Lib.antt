@@ -1,0 +1,6 @@
+pub mod Begun
+pub mod Going
+pub mod Working
+pub mod Talking
+pub mod Staying
+pub mod Telling

@@ -1,0 +1,9 @@
+pub mod Causes
+pub mod Told
+pub mod Breaks
+pub mod Deeds
+pub mod Farewells
+pub mod Places
+pub mod Reaches
+pub mod Sights
+pub mod Servings
